@@ -1,0 +1,107 @@
+-- Laws of `tally`, the count of the elements that pass a test, of `all`, and of a list with one element taken out.
+use mathlib.Core.Path.{_≡_, refl, sym, ap}
+use mathlib.Core.Bool.{Bool, true, false, _&&_, cond, and-true, and-assoc, and-comm}
+use mathlib.Core.List.{List, [], _∷_, _++_, map, reverse, reverse-cons}
+use Prim.Native.Nat.{ℕ, zero, suc, _+_, _≤_, _<_}
+use native.Mathlib.Nat.{zero-add, le-refl, le-of-suc-le-suc, not-suc-le-zero}
+use native.Mathlib.Numerals.{one-add}
+use native.Mathlib.Omega.{arith}
+use lib.ListN.{length, getD, take, replicate}
+use Rattle.base.proofs.Tests.{and-left, and-right, and-both}
+use Rattle.base.specs.Words.{all, tally, without}
+
+module _ {A : Type 0} (p : A → Bool) where
+  pub tally-append : (xs ys : List A) → tally p (xs ++ ys) ≡ tally p xs + tally p ys
+  unfolding tally
+  tally-append [] ys = sym (zero-add (tally p ys))
+  tally-append (x ∷ xs) ys = rw (tally-append xs ys) (omega arith)
+
+  pub tally-reverse : (xs : List A) → tally p (reverse xs) ≡ tally p xs
+  unfolding tally
+  tally-reverse [] = refl
+  tally-reverse (x ∷ xs) = rw (reverse-cons, tally-append, tally-reverse xs) (omega arith)
+
+  pub tally-true : (x : A) (xs : List A) → p x ≡ true → tally p (x ∷ xs) ≡ suc (tally p xs)
+  unfolding tally
+  tally-true x xs h = rw h (one-add (tally p xs))
+
+  pub tally-false : (x : A) (xs : List A) → p x ≡ false → tally p (x ∷ xs) ≡ tally p xs
+  unfolding tally
+  tally-false x xs h = rw h (zero-add (tally p xs))
+
+  -- the count over a list is that of the element at a place and of the others
+  pub tally-without : (xs : List A) (i : ℕ) (d : A) → i < length xs → tally p (getD xs i d ∷ without i xs) ≡ tally p xs
+  unfolding tally without
+  tally-without [] i d h = absurd (not-suc-le-zero h)
+  tally-without (x ∷ xs) zero d h = refl
+  tally-without (x ∷ xs) (suc i) d h = omega (arith, tally-without xs i d (le-of-suc-le-suc h))
+
+  pub all-split : (xs ys : List A) → all p (xs ++ ys) ≡ (all p xs && all p ys)
+  unfolding all
+  all-split [] ys = refl
+  all-split (x ∷ xs) ys = rw (all-split xs ys) (sym (and-assoc (p x) (all p xs) (all p ys)))
+
+  pub all-reverse : (xs : List A) → all p (reverse xs) ≡ all p xs
+  unfolding all
+  all-reverse [] = refl
+  all-reverse (x ∷ xs) = rw (reverse-cons, all-split, all-reverse xs, and-true) (and-comm (all p xs) (p x))
+
+  pub all-middle : (xs : List A) (x : A) (ys : List A) → all p (xs ++ (x ∷ ys)) ≡ true → p x ≡ true
+  unfolding all
+  all-middle [] x ys h = and-left (p x) (all p ys) h
+  all-middle (y ∷ xs) x ys h = all-middle xs x ys (and-right (p y) (all p (xs ++ (x ∷ ys))) h)
+
+  pub all-append : (xs ys : List A) → all p xs ≡ true → all p ys ≡ true → all p (xs ++ ys) ≡ true
+  unfolding all
+  all-append [] ys h k = k
+  all-append (x ∷ xs) ys h k =
+      and-both (p x) (all p (xs ++ ys)) (and-left (p x) (all p xs) h) (all-append xs ys (and-right (p x) (all p xs) h) k)
+
+  pub all-take : (n : ℕ) (xs : List A) → all p xs ≡ true → all p (take n xs) ≡ true
+  unfolding all
+  all-take zero xs h = refl
+  all-take (suc n) [] h = refl
+  all-take (suc n) (x ∷ xs) h =
+      and-both (p x) (all p (take n xs)) (and-left (p x) (all p xs) h) (all-take n xs (and-right (p x) (all p xs) h))
+
+  pub all-replicate : (n : ℕ) (x : A) → p x ≡ true → all p (replicate n x) ≡ true
+  unfolding all
+  all-replicate zero x h = refl
+  all-replicate (suc n) x h = and-both (p x) (all p (replicate n x)) h (all-replicate n x h)
+
+module _ {A B : Type 0} (p : B → Bool) (f : A → B) where
+  pub tally-map : (xs : List A) → tally p (map f xs) ≡ tally (λ x. p (f x)) xs
+  unfolding tally
+  tally-map [] = refl
+  tally-map (x ∷ xs) = ap (λ (k : ℕ). cond (p (f x)) 1 0 + k) (tally-map xs)
+
+  pub all-map : (xs : List A) → all p (map f xs) ≡ all (λ x. p (f x)) xs
+  unfolding all
+  all-map [] = refl
+  all-map (x ∷ xs) = ap (λ (t : Bool). p (f x) && t) (all-map xs)
+
+pub tally-le : {A : Type 0} (p : A → Bool) (xs : List A) → tally p xs ≤ length xs
+unfolding tally
+tally-le p [] = le-refl 0
+tally-le p (x ∷ xs) = go (p x) (tally-le p xs)
+  where
+    go : (t : Bool) → tally p xs ≤ length xs → cond t 1 0 + tally p xs ≤ suc (length xs)
+    go true h = omega arith
+    go false h = omega arith
+
+-- what implies a test counts no more
+pub tally-mono : {A : Type 0} (p q : A → Bool) → ((x : A) → p x ≡ true → q x ≡ true) → (xs : List A) → tally p xs ≤ tally q xs
+unfolding tally
+tally-mono p q h [] = le-refl 0
+tally-mono p q h (x ∷ xs) = go (p x) (q x) (h x) (tally-mono p q h xs)
+  where
+    go : (s t : Bool) → (s ≡ true → t ≡ true) → tally p xs ≤ tally q xs → cond s 1 0 + tally p xs ≤ cond t 1 0 + tally q xs
+    go true t f k = rw (f refl) (omega arith)
+    go false true f k = omega arith
+    go false false f k = omega arith
+
+pub length-without : {A : Type 0} (xs : List A) (i : ℕ) → i < length xs → suc (length (without i xs)) ≡ length xs
+unfolding without
+length-without [] i h = absurd (not-suc-le-zero h)
+length-without (x ∷ xs) zero h = refl
+length-without (x ∷ xs) (suc i) h = ap suc (length-without xs i (le-of-suc-le-suc h))

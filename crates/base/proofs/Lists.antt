@@ -1,0 +1,72 @@
+-- Laws on lists: reversal, mapping, cutting, and the list of numbers from a on.
+use mathlib.Core.Path.{_≡_, refl, sym, ap, _∙_}
+use mathlib.Core.List.{List, [], _∷_, _++_, map, reverse, reverseAux, append-nil, append-assoc, reverse-cons, reverse-append}
+use Prim.Native.Nat.{ℕ, zero, suc, pred, _+_, _-_, _<_, _≤_}
+use native.Mathlib.Nat.{add-suc, add-zero, zero-add, le-of-suc-le-suc, not-suc-le-zero}
+use native.Mathlib.Numerals.{add-one}
+use native.Mathlib.Omega.{arith}
+use lib.ListN.{length, getD, take, drop, length-append, length-reverse, List·getD-append}
+use mathlib.Core.Logic.{_⊎_, inl, inr}
+use lib.Seq.{getD-at}
+use Rattle.base.proofs.Tests.{lt-or-ge}
+use Rattle.base.specs.Words.{from}
+
+module _ {A B : Type 0} (f : A → B) where
+  pub map-append : (xs ys : List A) → map f (xs ++ ys) ≡ map f xs ++ map f ys
+  map-append [] ys = refl
+  map-append (x ∷ xs) ys = ap (λ (l : List B). f x ∷ l) (map-append xs ys)
+
+  pub map-reverse : (xs : List A) → map f (reverse xs) ≡ reverse (map f xs)
+  map-reverse [] = refl
+  map-reverse (x ∷ xs) =
+      rw (reverse-cons, reverse-cons) (map-append (reverse xs) (x ∷ []) ∙ ap (λ (l : List B). l ++ (f x ∷ [])) (map-reverse xs))
+
+  pub map-take : (k : ℕ) (xs : List A) → map f (take k xs) ≡ take k (map f xs)
+  map-take zero [] = refl
+  map-take zero (x ∷ xs) = refl
+  map-take (suc k) [] = refl
+  map-take (suc k) (x ∷ xs) = ap (λ (l : List B). f x ∷ l) (map-take k xs)
+
+  pub map-drop : (k : ℕ) (xs : List A) → map f (drop k xs) ≡ drop k (map f xs)
+  map-drop zero [] = refl
+  map-drop zero (x ∷ xs) = refl
+  map-drop (suc k) [] = refl
+  map-drop (suc k) (x ∷ xs) = map-drop k xs
+
+pub map-id : {A : Type 0} (f : A → A) (xs : List A) → ((x : A) → f x ≡ x) → map f xs ≡ xs
+map-id f [] h = refl
+map-id f (x ∷ xs) h = λ i. h x i ∷ map-id f xs h i
+
+pub map-map : {A B C : Type 0} (g : B → C) (f : A → B) (xs : List A) → map g (map f xs) ≡ map (λ x. g (f x)) xs
+map-map g f [] = refl
+map-map g f (x ∷ xs) = ap (λ l. g (f x) ∷ l) (map-map g f xs)
+
+module _ {A : Type 0} where
+  pub getD-last : (xs : List A) (x d : A) (i : ℕ) → i ≡ length xs → getD (xs ++ (x ∷ [])) i d ≡ x
+  getD-last xs x d i e = getD-at xs x [] d i (sym e)
+
+  -- the element at a place of a reversed list
+  pub getD-reverse : (xs : List A) (i : ℕ) (d : A) → i < length xs → getD (reverse xs) i d ≡ getD xs (length xs - suc i) d
+  getD-reverse [] i d h = absurd (not-suc-le-zero h)
+  getD-reverse (x ∷ xs) i d h = rw (reverse-cons x xs) (go (λ k. getD-reverse xs i d k) (lt-or-ge i (length xs)))
+    where
+      go : (i < length xs → getD (reverse xs) i d ≡ getD xs (length xs - suc i) d) → (i < length xs) ⊎ (length xs ≤ i)
+          → getD (reverse xs ++ (x ∷ [])) i d ≡ getD (x ∷ xs) (suc (length xs) - suc i) d
+      go rest (inl k) =
+          List·getD-append (reverse xs) (x ∷ []) d i (rw length-reverse k)
+          ∙ rest k
+          ∙ ap (λ (j : ℕ). getD (x ∷ xs) j d) (let e : suc (length xs - suc i) ≡ suc (length xs) - suc i = omega arith in e)
+      go rest (inr k) =
+          getD-last (reverse xs) x d i (rw length-reverse (omega arith))
+          ∙ ap (λ (j : ℕ). getD (x ∷ xs) j d) (let e : 0 ≡ suc (length xs) - suc i = omega arith in e)
+
+pub from-length : (a n : ℕ) → length (from a n) ≡ n
+unfolding from
+from-length a zero = refl
+from-length a (suc n) = ap suc (from-length (suc a) n)
+
+pub getD-from : (a n i d : ℕ) → i < n → getD (from a n) i d ≡ a + i
+unfolding from
+getD-from a zero i d h = absurd (not-suc-le-zero h)
+getD-from a (suc n) zero d h = sym (add-zero a)
+getD-from a (suc n) (suc i) d h = getD-from (suc a) n i d (le-of-suc-le-suc h) ∙ omega arith

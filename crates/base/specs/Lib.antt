@@ -1,0 +1,2 @@
+-- The small words that every definition of the project is written with.
+pub mod Words

@@ -1,0 +1,35 @@
+-- The small words that every definition of the project is written with.
+--   unless ok r rest   the refusal r where ok fails, else what rest says: a row of these is an ordered list of refusals
+--   all p xs           p holds of each element
+--   tally p xs         how many elements p holds of
+--   fact n             n!
+--   from a n           the n numbers a, a + 1, ..
+--   without i xs       xs with the element at place i taken out
+use mathlib.Core.Bool.{Bool, true, false, _&&_, cond}
+use mathlib.Core.List.{List, [], _∷_, _++_}
+use Prim.Native.Nat.{ℕ, zero, suc, _+_, _*_}
+use lib.ListN.{take, drop}
+
+abbrev pub unless : Bool → ℕ → ℕ → ℕ
+unless true r rest = rest
+unless false r rest = r
+
+module _ {A : Type 0} where
+  unfoldable pub all : (A → Bool) → List A → Bool
+  all p [] = true
+  all p (x ∷ xs) = p x && all p xs
+
+  unfoldable pub tally : (A → Bool) → List A → ℕ
+  tally p [] = 0
+  tally p (x ∷ xs) = cond (p x) 1 0 + tally p xs
+
+  unfoldable pub without : ℕ → List A → List A
+  without i xs = take i xs ++ drop (suc i) xs
+
+unfoldable pub fact : ℕ → ℕ
+fact zero = 1
+fact (suc n) = suc n * fact n
+
+unfoldable pub from : ℕ → ℕ → List ℕ
+from a zero = []
+from a (suc n) = a ∷ from (suc a) n

@@ -1,0 +1,9 @@
+-- What the code of stacks is proved with.
+pub mod KindTests
+pub mod Signed
+pub mod Sets
+pub mod Places
+pub mod Ranking
+pub mod Unranking
+pub mod Group
+pub mod Refusals

@@ -1,0 +1,20 @@
+-- `perm::kind::is_turn` meets its contract.
+use borrow.Author.Needs.{needs}
+use borrow.Author.Tests.{lt-leb, le-leb}
+use Rattle.stacks.specs.Turn.{isTurn, lastTurn}
+use Rattle.perm.proofs.kind.is_turn.Statement.{statement}
+use Rattle.perm.proofs.kind.is_turn.Tie as tie
+
+first-turn-requires : tie.Need-first-turn-requires
+first-turn-requires c κs = search needs
+
+returns : tie.Need-returns
+unfolding isTurn lastTurn
+returns c = rw (← c .before .first-turn .ensures, lt-leb (c .before .first-turn .result) (c .before .before .args .k) (c .if1 .taken))
+
+returns-2 : tie.Need-returns-2
+unfolding isTurn lastTurn
+returns-2 c = rw (← c .before .first-turn .ensures, le-leb (c .before .first-turn .result) (c .before .before .args .k) (c .if1 .left))
+
+pub is-turn-spec : {M : Type 1} → statement M
+is-turn-spec = tie.close (tie.spec first-turn-requires returns returns-2)

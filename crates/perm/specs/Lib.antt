@@ -1,0 +1,2 @@
+-- What the leaves on sets of panes promise.
+pub mod Set

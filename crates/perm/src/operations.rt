@@ -1,0 +1,108 @@
+// The open operations on stacks. Each takes any values, and does its work or gives the first refusal in document 01's order.
+ghost use mathlib.Core.Path.{_≡_};
+ghost use Rattle.stacks.specs.Operations.{sizeRefusal, indexRefusal, stackRefusal, turnRefusal, indexOf, stackOf, turnedOf};
+use crate::kind;
+use crate::numbering;
+use crate::turning;
+use crate::valid;
+use stacks::Indexed;
+use stacks::Stacked;
+
+// The number of the first refusal, 0 for none. The kind and n come first in every operation.
+pub fn size_refusal(kind: u8, n: u8) -> u8
+    ensures { λ r. ⌜ r ≡ sizeRefusal kind n 0 ⌝ }
+{
+    if !kind::is_kind(kind) {
+        return 1;
+    }
+    if !kind::is_size(kind, n) {
+        return 2;
+    }
+    0
+}
+
+pub fn index_refusal(kind: u8, n: u8, stack: [i8; 12]) -> u8
+    ensures { λ r. ⌜ r ≡ indexRefusal kind n stack ⌝ }
+{
+    let refusal = size_refusal(kind, n);
+    if refusal != 0 {
+        return refusal;
+    }
+    if !valid::is_stack(kind, n, stack) {
+        return 3;
+    }
+    0
+}
+
+pub fn stack_refusal(kind: u8, n: u8, index: u32) -> u8
+    ensures { λ r. ⌜ r ≡ stackRefusal kind n index ⌝ }
+{
+    let refusal = size_refusal(kind, n);
+    if refusal != 0 {
+        return refusal;
+    }
+    if kind::stack_count(kind, n) <= index {
+        return 4;
+    }
+    0
+}
+
+pub fn turn_refusal(kind: u8, n: u8, stack: [i8; 12], k: u8) -> u8
+    ensures { λ r. ⌜ r ≡ turnRefusal kind n stack k ⌝ }
+{
+    let refusal = index_refusal(kind, n, stack);
+    if refusal != 0 {
+        return refusal;
+    }
+    if !kind::is_turn(kind, n, k) {
+        return 4;
+    }
+    0
+}
+
+// Index of a stack.
+pub fn index_of_stack(kind: u8, n: u8, stack: [i8; 12]) -> Indexed
+    ensures { λ r. ⌜ r ≡ indexOf kind n stack ⌝ }
+{
+    let refusal = index_refusal(kind, n, stack);
+    if refusal != 0 {
+        return Indexed { refusal, index: 0 };
+    }
+    let index = numbering::rank(kind, n, stack);
+    Indexed { refusal: 0, index }
+}
+
+// Stack at an index.
+pub fn stack_at_index(kind: u8, n: u8, index: u32) -> Stacked
+    ensures { λ r. ⌜ r ≡ stackOf kind n index ⌝ }
+{
+    let refusal = stack_refusal(kind, n, index);
+    if refusal != 0 {
+        let none = [0i8; 12];
+        return Stacked {
+            refusal,
+            stack: none,
+        };
+    }
+    let stack = numbering::unrank(kind, n, index);
+    Stacked { refusal: 0, stack }
+}
+
+// Turn.
+pub fn turn(kind: u8, n: u8, stack: [i8; 12], k: u8) -> Stacked
+    ensures { λ r. ⌜ r ≡ turnedOf kind n stack k ⌝ }
+{
+    let refusal = turn_refusal(kind, n, stack, k);
+    if refusal != 0 {
+        let none = [0i8; 12];
+        return Stacked {
+            refusal,
+            stack: none,
+        };
+    }
+    let next = turning::turned(kind, n, stack, k);
+    Stacked {
+        refusal: 0,
+        stack: next,
+    }
+}

@@ -1,0 +1,42 @@
+// A set of panes as bits: pane x is the bit of weight 2^(x - 1).
+ghost use mathlib.Core.Bool.{_&&_};
+ghost use mathlib.Core.Path.{_≡_};
+ghost use Prim.Native.Nat.{_-_, _%_, _^_, _≤_, _<_};
+ghost use lib.Count.{ones};
+ghost use lib.Dec.{leb, eqb};
+ghost use Rattle.perm.specs.Set.{bit, NthOne};
+
+// How many panes of a set have a number of at most x. The one place that counts ones.
+pub fn ones_below(set: u32, x: u32) -> u32
+    requires { ⌜ (set < 4096) × (x ≤ 12) ⌝ }
+    ensures { λ r. ⌜ r ≡ ones (set % 2 ^ x) ⌝ }
+{
+    u32::count_ones(set & ((1 << x) - 1))
+}
+
+// Whether a pane is 1 to n and not yet in the set.
+pub fn is_new(n: u8, met: u32, pane: u32) -> bool
+    requires { ⌜ n ≤ 12 ⌝ }
+    ensures { λ r. ⌜ r ≡ (leb 1 pane && leb pane n && eqb (bit met (pane - 1)) 0) ⌝ }
+{
+    if pane < 1 {
+        return false;
+    }
+    let most = n as u32;
+    if most < pane {
+        return false;
+    }
+    (met >> (pane - 1)) % 2 == 0
+}
+
+// The place of the set's one that has d ones below it. It is no lower than d, and the ones up to a place only rise with the place.
+pub fn nth_one(set: u32, d: u32) -> u32
+    requires { ⌜ (set < 4096) × (d < ones set) ⌝ }
+    ensures { λ r. ⌜ NthOne set d r ⌝ }
+{
+    let mut v = d;
+    while ones_below(set, v + 1) <= d {
+        v += 1;
+    }
+    v
+}

@@ -1,0 +1,9 @@
+-- Laws of stacks, turns and the numbering.
+pub mod Sizes
+pub mod Panes
+pub mod OrderLaws
+pub mod CoatLaws
+pub mod Numbering
+pub mod TurnLaws
+pub mod Roads
+pub mod TurnBound

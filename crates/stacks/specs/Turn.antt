@@ -1,0 +1,53 @@
+-- Turns: which there are, and what each does (document 01, "Stacks and turns"). A turn is a prefix reversal.
+use mathlib.Core.Path.{_≡_}
+use mathlib.Core.Bool.{Bool, true, _&&_, cond}
+use mathlib.Core.List.{List, [], _∷_, _++_, map, reverse}
+use Prim.Native.Nat.{ℕ, suc, _-_, _*_, _≤_}
+use lib.Dec.{leb}
+use lib.IntN.{ℤ, negℤ}
+use lib.ListN.{length, take, drop}
+use Rattle.base.specs.Words.{all, from}
+use Rattle.stacks.specs.Stack.{isCoated}
+
+-- the first and the last turn of a kind and n: plain from 2 to n, coated from 1 to n
+unfoldable pub firstTurn : ℕ → ℕ
+firstTurn kind = cond (isCoated kind) 1 2
+
+unfoldable pub lastTurn : ℕ → ℕ → ℕ
+lastTurn kind n = n
+
+unfoldable pub isTurn : ℕ → ℕ → ℕ → Bool
+isTurn kind n k = leb (firstTurn kind) k && leb k (lastTurn kind n)
+
+-- all turns, rising
+unfoldable pub turnsOf : ℕ → ℕ → List ℕ
+turnsOf kind n = from (firstTurn kind) (suc (lastTurn kind n) - firstTurn kind)
+
+-- what a turn does to a pane of its group: a coated one changes sign
+unfoldable pub flip : ℕ → ℤ → ℤ
+flip kind x = cond (isCoated kind) (negℤ x) x
+
+-- turn k: the top k places in reverse order, each flipped
+unfoldable pub turnOf : ℕ → ℕ → List ℤ → List ℤ
+turnOf kind k s = map (flip kind) (reverse (take k s)) ++ drop k s
+
+-- the turns of a list one after the other
+unfoldable pub turnsFrom : ℕ → List ℕ → List ℤ → List ℤ
+turnsFrom kind [] s = s
+turnsFrom kind (k ∷ ks) s = turnsFrom kind ks (turnOf kind k s)
+
+-- a road: turns of that kind and n that take stack s to stack w
+pub record Road (kind n : ℕ) (ks : List ℕ) (s w : List ℤ) : Type 0 where
+  pub turns : all (isTurn kind n) ks ≡ true
+  pub arrives : turnsFrom kind ks s ≡ w
+
+-- the fewest turns from s to w are d: a road of that length is there, and every road has at least as many
+pub record Fewest (kind n : ℕ) (s w : List ℤ) (d : ℕ) : Type 0 where
+  pub road : List ℕ
+  pub leads : Road kind n road s w
+  pub long : length road ≡ d
+  pub least : (ks : List ℕ) → Road kind n ks s w → d ≤ length ks
+
+-- as many turns as any stack needs at most: 2 (n - 1) if plain, 3 n if coated
+unfoldable pub turnBound : ℕ → ℕ → ℕ
+turnBound kind n = cond (isCoated kind) (3 * n) (2 * (n - 1))
