@@ -1,0 +1,104 @@
+-- Counting the numbers below N that pass a test: laws of `tally p (from 0 N)`.
+use mathlib.Core.Path.{_≡_, refl, sym, ap, _∙_}
+use mathlib.Core.Logic.{_⊎_, inl, inr}
+use mathlib.Core.Bool.{Bool, true, false, cond}
+use mathlib.Core.List.{List, _∷_, _++_}
+use Prim.Native.Nat.{ℕ, zero, suc, _+_, _<_, _≤_}
+use native.Mathlib.Nat.{zero-add, add-zero, add-suc, suc-add}
+use native.Mathlib.Numerals.{add-one}
+use native.Mathlib.Omega.{arith}
+use Rattle.base.specs.Words.{tally, from}
+use Rattle.base.proofs.Tests.{test-cases, not-is-false, eq-or-ne}
+use Rattle.base.proofs.Counting.{tally-append}
+
+pub from-split : (a m n : ℕ) → from a (m + n) ≡ from a m ++ from (a + m) n
+unfolding from
+from-split a zero n = rw (zero-add, add-zero)
+from-split a (suc m) n = rw (suc-add, add-suc, ← suc-add) (ap (λ (l : List ℕ). a ∷ l) (from-split (suc a) m n))
+
+pub tally-split : (p : ℕ → Bool) (a m n : ℕ) → tally p (from a (m + n)) ≡ tally p (from a m) + tally p (from (a + m) n)
+tally-split p a m n = ap (tally p) (from-split a m n) ∙ tally-append p (from a m) (from (a + m) n)
+
+-- a stretch that starts at c counts as one that starts at 0
+pub tally-shift : (p : ℕ → Bool) (c a n : ℕ) → tally p (from (c + a) n) ≡ tally (λ i. p (c + i)) (from a n)
+unfolding tally from
+tally-shift p c a zero = refl
+tally-shift p c a (suc n) = ap (λ (x : ℕ). cond (p (c + a)) 1 0 + x) (rw (← add-suc) (tally-shift p c (suc a) n))
+
+tally-one : (p : ℕ → Bool) (a : ℕ) → tally p (from a 1) ≡ cond (p a) 1 0
+unfolding tally from
+tally-one p a = add-zero (cond (p a) 1 0)
+
+-- the numbers below N, each lemma by its last one
+tally-last : (p : ℕ → Bool) (n : ℕ) → tally p (from 0 (suc n)) ≡ tally p (from 0 n) + cond (p n) 1 0
+tally-last p n =
+    ap (λ (m : ℕ). tally p (from 0 m)) (sym (add-one n))
+    ∙ tally-split p 0 n 1
+    ∙ ap (λ (m : ℕ). tally p (from 0 n) + m) (tally-one p (0 + n) ∙ ap (λ (v : ℕ). cond (p v) 1 0) (zero-add n))
+
+-- a test as 0 or 1
+cond-le : (t : Bool) → cond {A = ℕ} t 1 0 ≤ 1
+cond-le true = omega arith
+cond-le false = omega arith
+
+cond-is : {s t : Bool} → s ≡ t → cond {A = ℕ} s 1 0 ≡ cond t 1 0
+cond-is e = ap (λ (t : Bool). cond t 1 0) e
+
+pub tally-le : (p : ℕ → Bool) (n : ℕ) → tally p (from 0 n) ≤ n
+unfolding tally from
+tally-le p zero = omega arith
+tally-le p (suc n) = omega (arith, tally-last p n, tally-le p n, cond-le (p n))
+
+pub tally-same : (p q : ℕ → Bool) (n : ℕ) → ((v : ℕ) → v < n → p v ≡ q v) → tally p (from 0 n) ≡ tally q (from 0 n)
+unfolding tally from
+tally-same p q zero h = refl
+tally-same p q (suc n) h =
+    omega (arith, tally-last p n, tally-last q n, cond-is (h n (omega arith)), tally-same p q n (λ v k. h v (omega arith)))
+
+pub tally-none : (p : ℕ → Bool) (n : ℕ) → ((v : ℕ) → v < n → p v ≡ false) → tally p (from 0 n) ≡ 0
+unfolding tally from
+tally-none p zero h = refl
+tally-none p (suc n) h = omega (arith, tally-last p n, cond-is (h n (omega arith)), tally-none p n (λ v k. h v (omega arith)))
+
+pub tally-pos : (p : ℕ → Bool) (n v : ℕ) → v < n → p v ≡ true → 0 < tally p (from 0 n)
+tally-pos p zero v h e = absurd (omega arith)
+tally-pos p (suc n) v h e = go (λ k. tally-pos p n v k e) (eq-or-ne v n)
+  where
+    go : (v < n → 0 < tally p (from 0 n)) → (v ≡ n) ⊎ (v ≡ n → ⊥) → 0 < tally p (from 0 (suc n))
+    go rest (inl i) = omega (arith, tally-last p n, cond-is (sym (ap p i) ∙ e))
+    go rest (inr i) = omega (arith, tally-last p n, rest (omega arith))
+
+pub tally-zero : (p : ℕ → Bool) (n : ℕ) → tally p (from 0 n) ≡ 0 → (v : ℕ) → v < n → p v ≡ false
+tally-zero p n e v h = not-is-false (p v) (λ i. omega (arith, tally-pos p n v h i))
+
+pub tally-some : (p : ℕ → Bool) (n : ℕ) → 0 < tally p (from 0 n) → (v : ℕ) × (v < n) × (p v ≡ true)
+unfolding tally from
+tally-some p zero h = absurd (omega arith)
+tally-some p (suc n) h = go (λ k. tally-some p n k) (test-cases (p n))
+  where
+    go : (0 < tally p (from 0 n) → (v : ℕ) × (v < n) × (p v ≡ true)) → (p n ≡ true) ⊎ (p n ≡ false) → (v : ℕ) × (v < suc n) × (p v ≡ true)
+    go rest (inl e) = (n, omega arith, e)
+    go rest (inr e) = let r = rest (omega (arith, tally-last p n, cond-is e)) in (r .0, omega arith, r .2)
+
+-- two tests that agree but at v
+pub tally-change : (p q : ℕ → Bool) (n v : ℕ) → v < n → ((u : ℕ) → u < n → (u ≡ v → ⊥) → q u ≡ p u)
+    → tally q (from 0 n) + cond (p v) 1 0 ≡ tally p (from 0 n) + cond (q v) 1 0
+tally-change p q zero v h same = absurd (omega arith)
+tally-change p q (suc n) v h same = go (λ k. tally-change p q n v k (λ u l. same u (omega arith))) (eq-or-ne v n)
+  where
+    go : (v < n → tally q (from 0 n) + cond (p v) 1 0 ≡ tally p (from 0 n) + cond (q v) 1 0) → (v ≡ n) ⊎ (v ≡ n → ⊥)
+        → tally q (from 0 (suc n)) + cond (p v) 1 0 ≡ tally p (from 0 (suc n)) + cond (q v) 1 0
+    go rest (inl i) =
+        omega (
+          arith,
+          tally-last p n,
+          tally-last q n,
+          cond-is (ap p i),
+          cond-is (ap q i),
+          tally-same q p n (λ u k. same u (omega arith) (λ j. omega arith)),
+        )
+    go rest (inr i) = omega (arith, tally-last p n, tally-last q n, rest (omega arith), cond-is (same n (omega arith) (λ j. i (sym j))))
+
+pub tally-one-more : (p q : ℕ → Bool) (n v : ℕ) → v < n → p v ≡ false → q v ≡ true → ((u : ℕ) → u < n → (u ≡ v → ⊥) → q u ≡ p u)
+    → tally q (from 0 n) ≡ suc (tally p (from 0 n))
+tally-one-more p q n v h e i same = omega (arith, tally-change p q n v h same, cond-is e, cond-is i)

@@ -1,0 +1,251 @@
+-- What each accepted call was given, as named facts, and what it leaves; a refused one leaves what it was lent.
+use mathlib.Core.Path.{_≡_, refl, sym, ap, _∙_}
+use mathlib.Core.Logic.{_⊎_, inl, inr}
+use mathlib.Core.Bool.{Bool, true, false, not}
+use mathlib.Core.List.{List}
+use Prim.Native.Nat.{ℕ, _<_}
+use lib.Dec.{ltb, eqb}
+use lib.ListN.{length, set}
+use borrow.Author.Tests.{ltb-true, lt-ltb, eqb-true, eq-eqb, ne-eqb, not-true}
+use Rattle.base.specs.Words.{unless, all}
+use Rattle.base.proofs.Tests.{eq-or-ne}
+use Rattle.search.specs.Blank.{blankRefusal, blanked, blankOf}
+use Rattle.search.specs.Close.{isReady, isPastLast, closeRefusal, closed, closeOf}
+use Rattle.search.specs.Entries.{bytesFor}
+use Rattle.search.specs.Expand.{levelRefusal, expandRefusal, expansion, expandedJob, expandOf}
+use Rattle.search.specs.JobState.{isCoherent, isBlanking, isLevel, isFinished, levelOf, segmentsOf, stacksOf, logLength, passedOf, countOf, progressed}
+use Rattle.search.specs.Look.{lookRefusal}
+use Rattle.search.specs.Settle.{pending, settleRefusal, markAll, settleOf}
+use Rattle.search.specs.declared.Job.{Job}
+use Rattle.search.proofs.Coherence.{unless-zero}
+
+pub record BlankFacts (job : Job) (j bytes : ℕ) : Type 0 where
+  pub coherent : isCoherent job ≡ true
+  pub blanking : isBlanking (job .phase) ≡ true
+  pub inside : j < segmentsOf job
+  pub long : bytes ≡ bytesFor (stacksOf job j)
+  pub left : passedOf job j < stacksOf job j
+
+module _ (job : Job) (j bytes : ℕ) where
+  pub blank-facts : blankRefusal job j bytes ≡ 0 → BlankFacts job j bytes
+  unfolding blankRefusal
+  blank-facts h =
+      let left : ℕ = unless (ltb (passedOf job j) (stacksOf job j)) 11 0 in
+      let long : ℕ = unless (eqb bytes (bytesFor (stacksOf job j))) 10 left in
+      let inside : ℕ = unless (ltb j (segmentsOf job)) 9 long in
+      let a = unless-zero (isCoherent job) 6 (unless (isBlanking (job .phase)) 8 inside) h in
+      let b = unless-zero (isBlanking (job .phase)) 7 inside (a .1) in
+      let c = unless-zero (ltb j (segmentsOf job)) 8 long (b .1) in
+      let d = unless-zero (eqb bytes (bytesFor (stacksOf job j))) 9 left (c .1) in
+      let e = unless-zero (ltb (passedOf job j) (stacksOf job j)) 10 0 (d .1) in
+      record {
+        coherent = a .0;
+        blanking = b .0;
+        inside = ltb-true j (segmentsOf job) (c .0);
+        long = eqb-true bytes (bytesFor (stacksOf job j)) (d .0);
+        left = ltb-true (passedOf job j) (stacksOf job j) (e .0);
+      }
+
+  pub facts-blank : BlankFacts job j bytes → blankRefusal job j bytes ≡ 0
+  unfolding blankRefusal
+  facts-blank f =
+      rw (
+        f .coherent,
+        f .blanking,
+        lt-ltb j (segmentsOf job) (f .inside),
+        eq-eqb bytes (bytesFor (stacksOf job j)) (f .long),
+        lt-ltb (passedOf job j) (stacksOf job j) (f .left),
+      )
+
+-- what Expand and Settle try first
+pub record LevelFacts (job : Job) (j bytes logs : ℕ) : Type 0 where
+  pub coherent : isCoherent job ≡ true
+  pub level : isLevel (job .phase) ≡ true
+  pub inside : j < segmentsOf job
+  pub long : bytes ≡ bytesFor (stacksOf job j)
+  pub wide : logs ≡ logLength job
+
+module _ (job : Job) (j bytes logs : ℕ) where
+  pub level-facts : (rest : ℕ) → levelRefusal job j bytes logs rest ≡ 0 → LevelFacts job j bytes logs × (rest ≡ 0)
+  unfolding levelRefusal
+  level-facts rest h =
+      let wide : ℕ = unless (eqb logs (logLength job)) 10 rest in
+      let long : ℕ = unless (eqb bytes (bytesFor (stacksOf job j))) 10 wide in
+      let inside : ℕ = unless (ltb j (segmentsOf job)) 9 long in
+      let a = unless-zero (isCoherent job) 6 (unless (isLevel (job .phase)) 8 inside) h in
+      let b = unless-zero (isLevel (job .phase)) 7 inside (a .1) in
+      let c = unless-zero (ltb j (segmentsOf job)) 8 long (b .1) in
+      let d = unless-zero (eqb bytes (bytesFor (stacksOf job j))) 9 wide (c .1) in
+      let e = unless-zero (eqb logs (logLength job)) 9 rest (d .1) in (
+        record {
+          coherent = a .0;
+          level = b .0;
+          inside = ltb-true j (segmentsOf job) (c .0);
+          long = eqb-true bytes (bytesFor (stacksOf job j)) (d .0);
+          wide = eqb-true logs (logLength job) (e .0);
+        },
+        e .1,
+      )
+
+  pub facts-level : (rest : ℕ) → LevelFacts job j bytes logs → rest ≡ 0 → levelRefusal job j bytes logs rest ≡ 0
+  unfolding levelRefusal
+  facts-level rest f h =
+      rw (
+        f .coherent,
+        f .level,
+        lt-ltb j (segmentsOf job) (f .inside),
+        eq-eqb bytes (bytesFor (stacksOf job j)) (f .long),
+        eq-eqb logs (logLength job) (f .wide),
+      ) h
+
+  pub expand-facts : expandRefusal job j bytes logs ≡ 0 → LevelFacts job j bytes logs × (passedOf job j < stacksOf job j)
+  unfolding expandRefusal
+  expand-facts h =
+      let a = level-facts (unless (ltb (passedOf job j) (stacksOf job j)) 11 0) h in
+      (a .0, ltb-true (passedOf job j) (stacksOf job j) (unless-zero (ltb (passedOf job j) (stacksOf job j)) 10 0 (a .1) .0))
+
+  pub facts-expand : LevelFacts job j bytes logs → passedOf job j < stacksOf job j → expandRefusal job j bytes logs ≡ 0
+  unfolding expandRefusal
+  facts-expand f l =
+      facts-level (unless (ltb (passedOf job j) (stacksOf job j)) 11 0) f (rw (lt-ltb (passedOf job j) (stacksOf job j) l))
+
+module _ (job : Job) (j bytes : ℕ) (log : List ℕ) where
+  pub settle-facts : settleRefusal job j bytes log ≡ 0
+      → LevelFacts job j bytes (length log) × (all (λ i. ltb i (stacksOf job j)) (pending job j log) ≡ true)
+  unfolding settleRefusal
+  settle-facts h =
+      let fit : Bool = all (λ i. ltb i (stacksOf job j)) (pending job j log) in
+      let a = level-facts job j bytes (length log) (unless fit 12 0) h in
+      (a .0, unless-zero fit 11 0 (a .1) .0)
+
+  pub facts-settle : LevelFacts job j bytes (length log) → all (λ i. ltb i (stacksOf job j)) (pending job j log) ≡ true
+      → settleRefusal job j bytes log ≡ 0
+  unfolding settleRefusal
+  facts-settle f e =
+      facts-level job j bytes (length log) (unless (all (λ i. ltb i (stacksOf job j)) (pending job j log)) 12 0) f
+      (ap (λ (t : Bool). unless t 12 0) e)
+
+pub record LookFacts (job : Job) (j logs : ℕ) : Type 0 where
+  pub coherent : isCoherent job ≡ true
+  pub inside : j < segmentsOf job
+  pub wide : logs ≡ logLength job
+
+pub look-facts : (job : Job) (j logs : ℕ) → lookRefusal job j logs ≡ 0 → LookFacts job j logs
+unfolding lookRefusal
+look-facts job j logs h =
+    let wide : ℕ = unless (eqb logs (logLength job)) 10 0 in
+    let inside : ℕ = unless (ltb j (segmentsOf job)) 9 wide in
+    let a = unless-zero (isCoherent job) 6 inside h in
+    let b = unless-zero (ltb j (segmentsOf job)) 8 wide (a .1) in
+    let c = unless-zero (eqb logs (logLength job)) 9 0 (b .1) in
+    record { coherent = a .0; inside = ltb-true j (segmentsOf job) (b .0); wide = eqb-true logs (logLength job) (c .0) }
+
+pub record CloseFacts (job : Job) : Type 0 where
+  pub coherent : isCoherent job ≡ true
+  pub unfinished : isFinished (job .phase) ≡ false
+  pub ready : isReady job ≡ true
+  pub fits : isPastLast job ≡ false
+
+module _ (job : Job) where
+  pub close-facts : closeRefusal job ≡ 0 → CloseFacts job
+  unfolding closeRefusal
+  close-facts h =
+      let fits : ℕ = unless (not (isPastLast job)) 14 0 in
+      let ready : ℕ = unless (isReady job) 13 fits in
+      let a = unless-zero (isCoherent job) 6 (unless (not (isFinished (job .phase))) 8 ready) h in
+      let b = unless-zero (not (isFinished (job .phase))) 7 ready (a .1) in
+      let c = unless-zero (isReady job) 12 fits (b .1) in
+      let d = unless-zero (not (isPastLast job)) 13 0 (c .1) in
+      record {
+        coherent = a .0;
+        unfinished = not-true (isFinished (job .phase)) (b .0);
+        ready = c .0;
+        fits = not-true (isPastLast job) (d .0);
+      }
+
+  pub facts-close : CloseFacts job → closeRefusal job ≡ 0
+  unfolding closeRefusal
+  facts-close f = rw (f .coherent, f .unfinished, f .ready, f .fits)
+
+-- ---- what the call leaves
+
+-- an answer that names 0 where it was accepted and r where it was refused names r
+refusal-is : {X : Type 0} {out a b : X} (f : X → ℕ) (r : ℕ) → (r ≡ 0 → out ≡ a) → ((r ≡ 0 → ⊥) → out ≡ b) → f a ≡ 0 → f b ≡ r → f out ≡ r
+refusal-is {X} {out} f r accepted refused h k = go (eq-or-ne r 0)
+  where
+    go : (r ≡ 0) ⊎ (r ≡ 0 → ⊥) → f out ≡ r
+    go (inl e) = ap f (accepted e) ∙ h ∙ sym e
+    go (inr e) = ap f (refused e) ∙ k
+
+module _ (job : Job) (j : ℕ) (segment : List ℕ) where
+  pub blank-accepted : blankRefusal job j (length segment) ≡ 0 → blankOf job j segment ≡ (
+    blanked job j,
+    record {
+      refusal = 0;
+      job = progressed job (job .phase) (set (job .passed) j (stacksOf job j)) (job .waiting) (job .counts);
+    },
+  )
+  unfolding blankOf
+  blank-accepted h = rw (eq-eqb (blankRefusal job j (length segment)) 0 h)
+
+  pub blank-refused : (blankRefusal job j (length segment) ≡ 0 → ⊥)
+      → blankOf job j segment ≡ (segment, record { refusal = blankRefusal job j (length segment); job = job })
+  unfolding blankOf
+  blank-refused h = rw (ne-eqb (blankRefusal job j (length segment)) 0 h)
+
+  -- the number in the answer is the refusal's
+  pub blank-refusal : blankOf job j segment .1 .refusal ≡ blankRefusal job j (length segment)
+  blank-refusal = refusal-is (λ o. o .1 .refusal) (blankRefusal job j (length segment)) blank-accepted blank-refused refl refl
+
+  module _ (log : List ℕ) where
+    pub expand-accepted : expandRefusal job j (length segment) (length log) ≡ 0
+        → (let e = expansion job j segment log in
+        expandOf job j segment log ≡ (
+          e .marks .segment,
+          e .logs .log,
+          record { refusal = 0; waits = e .waits; on = e .on; job = expandedJob job j e },
+        ))
+    unfolding expandOf
+    expand-accepted h = rw (eq-eqb (expandRefusal job j (length segment) (length log)) 0 h)
+
+    pub expand-refused : (expandRefusal job j (length segment) (length log) ≡ 0 → ⊥) → expandOf job j segment log ≡ (
+      segment,
+      log,
+      record { refusal = expandRefusal job j (length segment) (length log); waits = false; on = 0; job = job },
+    )
+    unfolding expandOf
+    expand-refused h = rw (ne-eqb (expandRefusal job j (length segment) (length log)) 0 h)
+
+    pub expand-refusal : expandOf job j segment log .2 .refusal ≡ expandRefusal job j (length segment) (length log)
+    expand-refusal =
+        refusal-is (λ o. o .2 .refusal) (expandRefusal job j (length segment) (length log)) expand-accepted expand-refused refl refl
+
+    pub settle-accepted : settleRefusal job j (length segment) log ≡ 0
+        → (let d = levelOf (job .phase) in
+        let marks = markAll d (pending job j log) (record { segment = segment; count = countOf job d }) in
+        settleOf job j segment log ≡ (
+          marks .segment,
+          record {
+            refusal = 0;
+            job = progressed job (job .phase) (job .passed) (set (job .waiting) j 0) (set (job .counts) d (marks .count));
+          },
+        ))
+    unfolding settleOf
+    settle-accepted h = rw (eq-eqb (settleRefusal job j (length segment) log) 0 h)
+
+    pub settle-refused : (settleRefusal job j (length segment) log ≡ 0 → ⊥)
+        → settleOf job j segment log ≡ (segment, record { refusal = settleRefusal job j (length segment) log; job = job })
+    unfolding settleOf
+    settle-refused h = rw (ne-eqb (settleRefusal job j (length segment) log) 0 h)
+
+    pub settle-refusal : settleOf job j segment log .1 .refusal ≡ settleRefusal job j (length segment) log
+    settle-refusal = refusal-is (λ o. o .1 .refusal) (settleRefusal job j (length segment) log) settle-accepted settle-refused refl refl
+
+module _ (job : Job) where
+  pub close-accepted : closeRefusal job ≡ 0 → closeOf job ≡ record { refusal = 0; job = closed job }
+  unfolding closeOf
+  close-accepted h = rw h
+
+  pub close-refused : (closeRefusal job ≡ 0 → ⊥) → closeOf job ≡ record { refusal = closeRefusal job; job = job }
+  unfolding closeOf
+  close-refused h = rw (ne-eqb (closeRefusal job) 0 h)

@@ -1,0 +1,362 @@
+-- Where a build has not finished, some call carries it on and leaves less to do.
+use mathlib.Core.Path.{_≡_, refl, sym, ap, _∙_, subst}
+use mathlib.Core.Logic.{_⊎_, inl, inr}
+use mathlib.Core.Bool.{Bool, true, false, cond}
+use mathlib.Core.List.{List, []}
+use Prim.Native.Nat.{ℕ, suc, _+_, _-_, _*_, _≤_, _<_}
+use native.Mathlib.Nat.{suc-mul, mul-le-mul-right}
+use native.Mathlib.Omega.{arith}
+use lib.Dec.{ltb, eqb}
+use lib.IntN.{ℤ}
+use lib.ListN.{length, getD, set}
+use lib.Seq.{getD-set-same, getD-set-other}
+use borrow.Author.Tests.{ltb-true, ltb-false, lt-ltb, eq-eqb}
+use Rattle.base.specs.Words.{all, tally, from}
+use Rattle.base.proofs.Tests.{and-both, never, lt-or-ge, eq-or-ne}
+use Rattle.graph.proofs.Tally.{tally-some, tally-zero}
+use Rattle.stacks.specs.Stack.{stackCount}
+use Rattle.search.specs.Blank.{blankRefusal}
+use Rattle.search.specs.Build.{World, Call, CarriesOn, own, doBlank, doExpand, doSettle, doClose, lent, kept, isOwn, isLentOwn, outcome, passes, empties, changes}
+use Rattle.search.specs.Close.{isDone, isReady, closeRefusal, nextPhase, closed}
+use Rattle.search.specs.Entries.{bytesFor}
+use Rattle.search.specs.Expand.{childrenOf, expandRefusal, expansion, expandedJob, expandOf}
+use Rattle.search.specs.JobState.{isBlanking, isLevel, isFinished, levelOf, lastLevel, segmentsOf, stacksOf, passedOf, waitingOf, countOf, progressed}
+use Rattle.search.specs.Promise.{rightBytes, rightWords, Continues}
+use Rattle.search.specs.Segments.{segmentLimit, segmentCount, stacksIn, logPart}
+use Rattle.search.specs.Settle.{pending, settleRefusal, settleOf}
+use Rattle.search.specs.declared.Answer.{Answer}
+use Rattle.search.specs.declared.Expanded.{Expanded}
+use Rattle.search.specs.declared.Job.{Job}
+use Rattle.search.specs.declared.Phase.{Phase}
+use Rattle.search.specs.declared.Phase.the-variants.{Blanking, Level, Finished}
+use Rattle.search.proofs.Accepted.{LevelFacts, facts-blank, facts-expand, facts-settle, facts-close, expand-accepted, settle-accepted}
+use Rattle.search.proofs.BlankKeeps.{blankedWorld, blank-world, passed-here, passed-elsewhere}
+use Rattle.search.proofs.BuildCoherent.{invariant-coherent}
+use Rattle.search.proofs.Children.{children-count}
+use Rattle.search.proofs.CloseKeeps.{closedWorld, close-world, never-past}
+use Rattle.search.proofs.Coherence.{coherent-facts, at-all, below-all}
+use Rattle.search.proofs.ExpandCases.{room-lacks, falling-le}
+use Rattle.search.proofs.ExpandLaws.{MustWait, expand-passes, expand-waits}
+use Rattle.search.proofs.Invariant.{Given, Blanks, Searches, Ended, Invariant}
+use Rattle.search.proofs.Refused.{refusalOf, refusal-is}
+use Rattle.search.proofs.SegmentLaws.{segment-size-facts, log-room-facts, log-length, log-at}
+use Rattle.search.proofs.Shapes.{segments-is, stacks-is, area-is}
+use Rattle.search.proofs.WorkLeft.{levelsLeft, workLeft, levels-work, stacks-work, logs-work, stacks-fall, stacks-stay, logs-fall}
+
+-- some number below n passes a test, or none does
+some-or-none : (p : ℕ → Bool) (n : ℕ) → ((i : ℕ) × (i < n) × (p i ≡ true)) ⊎ ((i : ℕ) → i < n → p i ≡ false)
+some-or-none p n = go (eq-or-ne (tally p (from 0 n)) 0)
+  where
+    go : (tally p (from 0 n) ≡ 0) ⊎ (tally p (from 0 n) ≡ 0 → ⊥) → ((i : ℕ) × (i < n) × (p i ≡ true)) ⊎ ((i : ℕ) → i < n → p i ≡ false)
+    go (inl e) = inr (tally-zero p n e)
+    go (inr ne) = inl (tally-some p n (omega arith))
+
+-- a close brings the end nearer
+next-nearer : (job : Job) (p : Phase) → isFinished p ≡ false → levelOf p ≤ lastLevel → levelsLeft (nextPhase job p) < levelsLeft p
+unfolding isFinished levelOf levelsLeft nextPhase
+next-nearer job Blanking u h = omega arith
+next-nearer job (Level d) u h = go (eqb (countOf job d) 0)
+  where
+    go : (t : Bool) → levelsLeft (cond t (Finished (d - 1)) (Level (d + 1))) < suc lastLevel - d
+    go true = omega arith
+    go false = omega arith
+next-nearer job (Finished d) u h = never refl u
+
+module _ {kind n : ℕ} {wanted : List ℤ} {S C : ℕ} (given : Given kind n wanted S C) {w : World} (invariant : Invariant kind n wanted S C w) where
+  pub some : 0 < S
+  some = omega (arith, segment-size-facts (stackCount kind n) S (given .segments) .least)
+
+  few : segmentCount (stackCount kind n) S ≤ 64
+  few = segment-size-facts (stackCount kind n) S (given .segments) .few
+
+  -- a call that carries the build on, and leaves less to do
+  pub record Advances : Type 0 where
+    pub next : Continues (rightBytes kind n S) (rightWords kind n S C) w
+    pub falls : workLeft (stackCount kind n) S (outcome w (next .call) .world .job) < workLeft (stackCount kind n) S (w .job)
+
+  -- from what the call leaves
+  unfoldable pub advances : (call : Call (rightBytes kind n S) (rightWords kind n S C)) → isLentOwn call ≡ true → refusalOf w call ≡ 0
+      → (x : World) → outcome w call .world ≡ x → CarriesOn w x
+      → workLeft (stackCount kind n) S (x .job) < workLeft (stackCount kind n) S (w .job) → Advances
+  advances call mine accepted x e carries falls =
+      record {
+        next = record {
+          call = call;
+          lent-own = mine;
+          accepted = refusal-is w call ∙ accepted;
+          carries = subst (CarriesOn w) (sym e) carries;
+        };
+        falls = subst (λ (y : World). workLeft (stackCount kind n) S (y .job) < workLeft (stackCount kind n) S (w .job)) (sym e) falls;
+      }
+
+  -- ---- Close
+
+  module _ (ready : isReady (w .job) ≡ true) (unfinished : isFinished (w .job .phase) ≡ false) (low : levelOf (w .job .phase) ≤ lastLevel) where
+    pub close-nearer : levelsLeft (closedWorld w .job .phase) < levelsLeft (w .job .phase)
+    unfolding closedWorld closed progressed
+    close-nearer = next-nearer (w .job) (w .job .phase) unfinished low
+
+    pub close-accepts : closeRefusal (w .job) ≡ 0
+    close-accepts =
+        facts-close (w .job)
+        (record {
+          coherent = invariant-coherent given invariant;
+          unfinished = unfinished;
+          ready = ready;
+          fits = never-past given invariant ready;
+        })
+
+    unfoldable pub close-advances : Advances
+    unfolding outcome isLentOwn refusalOf
+    close-advances =
+        advances doClose refl close-accepts (closedWorld w) (close-world w close-accepts)
+        (changes (λ e. omega (arith, close-nearer, ap levelsLeft e)))
+        (levels-work (stackCount kind n) S (w .job) (closedWorld w .job) close-nearer)
+
+  -- segments with all passed and nothing waiting are ready to close
+  pub all-ready : ((j : ℕ) → j < segmentCount (stackCount kind n) S → stacksIn (stackCount kind n) S j ≤ passedOf (w .job) j)
+      → ((j : ℕ) → j < segmentCount (stackCount kind n) S → waitingOf (w .job) j ≡ 0) → isReady (w .job) ≡ true
+  unfolding isReady isDone segmentLimit
+  all-ready passed none =
+      below-all (isDone (w .job)) (segmentsOf (w .job)) (λ j h. done j (rw (segments-is (invariant .shaped)) at h))
+    where
+      done : (j : ℕ) → j < segmentCount (stackCount kind n) S → isDone (w .job) j ≡ true
+      done j h =
+          and-both (eqb (passedOf (w .job) j) (stacksOf (w .job) j)) (eqb (waitingOf (w .job) j) 0)
+          (eq-eqb (passedOf (w .job) j) (stacksOf (w .job) j)
+          (omega (
+            arith,
+            passed j h,
+            stacks-is (invariant .shaped) j,
+            coherent-facts (w .job) (invariant-coherent given invariant) .passed-fits j (omega (arith, few)),
+          )))
+          (eq-eqb (waitingOf (w .job) j) 0 (none j h))
+
+  -- ---- in Blanking
+
+  module _ (blanks : Blanks kind n wanted S C w) where
+    unfoldable pub blank-advances : (j : ℕ) → j < segmentCount (stackCount kind n) S → passedOf (w .job) j < stacksIn (stackCount kind n) S j → Advances
+    unfolding outcome isLentOwn isOwn refusalOf lent kept isBlanking blankedWorld progressed
+    blank-advances j h left =
+        advances (doBlank j own) refl accepts (blankedWorld w j) (blank-world w j accepts) (passes j (rw here left))
+        (stacks-work (stackCount kind n) S (w .job) (blankedWorld w j .job) refl
+        (stacks-fall (stackCount kind n) S (w .job) (blankedWorld w j .job) some j left (rw here left) (λ i. each i (eq-or-ne i j))))
+      where
+        accepts : blankRefusal (w .job) j (length (getD (w .segments) j [])) ≡ 0
+        accepts =
+            facts-blank (w .job) j (length (getD (w .segments) j []))
+            (record {
+              coherent = invariant-coherent given invariant;
+              blanking = ap isBlanking (blanks .phase-is);
+              inside = rw (segments-is (invariant .shaped)) h;
+              long = invariant .shaped .segment-bytes j h ∙ ap bytesFor (sym (stacks-is (invariant .shaped) j));
+              left = rw (stacks-is (invariant .shaped) j) left;
+            })
+
+        here : passedOf (blankedWorld w j .job) j ≡ stacksIn (stackCount kind n) S j
+        here = passed-here given (invariant .shaped) j h
+
+        each : (i : ℕ) → (i ≡ j) ⊎ (i ≡ j → ⊥) → passedOf (w .job) i ≤ passedOf (blankedWorld w j .job) i
+        each i (inl e) = omega (arith, here, ap (passedOf (w .job)) e, ap (passedOf (blankedWorld w j .job)) e)
+        each i (inr ne) = omega (arith, passed-elsewhere given (invariant .shaped) j h i ne)
+
+    blanks-advance : Advances
+    unfolding isFinished levelOf
+    blanks-advance =
+        go (some-or-none (λ j. ltb (passedOf (w .job) j) (stacksIn (stackCount kind n) S j)) (segmentCount (stackCount kind n) S))
+      where
+        go : ((j : ℕ) × (j < segmentCount (stackCount kind n) S) × (ltb (passedOf (w .job) j) (stacksIn (stackCount kind n) S j) ≡ true))
+            ⊎ ((j : ℕ) → j < segmentCount (stackCount kind n) S → ltb (passedOf (w .job) j) (stacksIn (stackCount kind n) S j) ≡ false)
+            → Advances
+        go (inl r) = blank-advances (r .0) (r .1) (ltb-true (passedOf (w .job) (r .0)) (stacksIn (stackCount kind n) S (r .0)) (r .2))
+        go (inr none) =
+            close-advances
+            (all-ready
+            (λ j h. ltb-false (passedOf (w .job) j) (stacksIn (stackCount kind n) S j) (none j h))
+            (λ j h. blanks .none-waits j))
+            (ap isFinished (blanks .phase-is))
+            (omega (arith, ap levelOf (blanks .phase-is)))
+
+  -- ---- in a level
+
+  module _ {d : ℕ} (search : Searches kind n wanted S C w d) where
+    facts-of : (j : ℕ) → j < segmentCount (stackCount kind n) S → LevelFacts (w .job) j (length (getD (w .segments) j [])) (length (w .log))
+    unfolding isLevel
+    facts-of j h =
+        record {
+          coherent = invariant-coherent given invariant;
+          level = ap isLevel (search .phase-is);
+          inside = rw (segments-is (invariant .shaped)) h;
+          long = invariant .shaped .segment-bytes j h ∙ ap bytesFor (sym (stacks-is (invariant .shaped) j));
+          wide = invariant .shaped .log-length ∙ sym (area-is (invariant .shaped));
+        }
+
+    module _ (j : ℕ) (h : j < segmentCount (stackCount kind n) S) where
+      -- what waits is an offset of its segment
+      pending-fits : all (λ i. ltb i (stacksOf (w .job) j)) (pending (w .job) j (w .log)) ≡ true
+      unfolding pending
+      pending-fits =
+          subst (λ (c : ℕ). all (λ i. ltb i (stacksOf (w .job) j)) (logPart c j (waitingOf (w .job) j) (w .log)) ≡ true)
+          (sym (invariant .shaped .room-is))
+          (at-all (λ i. ltb i (stacksOf (w .job) j)) part 0 each)
+        where
+          part : List ℕ
+          part = logPart C j (waitingOf (w .job) j) (w .log)
+
+          long : length part ≡ waitingOf (w .job) j
+          long =
+              log-length C j (waitingOf (w .job) j) (w .log)
+              (omega (arith, invariant .shaped .log-length, search .waiting-fits j, suc-mul j C, mul-le-mul-right C h))
+
+          each : (k : ℕ) → k < length part → ltb (getD part k 0) (stacksOf (w .job) j) ≡ true
+          each k l =
+              let m : k < waitingOf (w .job) j = rw long at l in
+              lt-ltb (getD part k 0) (stacksOf (w .job) j)
+              (omega (
+                arith,
+                log-at C j (waitingOf (w .job) j) (w .log) k m,
+                search .offsets j k h m,
+                stacks-is (invariant .shaped) j,
+              ))
+
+      pub settle-accepts : settleRefusal (w .job) j (length (getD (w .segments) j [])) (w .log) ≡ 0
+      settle-accepts = facts-settle (w .job) j (length (getD (w .segments) j [])) (w .log) (facts-of j h) pending-fits
+
+      -- the job after it
+      abbrev pub settled : Job
+      settled = settleOf (w .job) j (getD (w .segments) j []) (w .log) .1 .job
+
+      pub settled-phase : settled .phase ≡ w .job .phase
+      unfolding progressed
+      settled-phase = ap (λ (o : List ℕ × Answer). o .1 .job .phase) (settle-accepted (w .job) j (getD (w .segments) j []) (w .log) settle-accepts)
+
+      pub settled-passed : (i : ℕ) → passedOf settled i ≡ passedOf (w .job) i
+      unfolding progressed passedOf
+      settled-passed i =
+          ap (λ (o : List ℕ × Answer). passedOf (o .1 .job) i) (settle-accepted (w .job) j (getD (w .segments) j []) (w .log) settle-accepts)
+
+      settled-waiting : (i : ℕ) → waitingOf settled i ≡ getD (set (w .job .waiting) j 0) i 0
+      unfolding progressed waitingOf
+      settled-waiting i =
+          ap (λ (o : List ℕ × Answer). waitingOf (o .1 .job) i) (settle-accepted (w .job) j (getD (w .segments) j []) (w .log) settle-accepts)
+
+      pub settled-empty : waitingOf settled j ≡ 0
+      settled-empty =
+          settled-waiting j ∙ getD-set-same (w .job .waiting) j 0 0 (omega (arith, invariant .shaped .waiting-length, few))
+
+      pub settled-others : (i : ℕ) → (i ≡ j → ⊥) → waitingOf settled i ≡ waitingOf (w .job) i
+      unfolding waitingOf
+      settled-others i ne = settled-waiting i ∙ getD-set-other (w .job .waiting) j i 0 0 ne
+
+      unfoldable pub settle-advances : 0 < waitingOf (w .job) j → Advances
+      unfolding outcome isLentOwn isOwn refusalOf lent kept
+      settle-advances more =
+          let call : Call (rightBytes kind n S) (rightWords kind n S C) = doSettle j own own in
+          advances call refl settle-accepts (outcome w call .world) refl (empties j more settled-empty)
+          (logs-work (stackCount kind n) S (w .job) settled settled-phase
+          (stacks-stay (stackCount kind n) S (w .job) settled settled-passed)
+          (logs-fall (stackCount kind n) S (w .job) settled j h more settled-empty settled-others))
+
+      -- with no log waiting an Expand passes a stack
+      module _ (left : passedOf (w .job) j < stacksIn (stackCount kind n) S j) (none : (t : ℕ) → waitingOf (w .job) t ≡ 0) where
+        pub expand-accepts : expandRefusal (w .job) j (length (getD (w .segments) j [])) (length (w .log)) ≡ 0
+        expand-accepts =
+            facts-expand (w .job) j (length (getD (w .segments) j [])) (length (w .log)) (facts-of j h) (rw (stacks-is (invariant .shaped) j) left)
+
+        -- the job after it
+        abbrev pub grown : Job
+        grown = expandOf (w .job) j (getD (w .segments) j []) (w .log) .2 .job
+
+        pub grown-phase : grown .phase ≡ w .job .phase
+        unfolding expandedJob progressed
+        grown-phase =
+            ap (λ (o : List ℕ × List ℕ × Expanded). o .2 .job .phase) (expand-accepted (w .job) j (getD (w .segments) j []) (w .log) expand-accepts)
+
+        pub grown-others : (i : ℕ) → (i ≡ j → ⊥) → passedOf grown i ≡ passedOf (w .job) i
+        unfolding expandedJob progressed passedOf
+        grown-others i ne =
+            ap (λ (o : List ℕ × List ℕ × Expanded). passedOf (o .2 .job) i) (expand-accepted (w .job) j (getD (w .segments) j []) (w .log) expand-accepts)
+            ∙ getD-set-other (w .job .passed) j i (expansion (w .job) j (getD (w .segments) j []) (w .log) .at) 0 ne
+
+        listed : j < length (w .job .passed)
+        listed = omega (arith, invariant .shaped .passed-length, few)
+
+        -- an empty log has room for all children of a stack
+        roomy : (t : ℕ) → MustWait (w .job) j (getD (w .segments) j []) t → ⊥
+        unfolding waitingOf
+        roomy t must =
+            let children = childrenOf (w .job .kind) (w .job .n) (j * w .job .size + passedOf (w .job) j) in
+            omega (
+              arith,
+              none t,
+              room-lacks (w .job .size) (w .job .room) j (w .job .waiting) children t (must .lacks) .1,
+              falling-le (w .job .size) t children,
+              children-count (w .job .kind) (w .job .n) (j * w .job .size + passedOf (w .job) j)
+                  (rw (invariant .shaped .kind-is, invariant .shaped .n-is) (given .size)),
+              invariant .shaped .room-is,
+              log-room-facts C (given .room) .least,
+            )
+
+        pub grown-here : passedOf (w .job) j < passedOf grown j
+        grown-here = go (expand-passes (w .job) j (getD (w .segments) j []) (w .log) expand-accepts listed)
+          where
+            go : (passedOf (w .job) j < passedOf grown j)
+                ⊎ ((expandOf (w .job) j (getD (w .segments) j []) (w .log) .2 .waits ≡ true) × (passedOf grown j ≡ passedOf (w .job) j))
+                → passedOf (w .job) j < passedOf grown j
+            go (inl l) = l
+            go (inr r) =
+                absurd
+                (roomy
+                (expandOf (w .job) j (getD (w .segments) j []) (w .log) .2 .on)
+                (expand-waits (w .job) j (getD (w .segments) j []) (w .log) expand-accepts listed (r .0) (r .1)))
+
+        unfoldable pub expand-advances : Advances
+        unfolding outcome isLentOwn isOwn refusalOf lent kept
+        expand-advances =
+            let call : Call (rightBytes kind n S) (rightWords kind n S C) = doExpand j own own in
+            advances call refl expand-accepts (outcome w call .world) refl (passes j grown-here)
+            (stacks-work (stackCount kind n) S (w .job) grown grown-phase
+            (stacks-fall (stackCount kind n) S (w .job) grown some j left grown-here (λ i. each i (eq-or-ne i j))))
+          where
+            each : (i : ℕ) → (i ≡ j) ⊎ (i ≡ j → ⊥) → passedOf (w .job) i ≤ passedOf grown i
+            each i (inl e) = omega (arith, grown-here, ap (passedOf (w .job)) e, ap (passedOf grown) e)
+            each i (inr ne) = omega (arith, grown-others i ne)
+
+    searches-advance : Advances
+    unfolding isFinished levelOf
+    searches-advance = logs (some-or-none (λ j. ltb 0 (waitingOf (w .job) j)) (segmentCount (stackCount kind n) S))
+      where
+        none-waits : ((j : ℕ) → j < segmentCount (stackCount kind n) S → ltb 0 (waitingOf (w .job) j) ≡ false) → (j : ℕ) → waitingOf (w .job) j ≡ 0
+        none-waits none j = go (lt-or-ge j (segmentCount (stackCount kind n) S))
+          where
+            go : (j < segmentCount (stackCount kind n) S) ⊎ (segmentCount (stackCount kind n) S ≤ j) → waitingOf (w .job) j ≡ 0
+            go (inl h) = omega (arith, ltb-false 0 (waitingOf (w .job) j) (none j h))
+            go (inr h) = search .waiting-beyond j h
+
+        stacks : ((j : ℕ) → waitingOf (w .job) j ≡ 0)
+            → ((j : ℕ) × (j < segmentCount (stackCount kind n) S) × (ltb (passedOf (w .job) j) (stacksIn (stackCount kind n) S j) ≡ true))
+            ⊎ ((j : ℕ) → j < segmentCount (stackCount kind n) S → ltb (passedOf (w .job) j) (stacksIn (stackCount kind n) S j) ≡ false)
+            → Advances
+        stacks none (inl r) =
+            expand-advances (r .0) (r .1) (ltb-true (passedOf (w .job) (r .0)) (stacksIn (stackCount kind n) S (r .0)) (r .2)) none
+        stacks none (inr all) =
+            close-advances
+            (all-ready (λ j h. ltb-false (passedOf (w .job) j) (stacksIn (stackCount kind n) S j) (all j h)) (λ j h. none j))
+            (ap isFinished (search .phase-is))
+            (omega (arith, ap levelOf (search .phase-is), search .last))
+
+        logs : ((j : ℕ) × (j < segmentCount (stackCount kind n) S) × (ltb 0 (waitingOf (w .job) j) ≡ true))
+            ⊎ ((j : ℕ) → j < segmentCount (stackCount kind n) S → ltb 0 (waitingOf (w .job) j) ≡ false) → Advances
+        logs (inl r) = settle-advances (r .0) (r .1) (ltb-true 0 (waitingOf (w .job) (r .0)) (r .2))
+        logs (inr none) =
+            stacks (none-waits none)
+            (some-or-none (λ j. ltb (passedOf (w .job) j) (stacksIn (stackCount kind n) S j)) (segmentCount (stackCount kind n) S))
+
+  pub invariant-advances : isFinished (w .job .phase) ≡ false → Advances
+  unfolding isFinished
+  invariant-advances unfinished = go (invariant .phase)
+    where
+      go : Blanks kind n wanted S C w ⊎ (((d : ℕ) × Searches kind n wanted S C w d) ⊎ ((d : ℕ) × Ended kind n wanted S C w d)) → Advances
+      go (inl blanks) = blanks-advance blanks
+      go (inr (inl s)) = searches-advance (s .1)
+      go (inr (inr s)) = never (ap isFinished (s .1 .phase-is)) unfinished

@@ -1,0 +1,37 @@
+-- Laws of `allStacks`: every stack stands there once, at the place of its index.
+use mathlib.Core.Path.{_≡_, refl, sym, ap, _∙_}
+use mathlib.Core.Bool.{true}
+use mathlib.Core.List.{List, [], _∷_, map}
+use Prim.Native.Nat.{ℕ, zero, suc, _<_}
+use native.Mathlib.Nat.{zero-add, le-of-suc-le-suc, not-suc-le-zero}
+use lib.IntN.{ℤ}
+use lib.ListN.{length, getD, length-map}
+use Rattle.base.specs.Words.{from}
+use Rattle.base.proofs.Lists.{from-length, getD-from}
+use Rattle.stacks.specs.Stack.{isSize, isStack, stackCount}
+use Rattle.stacks.specs.Index.{rankOf, stackAt, allStacks}
+use Rattle.stacks.proofs.Numbering.{rank-lt, unrank-rank, rank-unrank}
+
+pub getD-map : {A B : Type 0} (f : A → B) (xs : List A) (i : ℕ) (a : A) (b : B) → i < length xs → getD (map f xs) i b ≡ f (getD xs i a)
+getD-map f [] i a b h = absurd (not-suc-le-zero h)
+getD-map f (x ∷ xs) zero a b h = refl
+getD-map f (x ∷ xs) (suc i) a b h = getD-map f xs i a b (le-of-suc-le-suc h)
+
+pub all-stacks-length : (kind n : ℕ) → length (allStacks kind n) ≡ stackCount kind n
+unfolding allStacks
+all-stacks-length kind n = length-map (from 0 (stackCount kind n)) (stackAt kind n) ∙ from-length 0 (stackCount kind n)
+
+-- at each place stands the stack of that index
+pub all-stacks-at : (kind n v : ℕ) → v < stackCount kind n → getD (allStacks kind n) v [] ≡ stackAt kind n v
+unfolding allStacks
+all-stacks-at kind n v h =
+    getD-map (stackAt kind n) (from 0 (stackCount kind n)) v 0 [] (rw (from-length 0 (stackCount kind n)) h)
+    ∙ ap (stackAt kind n) (getD-from 0 (stackCount kind n) v 0 h ∙ zero-add v)
+
+module _ (kind n : ℕ) (s : List ℤ) (size : isSize kind n ≡ true) where
+  -- a stack stands at the place of its index, and at no other
+  pub all-stacks-each : isStack kind n s ≡ true → getD (allStacks kind n) (rankOf kind n s) [] ≡ s
+  all-stacks-each h = all-stacks-at kind n (rankOf kind n s) (rank-lt kind n s size h) ∙ unrank-rank kind n s size h
+
+  pub all-stacks-once : (v : ℕ) → v < stackCount kind n → getD (allStacks kind n) v [] ≡ s → v ≡ rankOf kind n s
+  all-stacks-once v h e = sym (rank-unrank kind n v size h) ∙ ap (rankOf kind n) (sym (all-stacks-at kind n v h) ∙ e)

@@ -1,0 +1,227 @@
+-- Begin gives a coherent job, and so does every call on a coherent job whose counts have room for the stacks at hand.
+use mathlib.Core.Path.{_≡_, refl, sym, ap, _∙_}
+use mathlib.Core.Logic.{_⊎_, inl, inr}
+use mathlib.Core.Bool.{Bool, true, false, not, cond}
+use mathlib.Core.List.{List, [], _∷_}
+use Prim.Native.Nat.{ℕ, _+_, _-_, _%_, _≤_, _<_}
+use native.Mathlib.Omega.{arith}
+use lib.Dec.{leb, ltb, eqb}
+use lib.IntN.{ℤ}
+use lib.ListN.{length, getD, set}
+use lib.Seq.{getD-set-same, getD-set-other, set-out}
+use borrow.Author.Tests.{ltb-true, lt-ltb, leb-true, le-leb, eqb-false, eq-eqb, ne-eqb}
+use Rattle.base.specs.Words.{all, tally, from}
+use Rattle.base.proofs.Tests.{and-left, and-right, and-both, never, lt-or-ge, eq-or-ne}
+use Rattle.graph.proofs.Tally.{tally-le, tally-one-more}
+use Rattle.search.specs.Begin.{begun, beginOf}
+use Rattle.search.specs.Blank.{blankRefusal, blankOf}
+use Rattle.search.specs.Close.{isPastLast, closeRefusal, nextPhase, nextCounts, closed, closeOf}
+use Rattle.search.specs.Entries.{entryAt, bytesFor}
+use Rattle.search.specs.Expand.{Marks, markOne}
+use Rattle.search.specs.JobState.{lastLevel, countLimit, beginRefusal, levelOf, segmentsOf, stacksOf, stacksAll, passedOf, waitingOf, countOf, phaseFits, isCoherent, progressed}
+use Rattle.search.specs.Settle.{pending, settleRefusal, markAll, settleOf}
+use Rattle.search.specs.declared.Answer.{Answer}
+use Rattle.search.specs.declared.Job.{Job}
+use Rattle.search.specs.declared.Phase.{Phase}
+use Rattle.search.specs.declared.Phase.the-variants.{Blanking, Level, Finished}
+use Rattle.search.proofs.Accepted.{close-facts, settle-facts, blank-accepted, blank-refused, settle-accepted, settle-refused, close-accepted, close-refused}
+use Rattle.search.proofs.BlankKeeps.{replicate-zero}
+use Rattle.search.proofs.Coherence.{Coherent, coherent-facts, facts-coherent}
+use Rattle.search.proofs.EntryLaws.{get-set-same, byte-inside}
+use Rattle.search.proofs.MarkLaws.{mark-unseen, mark-seen, mark-length, mark-other}
+
+-- a number that is set stays within a bound that both it and the old one meet
+pub set-fits : (xs : List ℕ) (j v i b : ℕ) → (i ≡ j → v ≤ b) → getD xs i 0 ≤ b → getD (set xs j v) i 0 ≤ b
+set-fits xs j v i b new old = go (eq-or-ne i j) (lt-or-ge j (length xs))
+  where
+    go : (i ≡ j) ⊎ (i ≡ j → ⊥) → (j < length xs) ⊎ (length xs ≤ j) → getD (set xs j v) i 0 ≤ b
+    go (inl e) (inl h) = omega (arith, new e, ap (λ (k : ℕ). getD (set xs j v) k 0) e, getD-set-same xs j v 0 h)
+    go (inl e) (inr h) = rw (set-out xs j v h) old
+    go (inr ne) h = rw (getD-set-other xs j i v 0 ne) old
+
+one-fits : 1 ≤ countLimit
+unfolding countLimit
+one-fits = omega arith
+
+-- ---- marks
+
+-- how many of the first m entries are unseen
+abbrev pub unseenIn : ℕ → List ℕ → ℕ
+unseenIn m segment = tally (λ i. eqb (entryAt segment i) 3) (from 0 m)
+
+-- a mark adds one to the count just where it takes an unseen entry away
+pub mark-budget : (d i m : ℕ) (marks : Marks) → i < m → length (marks .segment) ≡ bytesFor m
+    → markOne d i marks .count + unseenIn m (markOne d i marks .segment) ≡ marks .count + unseenIn m (marks .segment)
+mark-budget d i m marks h long = go (eq-or-ne (entryAt (marks .segment) i) 3)
+  where
+    new : entryAt (marks .segment) i ≡ 3 → entryAt (markOne d i marks .segment) i ≡ d % 3
+    new e = rw (mark-unseen d i marks e) (get-set-same (marks .segment) i (d % 3) (omega arith) (rw long (byte-inside i m h)))
+
+    go : (entryAt (marks .segment) i ≡ 3) ⊎ (entryAt (marks .segment) i ≡ 3 → ⊥)
+        → markOne d i marks .count + unseenIn m (markOne d i marks .segment) ≡ marks .count + unseenIn m (marks .segment)
+    go (inl e) =
+        omega (
+          arith,
+          ap (λ (x : Marks). x .count) (mark-unseen d i marks e),
+          tally-one-more
+              (λ u. eqb (entryAt (markOne d i marks .segment) u) 3)
+              (λ u. eqb (entryAt (marks .segment) u) 3)
+              m
+              i
+              h
+              (ne-eqb (entryAt (markOne d i marks .segment) i) 3 (λ q. omega (arith, new e)))
+              (eq-eqb (entryAt (marks .segment) i) 3 e)
+              (λ u l ne. ap (λ (x : ℕ). eqb x 3) (sym (mark-other d i marks u ne))),
+        )
+    go (inr ne) = rw (mark-seen d i marks ne)
+
+all-budget : (d m : ℕ) (offsets : List ℕ) (marks : Marks) → all (λ i. ltb i m) offsets ≡ true → length (marks .segment) ≡ bytesFor m
+    → markAll d offsets marks .count + unseenIn m (markAll d offsets marks .segment) ≡ marks .count + unseenIn m (marks .segment)
+unfolding markAll all
+all-budget d m [] marks h long = refl
+all-budget d m (i ∷ offsets) marks h long =
+    all-budget d m offsets (markOne d i marks) (and-right (ltb i m) (all (λ i. ltb i m) offsets) h) (mark-length d i marks ∙ long)
+    ∙ mark-budget d i m marks (ltb-true i m (and-left (ltb i m) (all (λ i. ltb i m) offsets) h)) long
+
+-- ---- Begin
+
+begun-coherent : (kind n : ℕ) (wanted : List ℤ) (S C : ℕ) → beginRefusal kind n wanted S C ≡ 0 → isCoherent (begun kind n wanted S C) ≡ true
+unfolding begun passedOf waitingOf countOf phaseFits
+begun-coherent kind n wanted S C h =
+    facts-coherent (begun kind n wanted S C)
+    (record {
+      begins = h;
+      phase-fits = refl;
+      passed-fits = λ j l. omega (arith, replicate-zero 64 j);
+      waiting-fits = λ j l. omega (arith, replicate-zero 64 j);
+      counts-fit = λ d. omega (arith, replicate-zero 32 d);
+    })
+
+pub begin-coherent : (kind n : ℕ) (wanted : List ℤ) (S C : ℕ) → beginOf kind n wanted S C .refusal ≡ 0
+    → isCoherent (beginOf kind n wanted S C .job) ≡ true
+unfolding beginOf
+begin-coherent kind n wanted S C h =
+    rw (eq-eqb (beginRefusal kind n wanted S C) 0 h) (begun-coherent kind n wanted S C h)
+
+module _ (job : Job) (coherent : isCoherent job ≡ true) where
+  facts : Coherent job
+  facts = coherent-facts job coherent
+
+  -- ---- Blank
+
+  blanked-coherent : (j : ℕ) → isCoherent (progressed job (job .phase) (set (job .passed) j (stacksOf job j)) (job .waiting) (job .counts)) ≡ true
+  unfolding progressed passedOf waitingOf countOf stacksOf stacksAll segmentsOf
+  blanked-coherent j =
+      facts-coherent (progressed job (job .phase) (set (job .passed) j (stacksOf job j)) (job .waiting) (job .counts))
+      (record {
+        begins = facts .begins;
+        phase-fits = facts .phase-fits;
+        passed-fits = λ i l. set-fits (job .passed) j (stacksOf job j) i (stacksOf job i) (λ e. omega (arith, ap (stacksOf job) e)) (facts .passed-fits i l);
+        waiting-fits = facts .waiting-fits;
+        counts-fit = facts .counts-fit;
+      })
+
+  pub blank-coherent : (j : ℕ) (segment : List ℕ) → isCoherent (blankOf job j segment .1 .job) ≡ true
+  blank-coherent j segment = go (eq-or-ne (blankRefusal job j (length segment)) 0)
+    where
+      go : (blankRefusal job j (length segment) ≡ 0) ⊎ (blankRefusal job j (length segment) ≡ 0 → ⊥)
+          → isCoherent (blankOf job j segment .1 .job) ≡ true
+      go (inl e) = ap (λ (o : List ℕ × Answer). isCoherent (o .1 .job)) (blank-accepted job j segment e) ∙ blanked-coherent j
+      go (inr ne) = ap (λ (o : List ℕ × Answer). isCoherent (o .1 .job)) (blank-refused job j segment ne) ∙ coherent
+
+  -- ---- Close
+
+  -- the last level closes only where its count is 0
+  past-facts : isPastLast job ≡ false → levelOf (job .phase) ≡ lastLevel → countOf job lastLevel ≡ 0
+  unfolding isPastLast
+  past-facts h e = go (eq-or-ne (countOf job lastLevel) 0)
+    where
+      go : (countOf job lastLevel ≡ 0) ⊎ (countOf job lastLevel ≡ 0 → ⊥) → countOf job lastLevel ≡ 0
+      go (inl z) = z
+      go (inr ne) =
+          never
+          (and-both (eqb (levelOf (job .phase)) lastLevel) (not (eqb (countOf job lastLevel) 0)) (eq-eqb (levelOf (job .phase)) lastLevel e)
+          (ap not (ne-eqb (countOf job lastLevel) 0 ne)))
+          h
+
+  next-fits : (p : Phase) → phaseFits p ≡ true → (levelOf p ≡ lastLevel → countOf job lastLevel ≡ 0) → phaseFits (nextPhase job p) ≡ true
+  unfolding phaseFits nextPhase levelOf lastLevel
+  next-fits Blanking h last = refl
+  next-fits (Level d) h last =
+      go (eqb (countOf job d) 0) refl
+      (leb-true 1 d (and-left (leb 1 d) (leb d lastLevel) h))
+      (leb-true d lastLevel (and-right (leb 1 d) (leb d lastLevel) h))
+    where
+      go : (t : Bool) → eqb (countOf job d) 0 ≡ t → 1 ≤ d → d ≤ lastLevel → phaseFits (cond t (Finished (d - 1)) (Level (d + 1))) ≡ true
+      go true e low high = lt-ltb (d - 1) lastLevel (omega arith)
+      go false e low high =
+          let before : d ≡ lastLevel → ⊥ = λ q. eqb-false (countOf job d) 0 e (ap (countOf job) q ∙ last q) in
+          and-both (leb 1 (d + 1)) (leb (d + 1) lastLevel) (le-leb 1 (d + 1) (omega arith)) (le-leb (d + 1) lastLevel (omega arith))
+  next-fits (Finished d) h last = h
+
+  next-counts : (p : Phase) (d : ℕ) → getD (nextCounts job p) d 0 ≤ countLimit
+  unfolding nextCounts countOf
+  next-counts Blanking d = set-fits (job .counts) 0 1 d countLimit (λ e. one-fits) (facts .counts-fit d)
+  next-counts (Level l) d = facts .counts-fit d
+  next-counts (Finished l) d = facts .counts-fit d
+
+  closed-coherent : isPastLast job ≡ false → isCoherent (closed job) ≡ true
+  unfolding closed progressed passedOf waitingOf countOf segmentsOf stacksAll
+  closed-coherent unpast =
+      facts-coherent (closed job)
+      (record {
+        begins = facts .begins;
+        phase-fits = next-fits (job .phase) (facts .phase-fits) (past-facts unpast);
+        passed-fits = λ j l. omega (arith, replicate-zero 64 j);
+        waiting-fits = facts .waiting-fits;
+        counts-fit = next-counts (job .phase);
+      })
+
+  pub close-coherent : isCoherent (closeOf job .job) ≡ true
+  close-coherent = go (eq-or-ne (closeRefusal job) 0)
+    where
+      go : (closeRefusal job ≡ 0) ⊎ (closeRefusal job ≡ 0 → ⊥) → isCoherent (closeOf job .job) ≡ true
+      go (inl e) = ap (λ (o : Answer). isCoherent (o .job)) (close-accepted job e) ∙ closed-coherent (close-facts job e .fits)
+      go (inr ne) = ap (λ (o : Answer). isCoherent (o .job)) (close-refused job ne) ∙ coherent
+
+  -- ---- Settle
+
+  module _ (j : ℕ) (segment log : List ℕ) (room : countOf job (levelOf (job .phase)) + stacksOf job j ≤ countLimit) where
+    abbrev marked : Marks
+    marked =
+        markAll (levelOf (job .phase)) (pending job j log) (record { segment = segment; count = countOf job (levelOf (job .phase)) })
+
+    settled-count : settleRefusal job j (length segment) log ≡ 0 → marked .count ≤ countLimit
+    settled-count h =
+        let f = settle-facts job j (length segment) log h in
+        omega (
+          arith,
+          all-budget (levelOf (job .phase)) (stacksOf job j) (pending job j log)
+              (record { segment = segment; count = countOf job (levelOf (job .phase)) })
+              (f .1)
+              (f .0 .long),
+          tally-le (λ i. eqb (entryAt segment i) 3) (stacksOf job j),
+        )
+
+    settled-coherent : settleRefusal job j (length segment) log ≡ 0
+        → isCoherent (progressed job (job .phase) (job .passed) (set (job .waiting) j 0) (set (job .counts) (levelOf (job .phase)) (marked .count)))
+        ≡ true
+    unfolding progressed passedOf waitingOf countOf stacksOf stacksAll segmentsOf
+    settled-coherent h =
+        facts-coherent
+        (progressed job (job .phase) (job .passed) (set (job .waiting) j 0) (set (job .counts) (levelOf (job .phase)) (marked .count)))
+        (record {
+          begins = facts .begins;
+          phase-fits = facts .phase-fits;
+          passed-fits = facts .passed-fits;
+          waiting-fits = λ i l. set-fits (job .waiting) j 0 i (cond (ltb i (segmentsOf job)) (job .room) 0) (λ e. omega arith) (facts .waiting-fits i l);
+          counts-fit = λ d. set-fits (job .counts) (levelOf (job .phase)) (marked .count) d countLimit (λ e. settled-count h) (facts .counts-fit d);
+        })
+
+    pub settle-coherent : isCoherent (settleOf job j segment log .1 .job) ≡ true
+    settle-coherent = go (eq-or-ne (settleRefusal job j (length segment) log) 0)
+      where
+        go : (settleRefusal job j (length segment) log ≡ 0) ⊎ (settleRefusal job j (length segment) log ≡ 0 → ⊥)
+            → isCoherent (settleOf job j segment log .1 .job) ≡ true
+        go (inl e) = ap (λ (o : List ℕ × Answer). isCoherent (o .1 .job)) (settle-accepted job j segment log e) ∙ settled-coherent e
+        go (inr ne) = ap (λ (o : List ℕ × Answer). isCoherent (o .1 .job)) (settle-refused job j segment log ne) ∙ coherent

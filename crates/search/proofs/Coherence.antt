@@ -1,0 +1,120 @@
+-- Coherent jobs: what coherence says, and that Begin and every accepted call give a coherent job.
+use mathlib.Core.Path.{_≡_, refl, sym, _∙_, subst}
+use mathlib.Core.Logic.{_⊎_, inl, inr}
+use mathlib.Core.Bool.{Bool, true, false, _&&_, cond}
+use mathlib.Core.List.{List, [], _∷_}
+use Prim.Native.Nat.{ℕ, zero, suc, _-_, _≤_, _<_}
+use native.Mathlib.Nat.{zero-add, le-of-suc-le-suc, not-suc-le-zero, suc-ne-zero}
+use native.Mathlib.Omega.{arith}
+use lib.Dec.{leb, ltb, eqb}
+use lib.IntN.{ℤ}
+use lib.ListN.{length, getD, List·getD-eq-default}
+use borrow.Author.Tests.{leb-true, le-leb, eqb-true, eq-eqb}
+use Rattle.base.specs.Words.{unless, all, from}
+use Rattle.base.proofs.Lists.{from-length, getD-from}
+use Rattle.base.proofs.Tests.{and-left, and-right, and-both, lt-or-ge}
+use Rattle.stacks.specs.Operations.{sizeRefusal}
+use Rattle.stacks.specs.Stack.{isKind, isSize, isStack, stackCount}
+use Rattle.search.specs.JobState.{countLimit, beginRefusal, segmentsOf, stacksOf, passedOf, waitingOf, countOf, phaseFits, segmentFits, countFits, isCoherent}
+use Rattle.search.specs.Segments.{segmentLimit, isSegmentSize, isLogRoom}
+use Rattle.search.specs.declared.Job.{Job}
+use Rattle.search.proofs.Invariant.{Given}
+
+-- ---- tests, one by one
+
+-- a refusal that was not met
+pub unless-zero : (ok : Bool) (r rest : ℕ) → unless ok (suc r) rest ≡ 0 → (ok ≡ true) × (rest ≡ 0)
+unless-zero true r rest h = (refl, h)
+unless-zero false r rest h = absurd (suc-ne-zero r h)
+
+module _ {A : Type 0} (p : A → Bool) where
+  pub all-at : (xs : List A) (i : ℕ) (a : A) → all p xs ≡ true → i < length xs → p (getD xs i a) ≡ true
+  unfolding all
+  all-at [] i a h l = absurd (not-suc-le-zero l)
+  all-at (x ∷ xs) zero a h l = and-left (p x) (all p xs) h
+  all-at (x ∷ xs) (suc i) a h l = all-at xs i a (and-right (p x) (all p xs) h) (le-of-suc-le-suc l)
+
+  pub at-all : (xs : List A) (a : A) → ((i : ℕ) → i < length xs → p (getD xs i a) ≡ true) → all p xs ≡ true
+  unfolding all
+  at-all [] a h = refl
+  at-all (x ∷ xs) a h = and-both (p x) (all p xs) (h 0 (omega arith)) (at-all xs a (λ i l. h (suc i) (omega arith)))
+
+pub all-below : (p : ℕ → Bool) (n i : ℕ) → all p (from 0 n) ≡ true → i < n → p i ≡ true
+all-below p n i h l =
+    subst (λ (x : ℕ). p x ≡ true) (getD-from 0 n i 0 l ∙ zero-add i) (all-at p (from 0 n) i 0 h (rw from-length l))
+
+pub below-all : (p : ℕ → Bool) (n : ℕ) → ((i : ℕ) → i < n → p i ≡ true) → all p (from 0 n) ≡ true
+below-all p n h = at-all p (from 0 n) 0 (λ i l. go i (rw from-length at l))
+  where
+    go : (i : ℕ) → i < n → p (getD (from 0 n) i 0) ≡ true
+    go i l = subst (λ (x : ℕ). p x ≡ true) (sym (getD-from 0 n i 0 l ∙ zero-add i)) (h i l)
+
+-- ---- what an accepted Begin was given
+
+module _ (kind n : ℕ) (wanted : List ℤ) (S C : ℕ) where
+  pub begin-given : beginRefusal kind n wanted S C ≡ 0 → Given kind n wanted S C
+  unfolding beginRefusal sizeRefusal
+  begin-given h =
+      let room : ℕ = unless (isLogRoom C) 6 0 in
+      let segments : ℕ = unless (isSegmentSize (stackCount kind n) S) 5 room in
+      let stack : ℕ = unless (isStack kind n wanted) 3 segments in
+      let a = unless-zero (isKind kind) 0 (unless (isSize kind n) 2 stack) h in
+      let b = unless-zero (isSize kind n) 1 stack (a .1) in
+      let c = unless-zero (isStack kind n wanted) 2 segments (b .1) in
+      let d = unless-zero (isSegmentSize (stackCount kind n) S) 4 room (c .1) in
+      record { is-kind = a .0; size = b .0; stack = c .0; segments = d .0; room = unless-zero (isLogRoom C) 5 0 (d .1) .0 }
+
+  pub given-begin : Given kind n wanted S C → beginRefusal kind n wanted S C ≡ 0
+  unfolding beginRefusal sizeRefusal
+  given-begin g = rw (g .is-kind, g .size, g .stack, g .segments, g .room)
+
+-- ---- coherence
+
+pub record Coherent (job : Job) : Type 0 where
+  pub begins : beginRefusal (job .kind) (job .n) (job .wanted) (job .size) (job .room) ≡ 0
+  pub phase-fits : phaseFits (job .phase) ≡ true
+  pub passed-fits : (j : ℕ) → j < segmentLimit → passedOf job j ≤ stacksOf job j
+  pub waiting-fits : (j : ℕ) → j < segmentLimit → waitingOf job j ≤ cond (ltb j (segmentsOf job)) (job .room) 0
+  pub counts-fit : (d : ℕ) → countOf job d ≤ countLimit
+
+module _ (job : Job) where
+  pub coherent-facts : isCoherent job ≡ true → Coherent job
+  unfolding isCoherent segmentFits countFits countOf
+  coherent-facts h =
+      let begins = eqb (beginRefusal (job .kind) (job .n) (job .wanted) (job .size) (job .room)) 0 in
+      let phase = phaseFits (job .phase) in
+      let segments = all (segmentFits job) (from 0 segmentLimit) in
+      let counts = all countFits (job .counts) in
+      let three = and-left (begins && phase && segments) counts h in
+      let two = and-left (begins && phase) segments three in
+      let each : (j : ℕ) → j < segmentLimit → segmentFits job j ≡ true =
+      λ j l. all-below (segmentFits job) segmentLimit j (and-right (begins && phase) segments three) l in
+      record {
+        begins = eqb-true (beginRefusal (job .kind) (job .n) (job .wanted) (job .size) (job .room)) 0 (and-left begins phase two);
+        phase-fits = and-right begins phase two;
+        passed-fits = λ j l. leb-true (passedOf job j) (stacksOf job j)
+            (and-left (leb (passedOf job j) (stacksOf job j)) (leb (waitingOf job j) (cond (ltb j (segmentsOf job)) (job .room) 0)) (each j l));
+        waiting-fits = λ j l. leb-true (waitingOf job j) (cond (ltb j (segmentsOf job)) (job .room) 0)
+            (and-right (leb (passedOf job j) (stacksOf job j)) (leb (waitingOf job j) (cond (ltb j (segmentsOf job)) (job .room) 0)) (each j l));
+        counts-fit = λ d. go d (and-right (begins && phase && segments) counts h) (lt-or-ge d (length (job .counts)));
+      }
+    where
+      go : (d : ℕ) → all countFits (job .counts) ≡ true → (d < length (job .counts)) ⊎ (length (job .counts) ≤ d) → getD (job .counts) d 0 ≤ countLimit
+      go d h (inl l) = leb-true (getD (job .counts) d 0) countLimit (all-at countFits (job .counts) d 0 h l)
+      go d h (inr l) = rw (List·getD-eq-default (job .counts) 0 l) (omega arith)
+
+  pub facts-coherent : Coherent job → isCoherent job ≡ true
+  unfolding isCoherent segmentFits countFits countOf
+  facts-coherent c =
+      let begins = eqb (beginRefusal (job .kind) (job .n) (job .wanted) (job .size) (job .room)) 0 in
+      let phase = phaseFits (job .phase) in
+      let segments = all (segmentFits job) (from 0 segmentLimit) in
+      let counts = all countFits (job .counts) in
+      and-both (begins && phase && segments) counts
+      (and-both (begins && phase) segments
+      (and-both begins phase (eq-eqb (beginRefusal (job .kind) (job .n) (job .wanted) (job .size) (job .room)) 0 (c .begins)) (c .phase-fits))
+      (below-all (segmentFits job) segmentLimit
+      (λ j l. and-both (leb (passedOf job j) (stacksOf job j)) (leb (waitingOf job j) (cond (ltb j (segmentsOf job)) (job .room) 0))
+      (le-leb (passedOf job j) (stacksOf job j) (c .passed-fits j l))
+      (le-leb (waitingOf job j) (cond (ltb j (segmentsOf job)) (job .room) 0) (c .waiting-fits j l)))))
+      (at-all countFits (job .counts) 0 (λ d l. le-leb (getD (job .counts) d 0) countLimit (c .counts-fit d)))

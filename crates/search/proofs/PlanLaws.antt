@@ -1,0 +1,300 @@
+-- Laws of Plan: an accepted plan is a road to the wanted stack whatever the table holds, and over a right table it is there and has the fewest turns.
+use mathlib.Core.Path.{_≡_, refl, sym, ap, _∙_, subst}
+use mathlib.Core.Logic.{_⊎_, inl, inr}
+use mathlib.Core.Bool.{Bool, true, false, not, _&&_, cond, false≢true}
+use mathlib.Core.List.{List, [], _∷_, _++_}
+use Prim.Native.Nat.{ℕ, zero, suc, _+_, _-_, _%_, _<_, _≤_, zero-le}
+use native.Mathlib.Nat.{suc-ne-zero}
+use native.Mathlib.Omega.{arith}
+use lib.Dec.{leb, eqb}
+use lib.IntN.{ℤ}
+use lib.ListN.{length, length-append}
+use borrow.Author.Tests.{leb-true, le-leb, eqb-true, eq-eqb, ne-eqb}
+use Rattle.base.specs.Words.{unless, all}
+use Rattle.base.proofs.Tests.{and-right, and-both, test-cases, never}
+use Rattle.graph.specs.Walks.{isMove}
+use Rattle.graph.proofs.Moves.{isMove-cases, isMove-first, isMove-rest}
+use Rattle.graph.proofs.Depths.{Depths, nearer-label}
+use Rattle.stacks.specs.Stack.{isKind, isSize, isStack, stackCount}
+use Rattle.stacks.specs.Index.{rankOf}
+use Rattle.stacks.specs.Turn.{isTurn, turnsOf, turnOf, turnsFrom, turnBound, Road, Fewest}
+use Rattle.stacks.specs.Operations.{sizeRefusal}
+use Rattle.stacks.proofs.Numbering.{rank-lt, rank-injective}
+use Rattle.stacks.proofs.Roads.{road-none, road-append}
+use Rattle.stacks.proofs.TurnLaws.{turned-stack, turns-stack}
+use Rattle.stacks.proofs.TurnBound.{turn-bound-30}
+use Rattle.search.specs.Entries.{bytesFor, entryAt, unseen, nextEntry}
+use Rattle.search.specs.Plan.{planLimit, Route, entryOf, leadsTo, follow, isWanted, planStep, planRun, routeFrom, hasPlan, planRefusal}
+use Rattle.search.proofs.Turning.{childAt, move-turn, child-rank}
+use Rattle.search.proofs.Fewest.{depth, turn-depths, stack-depth, depth-fewest}
+
+-- ---- what an accepted call was given
+
+unless-zero : (ok : Bool) (r rest : ℕ) → unless ok (suc r) rest ≡ 0 → (ok ≡ true) × (rest ≡ 0)
+unless-zero true r rest h = (refl, h)
+unless-zero false r rest h = absurd (suc-ne-zero r h)
+
+pub record PlanFacts (kind n : ℕ) (wanted given : List ℤ) (table : List ℕ) (room : ℕ) : Type 0 where
+  pub of-kind : isKind kind ≡ true
+  pub of-size : isSize kind n ≡ true
+  pub goal : isStack kind n wanted ≡ true
+  pub start : isStack kind n given ≡ true
+  pub bytes : length table ≡ bytesFor (stackCount kind n)
+  pub wide : planLimit ≤ room
+  pub plan : hasPlan kind n table wanted given ≡ true
+
+module _ (kind n : ℕ) (wanted given : List ℤ) (table : List ℕ) (room : ℕ) where
+  pub plan-facts : planRefusal kind n wanted given table room ≡ 0 → PlanFacts kind n wanted given table room
+  unfolding planRefusal sizeRefusal
+  plan-facts h =
+      let last : ℕ = unless (hasPlan kind n table wanted given) 15 0 in
+      let long : ℕ = unless (leb planLimit room) 10 last in
+      let bytes : ℕ = unless (eqb (length table) (bytesFor (stackCount kind n))) 10 long in
+      let start : ℕ = unless (isStack kind n given) 3 bytes in
+      let goal : ℕ = unless (isStack kind n wanted) 3 start in
+      let a = unless-zero (isKind kind) 0 (unless (isSize kind n) 2 goal) h in
+      let b = unless-zero (isSize kind n) 1 goal (a .1) in
+      let c = unless-zero (isStack kind n wanted) 2 start (b .1) in
+      let d = unless-zero (isStack kind n given) 2 bytes (c .1) in
+      let e = unless-zero (eqb (length table) (bytesFor (stackCount kind n))) 9 long (d .1) in
+      let f = unless-zero (leb planLimit room) 9 last (e .1) in
+      let g = unless-zero (hasPlan kind n table wanted given) 14 0 (f .1) in
+      record {
+        of-kind = a .0;
+        of-size = b .0;
+        goal = c .0;
+        start = d .0;
+        bytes = eqb-true (length table) (bytesFor (stackCount kind n)) (e .0);
+        wide = leb-true planLimit room (f .0);
+        plan = g .0;
+      }
+
+  pub facts-plan : PlanFacts kind n wanted given table room → planRefusal kind n wanted given table room ≡ 0
+  unfolding planRefusal sizeRefusal
+  facts-plan f =
+      rw (
+        f .of-kind,
+        f .of-size,
+        f .goal,
+        f .start,
+        eq-eqb (length table) (bytesFor (stackCount kind n)) (f .bytes),
+        le-leb planLimit room (f .wide),
+        f .plan,
+      )
+
+-- ---- a plan in the making, whatever the table holds
+
+-- the route with one more turn
+abbrev onward : ℕ → ℕ → Route → Route
+onward kind k route = record { stack = turnOf kind k (route .stack); turns = route .turns ++ (k ∷ []) }
+
+-- turn k leads from s to a child whose entry is one nearer
+abbrev leadsOn : ℕ → ℕ → List ℕ → List ℤ → ℕ → Bool
+leadsOn kind n table s k = leadsTo kind n table s (nextEntry (nextEntry (entryOf kind n table s))) k
+
+-- a route from the given stack, of at most m turns
+abbrev pub RouteWithin : ℕ → ℕ → List ℤ → ℕ → Route → Type 0
+RouteWithin kind n given m route = Road kind n (route .turns) given (route .stack) × (length (route .turns) ≤ m)
+
+module _ (kind n : ℕ) (table : List ℕ) (wanted given : List ℤ) where
+  onward-within : (k m : ℕ) (route : Route) → isTurn kind n k ≡ true → RouteWithin kind n given m route
+      → RouteWithin kind n given (suc m) (onward kind k route)
+  unfolding turnsFrom all
+  onward-within k m route t u =
+      (road-append (u .0) (record { turns = and-both (isTurn kind n k) true t refl; arrives = refl }), rw length-append (omega (arith, u .1)))
+
+  follow-within : (ks : List ℕ) (m : ℕ) (route : Route) → ((k : ℕ) → isMove ks k ≡ true → isTurn kind n k ≡ true)
+      → RouteWithin kind n given m route → RouteWithin kind n given (suc m) (follow kind n table ks route)
+  unfolding follow
+  follow-within [] m route t u = (u .0, omega (arith, u .1))
+  follow-within (k ∷ ks) m route t u =
+      go (leadsOn kind n table (route .stack) k) (follow-within ks m route (λ j i. t j (isMove-rest k ks j i)) u)
+    where
+      go : (b : Bool) → RouteWithin kind n given (suc m) (follow kind n table ks route)
+          → RouteWithin kind n given (suc m) (cond b (onward kind k route) (follow kind n table ks route))
+      go true r = onward-within k m route (t k (isMove-first k ks)) u
+      go false r = r
+
+  step-within : (m : ℕ) (route : Route) → RouteWithin kind n given m route → RouteWithin kind n given (suc m) (planStep kind n table wanted route)
+  unfolding planStep
+  step-within m route u = go (isWanted kind n table wanted (route .stack))
+    where
+      go : (b : Bool) → RouteWithin kind n given (suc m) (cond b route (follow kind n table (turnsOf kind n) route))
+      go true = (u .0, omega (arith, u .1))
+      go false = follow-within (turnsOf kind n) m route (move-turn kind n) u
+
+  run-within : (left m : ℕ) (route : Route) → RouteWithin kind n given m route
+      → RouteWithin kind n given (left + m) (planRun kind n table wanted left route)
+  unfolding planRun
+  run-within zero m route u = (u .0, omega (arith, u .1))
+  run-within (suc left) m route u =
+      let r = run-within left (suc m) (planStep kind n table wanted route) (step-within m route u) in
+      (r .0, omega (arith, r .1))
+
+  pub route-within : RouteWithin kind n given planLimit (routeFrom kind n table wanted given)
+  unfolding routeFrom
+  route-within =
+      let r = run-within planLimit 0 (record { stack = given; turns = [] }) (road-none given, zero-le) in
+      (r .0, omega (arith, r .1))
+
+-- an accepted plan leads from the given stack to the wanted one, in at most as many turns as the list must hold
+pub plan-arrives : (kind n : ℕ) (wanted given : List ℤ) (table : List ℕ) (room : ℕ) → planRefusal kind n wanted given table room ≡ 0
+    → Road kind n (routeFrom kind n table wanted given .turns) given wanted × (length (routeFrom kind n table wanted given .turns) ≤ planLimit)
+unfolding hasPlan isWanted
+plan-arrives kind n wanted given table room h =
+    let f : PlanFacts kind n wanted given table room = plan-facts kind n wanted given table room h in
+    let route : Route = routeFrom kind n table wanted given in
+    let r : RouteWithin kind n given planLimit route = route-within kind n table wanted given in
+    let stack : isStack kind n (route .stack) ≡ true =
+    subst (λ (s : List ℤ). isStack kind n s ≡ true) (r .0 .arrives) (turns-stack kind n (f .of-size) (route .turns) given (r .0 .turns) (f .start)) in
+    let same : rankOf kind n (route .stack) ≡ rankOf kind n wanted =
+    eqb-true (rankOf kind n (route .stack)) (rankOf kind n wanted)
+    (and-right (not (eqb (entryOf kind n table given) unseen) && eqb (entryOf kind n table wanted) 0) (isWanted kind n table wanted (route .stack)) (f .plan)) in
+    (subst (Road kind n (route .turns) given) (rank-injective kind n (route .stack) wanted (f .of-size) stack (f .goal) same) (r .0), r .1)
+
+-- ---- over a right table
+
+-- where some turn of the list leads on, the first that does is followed
+follow-first : (kind n : ℕ) (table : List ℕ) (ks : List ℕ) (route : Route) (j : ℕ) → isMove ks j ≡ true
+    → leadsOn kind n table (route .stack) j ≡ true
+    → (k : ℕ) × (isMove ks k ≡ true) × (leadsOn kind n table (route .stack) k ≡ true) × (follow kind n table ks route ≡ onward kind k route)
+unfolding follow isMove
+follow-first kind n table [] route j m l = absurd (false≢true m)
+follow-first kind n table (k ∷ ks) route j m l =
+    go (test-cases (leads k)) (isMove-cases k ks j m) (λ i. follow-first kind n table ks route j i l)
+  where
+    leads : ℕ → Bool
+    leads = leadsOn kind n table (route .stack)
+
+    go : (leads k ≡ true) ⊎ (leads k ≡ false) → (j ≡ k) ⊎ (isMove ks j ≡ true)
+        → (isMove ks j ≡ true → (i : ℕ) × (isMove ks i ≡ true) × (leads i ≡ true) × (follow kind n table ks route ≡ onward kind i route))
+        → (i : ℕ) × (isMove (k ∷ ks) i ≡ true) × (leads i ≡ true)
+        × (cond (leads k) (onward kind k route) (follow kind n table ks route) ≡ onward kind i route)
+    go (inl e) i rest = (k, isMove-first k ks, e, ap (λ (b : Bool). cond b (onward kind k route) (follow kind n table ks route)) e)
+    go (inr e) (inl i) rest = never (sym (ap leads i) ∙ l) e
+    go (inr e) (inr i) rest =
+        let r = rest i in (
+          r .0,
+          isMove-rest k ks (r .0) (r .1),
+          r .2,
+          ap (λ (b : Bool). cond b (onward kind k route) (follow kind n table ks route)) e ∙ r .3,
+        )
+
+-- each entry is the fewest turns modulo 3
+abbrev pub RightTable : ℕ → ℕ → List ℤ → ℕ → List ℕ → Type 0
+RightTable kind n wanted b table =
+    (s : List ℤ) → isStack kind n s ≡ true → entryAt table (rankOf kind n s) ≡ depth kind n wanted b (rankOf kind n s) % 3
+
+module _ (kind n : ℕ) (wanted : List ℤ) (b : ℕ) (table : List ℕ) (size : isSize kind n ≡ true) (goal : isStack kind n wanted ≡ true)
+    (bound : turnBound kind n < b) (right : RightTable kind n wanted b table) where
+  -- the depth of a stack
+  abbrev far : List ℤ → ℕ
+  far s = depth kind n wanted b (rankOf kind n s)
+
+  depths : Depths (stackCount kind n) (turnsOf kind n) (childAt kind n) (rankOf kind n wanted) b (depth kind n wanted b)
+  depths = turn-depths kind n wanted b size goal bound
+
+  module _ (s : List ℤ) (stack : isStack kind n s ≡ true) where
+    child-far : (k : ℕ) → depth kind n wanted b (childAt kind n k (rankOf kind n s)) ≡ far (turnOf kind k s)
+    child-far k = ap (depth kind n wanted b) (child-rank kind n size k s stack)
+
+    turned : (k : ℕ) → isMove (turnsOf kind n) k ≡ true → isStack kind n (turnOf kind k s) ≡ true
+    turned k m = turned-stack kind n size k s (move-turn kind n k m) stack
+
+    -- a turn leads on just where it leads one nearer
+    leads-nearer : (k : ℕ) → isMove (turnsOf kind n) k ≡ true → leadsOn kind n table s k ≡ true → suc (far (turnOf kind k s)) ≡ far s
+    unfolding leadsTo entryOf nextEntry
+    leads-nearer k m l =
+        let e = eqb-true (entryOf kind n table (turnOf kind k s)) (nextEntry (nextEntry (entryOf kind n table s))) l in
+        let c = child-far k in
+        let here = right s stack in
+        let there = right (turnOf kind k s) (turned k m) in
+        let near = nearer-label depths k (rankOf kind n s) m (rank-lt kind n s size stack) (omega arith) in
+        omega arith
+
+    nearer-leads : (k : ℕ) → isMove (turnsOf kind n) k ≡ true → suc (far (turnOf kind k s)) ≡ far s → leadsOn kind n table s k ≡ true
+    unfolding leadsTo entryOf nextEntry
+    nearer-leads k m e =
+        let here = right s stack in
+        let there = right (turnOf kind k s) (turned k m) in
+        eq-eqb (entryOf kind n table (turnOf kind k s)) (nextEntry (nextEntry (entryOf kind n table s))) (omega arith)
+
+    -- some turn leads nearer, unless the stack is the wanted one
+    nearer-turn : 0 < far s → (k : ℕ) × (isMove (turnsOf kind n) k ≡ true) × (suc (far (turnOf kind k s)) ≡ far s)
+    nearer-turn h =
+        let c = depths .closer (rankOf kind n s) h (omega (arith, stack-depth kind n wanted b size goal bound s stack)) in
+        (c .0, c .1, omega (arith, c .2, child-far (c .0)))
+
+    wanted-near : isWanted kind n table wanted s ≡ true → far s ≡ 0
+    unfolding isWanted
+    wanted-near e = ap (depth kind n wanted b) (eqb-true (rankOf kind n s) (rankOf kind n wanted) e) ∙ depths .goal
+
+    near-wanted : far s ≡ 0 → isWanted kind n table wanted s ≡ true
+    unfolding isWanted
+    near-wanted e = eq-eqb (rankOf kind n s) (rankOf kind n wanted) (depths .only-goal (rankOf kind n s) e)
+
+  -- from one route to another that is m turns nearer, or at the wanted stack
+  abbrev Nearer : ℕ → Route → Route → Type 0
+  Nearer m r t =
+      (isStack kind n (t .stack) ≡ true) × (far (t .stack) ≡ far (r .stack) - m) × (length (t .turns) + far (t .stack) ≡ length (r .turns) + far (r .stack))
+
+  step-nearer : (route : Route) → isStack kind n (route .stack) ≡ true → Nearer 1 route (planStep kind n table wanted route)
+  unfolding planStep
+  step-nearer route stack = go (isWanted kind n table wanted s) refl
+    where
+      s : List ℤ
+      s = route .stack
+
+      next : Route
+      next = follow kind n table (turnsOf kind n) route
+
+      go : (t : Bool) → isWanted kind n table wanted s ≡ t → Nearer 1 route (cond t route next)
+      go true e = (stack, omega (arith, wanted-near s stack e), refl)
+      go false e =
+          let away : far s ≡ 0 → ⊥ = λ z. never (near-wanted s stack z) e in
+          let c = nearer-turn s stack (omega arith) in
+          let f = follow-first kind n table (turnsOf kind n) route (c .0) (c .1) (nearer-leads s stack (c .0) (c .1) (c .2)) in
+          let near = leads-nearer s stack (f .0) (f .1) (f .2) in
+          subst (Nearer 1 route) (sym (f .3))
+          (turned s stack (f .0) (f .1), omega arith, omega (arith, length-append (route .turns) (f .0 ∷ [])))
+
+  run-nearer : (left : ℕ) (route : Route) → isStack kind n (route .stack) ≡ true → Nearer left route (planRun kind n table wanted left route)
+  unfolding planRun
+  run-nearer zero route stack = (stack, omega arith, refl)
+  run-nearer (suc left) route stack =
+      let a = step-nearer route stack in
+      let r = run-nearer left (planStep kind n table wanted route) (a .0) in
+      (r .0, omega (arith, a .1, r .1), omega (arith, a .2, r .2))
+
+  module _ (given : List ℤ) (start : isStack kind n given ≡ true) where
+    route-nearer : Nearer planLimit (record { stack = given; turns = [] }) (routeFrom kind n table wanted given)
+    unfolding routeFrom
+    route-nearer = run-nearer planLimit (record { stack = given; turns = [] }) start
+
+    route-ends : far (routeFrom kind n table wanted given .stack) ≡ 0
+    unfolding planLimit
+    route-ends =
+        let r = route-nearer in
+        omega (arith, r .1, stack-depth kind n wanted b size goal bound given start, turn-bound-30 kind n size)
+
+    pub plan-there : hasPlan kind n table wanted given ≡ true
+    unfolding hasPlan entryOf unseen
+    plan-there =
+        rw (
+          ne-eqb (entryAt table (rankOf kind n given)) 3 (λ e. omega (arith, right given start)),
+          eq-eqb (entryAt table (rankOf kind n wanted)) 0 (omega (arith, right wanted goal, depths .goal)),
+          near-wanted (routeFrom kind n table wanted given .stack) (route-nearer .0) route-ends,
+        )
+
+    pub plan-length : length (routeFrom kind n table wanted given .turns) ≡ depth kind n wanted b (rankOf kind n given)
+    plan-length = omega (arith, route-nearer .2, route-ends)
+
+    -- so no road is shorter than the plan
+    pub plan-fewest : Fewest kind n given wanted (length (routeFrom kind n table wanted given .turns))
+    plan-fewest = subst (Fewest kind n given wanted) (sym plan-length) (depth-fewest kind n wanted b size goal bound given start)
+
+    pub plan-accepts : (room : ℕ) → isKind kind ≡ true → length table ≡ bytesFor (stackCount kind n) → planLimit ≤ room
+        → planRefusal kind n wanted given table room ≡ 0
+    plan-accepts room known bytes wide =
+        facts-plan kind n wanted given table room
+        (record { of-kind = known; of-size = size; goal = goal; start = start; bytes = bytes; wide = wide; plan = plan-there })

@@ -1,0 +1,147 @@
+-- A refused call leaves the world as it was; in a build whose buffers have their right lengths, every call that is lent another
+-- buffer is refused, and so is every call on a segment that is not there.
+use mathlib.Core.Path.{_≡_, refl, sym, ap, _∙_}
+use mathlib.Core.Bool.{true, _&&_}
+use mathlib.Core.List.{List, []}
+use Prim.Native.Nat.{ℕ, _<_}
+use native.Mathlib.Omega.{arith}
+use lib.IntN.{ℤ}
+use lib.ListN.{length, getD, set}
+use lib.Seq.{set-getD}
+use Rattle.base.proofs.Tests.{and-both}
+use Rattle.stacks.specs.Stack.{stackCount}
+use Rattle.search.specs.Blank.{blankRefusal}
+use Rattle.search.specs.Build.{World, Lent, Call, own, other, doBlank, doExpand, doSettle, doLook, doClose, lent, kept, isOwn, isLentOwn, outcome}
+use Rattle.search.specs.Close.{closeRefusal, closeOf}
+use Rattle.search.specs.Entries.{bytesFor}
+use Rattle.search.specs.Expand.{expandRefusal}
+use Rattle.search.specs.JobState.{segmentsOf, stacksOf, logLength}
+use Rattle.search.specs.Look.{lookRefusal, lookOf}
+use Rattle.search.specs.Promise.{rightBytes, rightWords}
+use Rattle.search.specs.Segments.{segmentCount}
+use Rattle.search.specs.Settle.{settleRefusal}
+use Rattle.search.specs.declared.Answer.{Answer}
+use Rattle.search.specs.declared.Expanded.{Expanded}
+use Rattle.search.proofs.Accepted.{LevelFacts, blank-facts, expand-facts, settle-facts, look-facts, blank-refused, blank-refusal, expand-refused, expand-refusal, settle-refused, settle-refusal, close-refused}
+use Rattle.search.proofs.Invariant.{Shaped}
+use Rattle.search.proofs.Shapes.{segments-is, stacks-is, area-is}
+
+-- what a call gives back as it was lent it, the build keeps
+kept-lent : {right : ℕ} (buffer : Lent right) (mine : List ℕ) → kept buffer mine (lent buffer mine) ≡ mine
+unfolding kept lent
+kept-lent own mine = refl
+kept-lent (other xs wrong) mine = refl
+
+keeps-segment : {right : ℕ} (segments : List (List ℕ)) (j : ℕ) (buffer : Lent right)
+    → set segments j (kept buffer (getD segments j []) (lent buffer (getD segments j []))) ≡ segments
+keeps-segment segments j buffer =
+    ap (λ (s : List ℕ). set segments j s) (kept-lent buffer (getD segments j [])) ∙ set-getD segments j []
+
+-- a world with what a call on segment j has given back
+abbrev withSegment : {right : ℕ} → World → ℕ → Lent right → List ℕ × Answer → World
+withSegment w j segment out =
+    record {
+      job = out .1 .job;
+      segments = set (w .segments) j (kept segment (getD (w .segments) j []) (out .0));
+      log = w .log;
+    }
+
+module _ {bytes : ℕ → ℕ} {words : ℕ} (w : World) where
+  -- the refusal that a call meets
+  unfoldable pub refusalOf : Call bytes words → ℕ
+  refusalOf (doBlank j segment) = blankRefusal (w .job) j (length (lent segment (getD (w .segments) j [])))
+  refusalOf (doExpand j segment log) =
+      expandRefusal (w .job) j (length (lent segment (getD (w .segments) j []))) (length (lent log (w .log)))
+  refusalOf (doSettle j segment log) =
+      settleRefusal (w .job) j (length (lent segment (getD (w .segments) j []))) (lent log (w .log))
+  refusalOf (doLook j log) = lookRefusal (w .job) j (length (lent log (w .log)))
+  refusalOf doClose = closeRefusal (w .job)
+
+  pub refusal-is : (call : Call bytes words) → outcome w call .refusal ≡ refusalOf call
+  unfolding outcome refusalOf lookOf closeOf
+  refusal-is (doBlank j segment) = blank-refusal (w .job) j (lent segment (getD (w .segments) j []))
+  refusal-is (doExpand j segment log) = expand-refusal (w .job) j (lent segment (getD (w .segments) j [])) (lent log (w .log))
+  refusal-is (doSettle j segment log) = settle-refusal (w .job) j (lent segment (getD (w .segments) j [])) (lent log (w .log))
+  refusal-is (doLook j log) = refl
+  refusal-is doClose = refl
+
+  same-world : (call : Call bytes words) → (refusalOf call ≡ 0 → ⊥) → outcome w call .world ≡ w
+  unfolding outcome refusalOf
+  same-world (doBlank j segment) h =
+      ap (withSegment w j segment) (blank-refused (w .job) j (lent segment (getD (w .segments) j [])) h)
+      ∙ ap (λ (x : List (List ℕ)). record { job = w .job; segments = x; log = w .log }) (keeps-segment (w .segments) j segment)
+  same-world (doExpand j segment log) h =
+      ap (λ (o : List ℕ × List ℕ × Expanded). record {
+        job = o .2 .job;
+        segments = set (w .segments) j (kept segment (getD (w .segments) j []) (o .0));
+        log = kept log (w .log) (o .1);
+      }) (expand-refused (w .job) j (lent segment (getD (w .segments) j [])) (lent log (w .log)) h)
+      ∙ ap (λ (x : List (List ℕ)). record { job = w .job; segments = x; log = kept log (w .log) (lent log (w .log)) })
+      (keeps-segment (w .segments) j segment)
+      ∙ ap (λ (x : List ℕ). record { job = w .job; segments = w .segments; log = x }) (kept-lent log (w .log))
+  same-world (doSettle j segment log) h =
+      ap (withSegment w j segment) (settle-refused (w .job) j (lent segment (getD (w .segments) j [])) (lent log (w .log)) h)
+      ∙ ap (λ (x : List (List ℕ)). record { job = w .job; segments = x; log = w .log }) (keeps-segment (w .segments) j segment)
+  same-world (doLook j log) h = refl
+  same-world doClose h = ap (λ (o : Answer). record { job = o .job; segments = w .segments; log = w .log }) (close-refused (w .job) h)
+
+  pub refused-same : (call : Call bytes words) → (outcome w call .refusal ≡ 0 → ⊥) → outcome w call .world ≡ w
+  refused-same call h = same-world call (λ e. h (refusal-is call ∙ e))
+
+-- ---- wrong arguments are refused
+
+-- the segment that a call names
+unfoldable pub Names : {bytes : ℕ → ℕ} {words : ℕ} → Call bytes words → ℕ → Type 0
+Names (doBlank j segment) i = j ≡ i
+Names (doExpand j segment log) i = j ≡ i
+Names (doSettle j segment log) i = j ≡ i
+Names (doLook j log) i = j ≡ i
+Names doClose i = ⊥
+
+module _ {kind n : ℕ} {wanted : List ℤ} {S C : ℕ} {w : World} (shaped : Shaped kind n wanted S C w) where
+  own-segment : (j : ℕ) (segment : Lent (rightBytes kind n S j))
+      → length (lent segment (getD (w .segments) j [])) ≡ bytesFor (stacksOf (w .job) j) → isOwn segment ≡ true
+  unfolding rightBytes lent isOwn
+  own-segment j own h = refl
+  own-segment j (other xs wrong) h = absurd (wrong (h ∙ ap bytesFor (stacks-is shaped j)))
+
+  own-log : (log : Lent (rightWords kind n S C)) → length (lent log (w .log)) ≡ logLength (w .job) → isOwn log ≡ true
+  unfolding rightWords lent isOwn
+  own-log own h = refl
+  own-log (other xs wrong) h = absurd (wrong (h ∙ area-is shaped))
+
+  own-both : (j : ℕ) (segment : Lent (rightBytes kind n S j)) (log : Lent (rightWords kind n S C))
+      → LevelFacts (w .job) j (length (lent segment (getD (w .segments) j []))) (length (lent log (w .log)))
+      → (isOwn segment && isOwn log) ≡ true
+  own-both j segment log f = and-both (isOwn segment) (isOwn log) (own-segment j segment (f .long)) (own-log log (f .wide))
+
+  own-accepted : (call : Call (rightBytes kind n S) (rightWords kind n S C)) → refusalOf w call ≡ 0 → isLentOwn call ≡ true
+  unfolding refusalOf isLentOwn
+  own-accepted (doBlank j segment) e = own-segment j segment (blank-facts (w .job) j (length (lent segment (getD (w .segments) j []))) e .long)
+  own-accepted (doExpand j segment log) e =
+      own-both j segment log (expand-facts (w .job) j (length (lent segment (getD (w .segments) j []))) (length (lent log (w .log))) e .0)
+  own-accepted (doSettle j segment log) e =
+      own-both j segment log (settle-facts (w .job) j (length (lent segment (getD (w .segments) j []))) (lent log (w .log)) e .0)
+  own-accepted (doLook j log) e = own-log log (look-facts (w .job) j (length (lent log (w .log))) e .wide)
+  own-accepted doClose e = refl
+
+  inside-accepted : (call : Call (rightBytes kind n S) (rightWords kind n S C)) (i : ℕ) → Names call i → refusalOf w call ≡ 0
+      → i < segmentsOf (w .job)
+  unfolding refusalOf Names
+  inside-accepted (doBlank j segment) i q e =
+      omega (arith, blank-facts (w .job) j (length (lent segment (getD (w .segments) j []))) e .inside)
+  inside-accepted (doExpand j segment log) i q e =
+      omega (arith, expand-facts (w .job) j (length (lent segment (getD (w .segments) j []))) (length (lent log (w .log))) e .0 .inside)
+  inside-accepted (doSettle j segment log) i q e =
+      omega (arith, settle-facts (w .job) j (length (lent segment (getD (w .segments) j []))) (lent log (w .log)) e .0 .inside)
+  inside-accepted (doLook j log) i q e = omega (arith, look-facts (w .job) j (length (lent log (w .log))) e .inside)
+  inside-accepted doClose i q e = absurd q
+
+  -- a call lent another buffer is refused
+  pub accepted-own : (call : Call (rightBytes kind n S) (rightWords kind n S C)) → outcome w call .refusal ≡ 0 → isLentOwn call ≡ true
+  accepted-own call h = own-accepted call (sym (refusal-is w call) ∙ h)
+
+  -- so is a call that names a segment from G up
+  pub accepted-inside : (call : Call (rightBytes kind n S) (rightWords kind n S C)) (j : ℕ) → Names call j → outcome w call .refusal ≡ 0
+      → j < segmentCount (stackCount kind n) S
+  accepted-inside call j q h = rw (segments-is shaped) at (inside-accepted call j q (sym (refusal-is w call) ∙ h))

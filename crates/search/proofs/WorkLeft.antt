@@ -1,0 +1,125 @@
+-- How much a build has left to do, as a number that falls: levels first, then stacks not passed, then logs with entries.
+use mathlib.Core.Path.{_≡_, refl, sym, ap, _∙_}
+use mathlib.Core.Bool.{Bool, true, false, not, _&&_, and-true}
+use Prim.Native.Nat.{ℕ, suc, _+_, _-_, _*_, _/_, _%_, _≤_, _<_}
+use native.Mathlib.Nat.{suc-mul, mul-le-mul-right}
+use native.Mathlib.Omega.{arith}
+use lib.Dec.{leb, ltb, eqb}
+use borrow.Author.Tests.{lt-ltb, le-ltb, leb-true, le-leb, lt-leb, eq-eqb, ne-eqb}
+use Rattle.base.specs.Words.{tally, from}
+use Rattle.base.proofs.Counting.{tally-mono}
+use Rattle.base.proofs.Tests.{and-both, and-fails-right, never}
+use Rattle.graph.proofs.Tally.{tally-le, tally-one-more}
+use Rattle.search.specs.Drive.{isPending}
+use Rattle.search.specs.JobState.{lastLevel, passedOf, waitingOf}
+use Rattle.search.specs.Segments.{segmentCount, stacksIn}
+use Rattle.search.specs.declared.Job.{Job}
+use Rattle.search.specs.declared.Phase.{Phase}
+use Rattle.search.specs.declared.Phase.the-variants.{Blanking, Level, Finished}
+use Rattle.search.proofs.SegmentLaws.{segment-stack, segment-stack-div, segment-stack-mod}
+
+-- what fails where a test holds once more counts less
+pub tally-falls : (p q : ℕ → Bool) (n v : ℕ) → v < n → p v ≡ false → q v ≡ true → ((u : ℕ) → p u ≡ true → q u ≡ true)
+    → tally p (from 0 n) < tally q (from 0 n)
+tally-falls p q n v h e i less =
+    let r : ℕ → Bool = λ u. q u && not (eqb u v) in
+    omega (
+      arith,
+      tally-one-more r q n v h
+          (and-fails-right (q v) (not (eqb v v)) (ap not (eq-eqb v v refl)))
+          i
+          (λ u l ne. sym (ap (λ (t : Bool). q u && not t) (ne-eqb u v ne) ∙ and-true (q u))),
+      tally-mono p r
+          (λ u t. and-both (q u) (not (eqb u v)) (less u t)
+          (ap not (ne-eqb u v (λ s. never t (ap p s ∙ e)))))
+          (from 0 n),
+    )
+
+unfoldable pub levelsLeft : Phase → ℕ
+levelsLeft Blanking = suc lastLevel
+levelsLeft (Level d) = suc lastLevel - d
+levelsLeft (Finished d) = 0
+
+-- stack v is not passed
+unfoldable pub isLeft : ℕ → Job → ℕ → Bool
+isLeft S job v = leb (passedOf job (v / S)) (v % S)
+
+module _ (N S : ℕ) where
+  unfoldable pub stacksLeft : Job → ℕ
+  stacksLeft job = tally (isLeft S job) (from 0 N)
+
+  unfoldable pub logsLeft : Job → ℕ
+  logsLeft job = tally (isPending job) (from 0 (segmentCount N S))
+
+  unfoldable pub workLeft : Job → ℕ
+  workLeft job = (levelsLeft (job .phase) * suc N + stacksLeft job) * suc (segmentCount N S) + logsLeft job
+
+  -- the first of two digits decides
+  pub digits-less : (m q r u v : ℕ) → r < m → q < u → q * m + r < u * m + v
+  digits-less m q r u v h l = omega (arith, suc-mul q m, mul-le-mul-right m l)
+
+  pub stacks-le : (job : Job) → stacksLeft job ≤ N
+  unfolding stacksLeft
+  stacks-le job = tally-le (isLeft S job) N
+
+  pub logs-le : (job : Job) → logsLeft job ≤ segmentCount N S
+  unfolding logsLeft
+  logs-le job = tally-le (isPending job) (segmentCount N S)
+
+  module _ (a b : Job) where
+    pub levels-work : levelsLeft (b .phase) < levelsLeft (a .phase) → workLeft b < workLeft a
+    unfolding workLeft
+    levels-work h =
+        digits-less (suc (segmentCount N S)) (levelsLeft (b .phase) * suc N + stacksLeft b) (logsLeft b)
+        (levelsLeft (a .phase) * suc N + stacksLeft a)
+        (logsLeft a)
+        (omega (arith, logs-le b))
+        (digits-less (suc N) (levelsLeft (b .phase)) (stacksLeft b) (levelsLeft (a .phase)) (stacksLeft a) (omega (arith, stacks-le b)) h)
+
+    pub stacks-work : b .phase ≡ a .phase → stacksLeft b < stacksLeft a → workLeft b < workLeft a
+    unfolding workLeft
+    stacks-work e h =
+        digits-less (suc (segmentCount N S)) (levelsLeft (b .phase) * suc N + stacksLeft b) (logsLeft b)
+        (levelsLeft (a .phase) * suc N + stacksLeft a)
+        (logsLeft a)
+        (omega (arith, logs-le b))
+        (omega (arith, ap (λ (p : Phase). levelsLeft p * suc N) e))
+
+    pub logs-work : b .phase ≡ a .phase → stacksLeft b ≡ stacksLeft a → logsLeft b < logsLeft a → workLeft b < workLeft a
+    unfolding workLeft
+    logs-work e s h =
+        omega (
+          arith,
+          ap (λ (x : ℕ). x * suc (segmentCount N S))
+              (let q : levelsLeft (b .phase) * suc N + stacksLeft b ≡ levelsLeft (a .phase) * suc N + stacksLeft a =
+              omega (arith, ap (λ (p : Phase). levelsLeft p * suc N) e) in q),
+        )
+
+    pub stacks-fall : 0 < S → (j : ℕ) → passedOf a j < stacksIn N S j → passedOf a j < passedOf b j
+        → ((i : ℕ) → passedOf a i ≤ passedOf b i) → stacksLeft b < stacksLeft a
+    unfolding stacksLeft isLeft
+    stacks-fall some j left more each =
+        let x = passedOf a j in
+        let v = j * S + x in
+        let home = segment-stack-div N S some j x left in
+        let place = segment-stack-mod N S some j x left in
+        tally-falls (isLeft S b) (isLeft S a) N v (segment-stack N S some j x left)
+        (lt-leb (passedOf b (v / S)) (v % S) (omega (arith, ap (passedOf b) home)))
+        (le-leb (passedOf a (v / S)) (v % S) (omega (arith, ap (passedOf a) home)))
+        (λ u t. le-leb (passedOf a (u / S)) (u % S) (omega (arith, leb-true (passedOf b (u / S)) (u % S) t, each (u / S))))
+
+    pub stacks-stay : ((i : ℕ) → passedOf b i ≡ passedOf a i) → stacksLeft b ≡ stacksLeft a
+    unfolding stacksLeft isLeft
+    stacks-stay same = ap (λ (f : ℕ → ℕ). tally (λ v. leb (f (v / S)) (v % S)) (from 0 N)) (λ i x. same x i)
+
+    pub logs-fall : (j : ℕ) → j < segmentCount N S → 0 < waitingOf a j → waitingOf b j ≡ 0
+        → ((i : ℕ) → (i ≡ j → ⊥) → waitingOf b i ≡ waitingOf a i) → logsLeft b < logsLeft a
+    unfolding logsLeft isPending
+    logs-fall j h some none same =
+        omega (
+          arith,
+          tally-one-more (isPending b) (isPending a) (segmentCount N S) j h
+              (le-ltb 0 (waitingOf b j) (omega arith))
+              (lt-ltb 0 (waitingOf a j) some)
+              (λ u l ne. ap (ltb 0) (sym (same u ne))),
+        )

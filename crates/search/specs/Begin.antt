@@ -1,0 +1,32 @@
+-- Begin.
+use mathlib.Core.Bool.{cond}
+use mathlib.Core.List.{List}
+use Prim.Native.Nat.{ℕ}
+use lib.Dec.{eqb}
+use lib.IntN.{ℤ, pos}
+use lib.ListN.{replicate}
+use Rattle.search.specs.JobState.{beginRefusal}
+use Rattle.search.specs.declared.Answer.{Answer}
+use Rattle.search.specs.declared.Job.{Job}
+use Rattle.search.specs.declared.Phase.the-variants.{Blanking}
+
+-- a job in Blanking with all passed and waiting numbers and counts 0
+unfoldable pub begun : ℕ → ℕ → List ℤ → ℕ → ℕ → Job
+begun kind n wanted S C =
+    record {
+      kind = kind;
+      n = n;
+      wanted = wanted;
+      size = S;
+      room = C;
+      phase = Blanking;
+      passed = replicate 64 0;
+      waiting = replicate 64 0;
+      counts = replicate 32 0;
+    }
+
+-- refused, a job of zeros, of which every later call says 7
+unfoldable pub beginOf : ℕ → ℕ → List ℤ → ℕ → ℕ → Answer
+beginOf kind n wanted S C =
+    let r = beginRefusal kind n wanted S C in
+    record { refusal = r; job = cond (eqb r 0) (begun kind n wanted S C) (begun 0 0 (replicate 12 (pos 0)) 0 0) }

@@ -1,0 +1,43 @@
+-- Blank a segment: what it leaves in the segment, and its answer.
+use mathlib.Core.Bool.{Bool, cond}
+use mathlib.Core.List.{List}
+use Prim.Native.Nat.{ℕ, _/_, _%_}
+use lib.Dec.{ltb, eqb}
+use lib.ListN.{length, set}
+use Rattle.base.specs.Words.{unless}
+use Rattle.stacks.specs.Index.{rankOf}
+use Rattle.search.specs.Entries.{bytesFor, blank, setEntry}
+use Rattle.search.specs.JobState.{isCoherent, isBlanking, segmentsOf, stacksOf, passedOf, progressed}
+use Rattle.search.specs.declared.Answer.{Answer}
+use Rattle.search.specs.declared.Job.{Job}
+
+unfoldable pub blankRefusal : Job → ℕ → ℕ → ℕ
+blankRefusal job j bytes =
+    unless (isCoherent job) 7
+    (unless (isBlanking (job .phase)) 8
+    (unless (ltb j (segmentsOf job)) 9
+    (unless (eqb bytes (bytesFor (stacksOf job j))) 10
+    (unless (ltb (passedOf job j) (stacksOf job j)) 11 0))))
+
+-- the index of the wanted stack
+unfoldable pub goalOf : Job → ℕ
+goalOf job = rankOf (job .kind) (job .n) (job .wanted)
+
+-- all entries 3, and that of the wanted stack, if here, 0
+unfoldable pub blanked : Job → ℕ → List ℕ
+blanked job j =
+    cond (eqb (goalOf job / job .size) j)
+    (setEntry (blank (stacksOf job j)) (goalOf job % job .size) 0)
+    (blank (stacksOf job j))
+
+unfoldable pub blankOf : Job → ℕ → List ℕ → List ℕ × Answer
+blankOf job j segment =
+    let r = blankRefusal job j (length segment) in
+    cond (eqb r 0) (
+      blanked job j,
+      record {
+        refusal = 0;
+        job = progressed job (job .phase) (set (job .passed) j (stacksOf job j)) (job .waiting) (job .counts);
+      },
+    )
+    (segment, record { refusal = r; job = job })

@@ -1,0 +1,47 @@
+-- Close: from one phase to the next.
+use mathlib.Core.Bool.{Bool, true, false, not, _&&_, cond}
+use mathlib.Core.List.{List}
+use Prim.Native.Nat.{ℕ, suc, _+_, _-_}
+use lib.Dec.{eqb}
+use lib.ListN.{set, replicate}
+use Rattle.base.specs.Words.{unless, all, from}
+use Rattle.search.specs.JobState.{isCoherent, isFinished, levelOf, lastLevel, segmentsOf, stacksOf, passedOf, waitingOf, countOf, progressed}
+use Rattle.search.specs.declared.Answer.{Answer}
+use Rattle.search.specs.declared.Job.{Job}
+use Rattle.search.specs.declared.Phase.{Phase}
+use Rattle.search.specs.declared.Phase.the-variants.{Blanking, Level, Finished}
+
+-- ready to close: each segment has all its stacks passed and no entry waiting
+unfoldable pub isDone : Job → ℕ → Bool
+isDone job j = eqb (passedOf job j) (stacksOf job j) && eqb (waitingOf job j) 0
+
+unfoldable pub isReady : Job → Bool
+isReady job = all (isDone job) (from 0 (segmentsOf job))
+
+-- no level after the last
+unfoldable pub isPastLast : Job → Bool
+isPastLast job = eqb (levelOf (job .phase)) lastLevel && not (eqb (countOf job lastLevel) 0)
+
+unfoldable pub closeRefusal : Job → ℕ
+closeRefusal job =
+    unless (isCoherent job) 7 (unless (not (isFinished (job .phase))) 8 (unless (isReady job) 13 (unless (not (isPastLast job)) 14 0)))
+
+-- the phase after one that closes: a level that brought nothing new ends the search
+unfoldable pub nextPhase : Job → Phase → Phase
+nextPhase job Blanking = Level 1
+nextPhase job (Level d) = cond (eqb (countOf job d) 0) (Finished (d - 1)) (Level (d + 1))
+nextPhase job (Finished d) = Finished d
+
+-- when Blanking closes, count 0 is set to 1
+unfoldable pub nextCounts : Job → Phase → List ℕ
+nextCounts job Blanking = set (job .counts) 0 1
+nextCounts job (Level d) = job .counts
+nextCounts job (Finished d) = job .counts
+
+-- each close sets all passed numbers to 0
+unfoldable pub closed : Job → Job
+closed job = progressed job (nextPhase job (job .phase)) (replicate 64 0) (job .waiting) (nextCounts job (job .phase))
+
+unfoldable pub closeOf : Job → Answer
+closeOf job =
+    let r = closeRefusal job in record { refusal = r; job = cond (eqb r 0) (closed job) job }

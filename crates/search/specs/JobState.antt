@@ -1,0 +1,107 @@
+-- The job: what its fields mean, and when it is coherent (document 01, "The job").
+--   the five       kind, n, wanted stack, S and C: what Begin is given
+--   stacksOf       m of segment j
+--   progressed     the job with another phase, passed, waiting and counts
+use mathlib.Core.Bool.{Bool, true, false, _&&_, cond}
+use mathlib.Core.List.{List}
+use Prim.Native.Nat.{ℕ, _^_, _*_}
+use lib.Dec.{leb, ltb, eqb}
+use lib.IntN.{ℤ}
+use lib.ListN.{getD}
+use Rattle.base.specs.Words.{unless, all, from}
+use Rattle.stacks.specs.Stack.{isStack, stackCount}
+use Rattle.stacks.specs.Operations.{sizeRefusal}
+use Rattle.search.specs.Segments.{segmentLimit, segmentCount, stacksIn, isSegmentSize, isLogRoom}
+use Rattle.search.specs.declared.Job.{Job}
+use Rattle.search.specs.declared.Phase.{Phase}
+use Rattle.search.specs.declared.Phase.the-variants.{Blanking, Level, Finished}
+
+-- the limits, named once: the last level that is searched, and the most that a count may be in a coherent job
+unfoldable pub lastLevel : ℕ
+lastLevel = 31
+
+unfoldable pub countLimit : ℕ
+countLimit = 2 ^ 60
+
+-- Begin's refusals: 1, 2, 3 for the wanted stack, 5 for S, 6 for C
+unfoldable pub beginRefusal : ℕ → ℕ → List ℤ → ℕ → ℕ → ℕ
+beginRefusal kind n wanted S C =
+    sizeRefusal kind n
+    (unless (isStack kind n wanted) 3 (unless (isSegmentSize (stackCount kind n) S) 5 (unless (isLogRoom C) 6 0)))
+
+-- N, G and m of the job
+unfoldable pub stacksAll : Job → ℕ
+stacksAll job = stackCount (job .kind) (job .n)
+
+unfoldable pub segmentsOf : Job → ℕ
+segmentsOf job = segmentCount (stacksAll job) (job .size)
+
+unfoldable pub stacksOf : Job → ℕ → ℕ
+stacksOf job j = stacksIn (stacksAll job) (job .size) j
+
+unfoldable pub logLength : Job → ℕ
+logLength job = segmentsOf job * job .room
+
+unfoldable pub passedOf : Job → ℕ → ℕ
+passedOf job j = getD (job .passed) j 0
+
+unfoldable pub waitingOf : Job → ℕ → ℕ
+waitingOf job j = getD (job .waiting) j 0
+
+unfoldable pub countOf : Job → ℕ → ℕ
+countOf job d = getD (job .counts) d 0
+
+unfoldable pub isBlanking : Phase → Bool
+isBlanking Blanking = true
+isBlanking (Level d) = false
+isBlanking (Finished d) = false
+
+unfoldable pub isLevel : Phase → Bool
+isLevel Blanking = false
+isLevel (Level d) = true
+isLevel (Finished d) = false
+
+unfoldable pub isFinished : Phase → Bool
+isFinished Blanking = false
+isFinished (Level d) = false
+isFinished (Finished d) = true
+
+-- the level that a phase carries
+unfoldable pub levelOf : Phase → ℕ
+levelOf Blanking = 0
+levelOf (Level d) = d
+levelOf (Finished d) = d
+
+-- d is 1 to 31, deepest 0 to 30
+unfoldable pub phaseFits : Phase → Bool
+phaseFits Blanking = true
+phaseFits (Level d) = leb 1 d && leb d lastLevel
+phaseFits (Finished d) = ltb d lastLevel
+
+-- passed is at most m, waiting at most C, both 0 from segment G up; m is 0 there
+unfoldable pub segmentFits : Job → ℕ → Bool
+segmentFits job j = leb (passedOf job j) (stacksOf job j) && leb (waitingOf job j) (cond (ltb j (segmentsOf job)) (job .room) 0)
+
+unfoldable pub countFits : ℕ → Bool
+countFits count = leb count countLimit
+
+unfoldable pub isCoherent : Job → Bool
+isCoherent job =
+    eqb (beginRefusal (job .kind) (job .n) (job .wanted) (job .size) (job .room)) 0
+    && phaseFits (job .phase)
+    && all (segmentFits job) (from 0 segmentLimit)
+    && all countFits (job .counts)
+
+unfoldable pub progressed : Job → Phase → List ℕ → List ℕ → List ℕ → Job
+progressed job phase passed waiting counts =
+    record {
+      kind = job .kind;
+      n = job .n;
+      wanted = job .wanted;
+      size = job .size;
+      room = job .room;
+      phase = phase;
+      passed = passed;
+      waiting = waiting;
+      counts = counts;
+    }

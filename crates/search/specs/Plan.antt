@@ -1,0 +1,79 @@
+-- Plan: what it leaves in the turn list, and its answer.
+use mathlib.Core.Bool.{Bool, true, false, not, _&&_, cond}
+use mathlib.Core.List.{List, [], _∷_, _++_}
+use Prim.Native.Nat.{ℕ, zero, suc, _+_, _%_}
+use lib.Dec.{leb, eqb}
+use lib.IntN.{ℤ}
+use lib.ListN.{length, drop}
+use Rattle.base.specs.Words.{unless}
+use Rattle.stacks.specs.Index.{rankOf}
+use Rattle.stacks.specs.Stack.{isStack, stackCount}
+use Rattle.stacks.specs.Turn.{turnOf, turnsOf}
+use Rattle.stacks.specs.Operations.{sizeRefusal}
+use Rattle.search.specs.Entries.{bytesFor, entryAt, unseen, nextEntry}
+use Rattle.search.specs.declared.Planned.{Planned}
+
+-- as many turns as a plan may have, and as the list must hold
+unfoldable pub planLimit : ℕ
+planLimit = 30
+
+-- a plan in the making: the stack that it has come to, and its turns so far
+pub record Route : Type 0 where
+  pub stack : List ℤ
+  pub turns : List ℕ
+
+module _ (kind n : ℕ) (table : List ℕ) where
+  -- the entry of a stack
+  unfoldable pub entryOf : List ℤ → ℕ
+  entryOf s = entryAt table (rankOf kind n s)
+
+  -- the turns of a list that lead from s to a child with entry v
+  unfoldable pub leadsTo : List ℤ → ℕ → ℕ → Bool
+  leadsTo s v k = eqb (entryOf (turnOf kind k s)) v
+
+  -- the route with the first turn of the list that leads one nearer, unchanged where none does
+  unfoldable pub follow : List ℕ → Route → Route
+  follow [] route = route
+  follow (k ∷ ks) route =
+      let s = route .stack in
+      cond (leadsTo s (nextEntry (nextEntry (entryOf s))) k)
+      (record { stack = turnOf kind k s; turns = route .turns ++ (k ∷ []) })
+      (follow ks route)
+
+  module _ (wanted : List ℤ) where
+    unfoldable pub isWanted : List ℤ → Bool
+    isWanted s = eqb (rankOf kind n s) (rankOf kind n wanted)
+
+    -- it ends at the wanted stack; before it, the smallest k whose child has entry (v + 2) mod 3
+    unfoldable pub planStep : Route → Route
+    planStep route = cond (isWanted (route .stack)) route (follow (turnsOf kind n) route)
+
+    unfoldable pub planRun : ℕ → Route → Route
+    planRun zero route = route
+    planRun (suc left) route = planRun left (planStep route)
+
+    unfoldable pub routeFrom : List ℤ → Route
+    routeFrom given = planRun planLimit (record { stack = given; turns = [] })
+
+    -- 15 when the given stack's entry is 3, the wanted entry is not 0, no k leads on or 30 turns do not suffice
+    unfoldable pub hasPlan : List ℤ → Bool
+    hasPlan given =
+        not (eqb (entryOf given) unseen) && eqb (entryOf wanted) 0 && isWanted (routeFrom given .stack)
+
+-- 1, 2, 3 for the wanted stack, 3 for the given one, 10 for the table, 10 for the turn list, 15
+unfoldable pub planRefusal : ℕ → ℕ → List ℤ → List ℤ → List ℕ → ℕ → ℕ
+planRefusal kind n wanted given table room =
+    sizeRefusal kind n
+    (unless (isStack kind n wanted) 3
+    (unless (isStack kind n given) 3
+    (unless (eqb (length table) (bytesFor (stackCount kind n))) 10
+    (unless (leb planLimit room) 10 (unless (hasPlan kind n table wanted given) 15 0)))))
+
+-- the bytes of the list past the plan are unchanged
+unfoldable pub planOf : ℕ → ℕ → List ℤ → List ℤ → List ℕ → List ℕ → List ℕ × Planned
+planOf kind n wanted given table list =
+    let r = planRefusal kind n wanted given table (length list) in
+    let turns = routeFrom kind n table wanted given .turns in
+    cond (eqb r 0)
+    (turns ++ drop (length turns) list, record { refusal = 0; turns = length turns })
+    (list, record { refusal = r; turns = 0 })
