@@ -1,0 +1,69 @@
+-- `calls::blank::blank` meets its contract: the refusal's number and nothing changed, or the blanked segment and all its stacks passed.
+use mathlib.Core.Path.{_≡_, sym, ap, _∙_}
+use mathlib.Core.List.{List}
+use Prim.Native.Nat.{ℕ}
+use borrow.Author.Needs.{needs}
+use lib.ListN.{length, set}
+use Rattle.search.specs.Blank.{blankRefusal, blanked, blankOf}
+use Rattle.search.specs.JobState.{stacksOf, progressed}
+use Rattle.search.specs.declared.Answer.{Answer}
+use Rattle.search.specs.declared.Job.{Job}
+use Rattle.search.proofs.Accepted.{blank-facts, blank-accepted, blank-refused}
+use Rattle.calls.proofs.blank.blank.Statement.{statement}
+use Rattle.calls.proofs.blank.blank.Tie as tie
+
+module _ (job : Job) (j : ℕ) (segment : List ℕ) (r : ℕ) (e : r ≡ blankRefusal job j (length segment)) where
+  refused : (r ≡ 0 → ⊥) → _≡_ {A = List ℕ × Answer} (segment, record { refusal = r; job = job }) (blankOf job j segment)
+  refused h =
+      ap (λ (q : ℕ). (segment, record { refusal = q; job = job })) e ∙ sym (blank-refused job j segment (λ z. h (e ∙ z)))
+
+  accepted : (after : List ℕ) (next : Job) → r ≡ 0 → after ≡ blanked job j
+      → next ≡ progressed job (job .phase) (set (job .passed) j (stacksOf job j)) (job .waiting) (job .counts)
+      → _≡_ {A = List ℕ × Answer} (after, record { refusal = 0; job = next }) (blankOf job j segment)
+  accepted after next h k n = rw (k, n) (sym (blank-accepted job j segment (sym e ∙ h)))
+
+blank-refusal-requires : tie.Need-blank-refusal-requires
+blank-refusal-requires c κs = search needs
+
+returns : tie.Need-returns
+returns c =
+    let a = c .before .before .before .args in
+    let f = c .before .blank-refusal in
+    refused (a .job) (a .j) (a .segment .now) (f .result) (f .ensures) (c .if1 .taken)
+
+blank-entries-requires : tie.Need-blank-entries-requires
+blank-entries-requires c κs =
+    let e = c .before in
+    let a = e .before .before .before .args in
+    let f = blank-facts (a .job) (a .j) (length (a .segment .now)) (sym (e .before .blank-refusal .ensures) ∙ e .if1 .left) in
+    (f .coherent, f .long)
+
+pass-all-requires : tie.Need-pass-all-requires
+pass-all-requires c κs =
+    let e = c .before .before .before .before in
+    let a = e .before .before .before .args in
+    let f = blank-facts (a .job) (a .j) (length (a .segment .now)) (sym (e .before .blank-refusal .ensures) ∙ e .if1 .left) in
+    (f .coherent, f .inside)
+
+same-length : tie.Need-same-length
+same-length c = search needs
+
+returns-2 : tie.Need-returns-2
+returns-2 c =
+    let n = c .before .before .before in
+    let e = n .before .before in
+    let a = e .before .before .before .args in
+    let f = e .before .blank-refusal in
+    accepted (a .job) (a .j) (a .segment .now) (f .result) (f .ensures) (n .blank-entries .last .1 .1 .0) (c .pass-all .result) (e .if1 .left)
+    (n .blank-entries .ensures) (c .pass-all .ensures)
+
+pub blank-spec : {M : Type 1} → statement M
+blank-spec =
+    tie.close
+    (tie.spec
+    blank-refusal-requires
+    returns
+    blank-entries-requires
+    pass-all-requires
+    same-length
+    returns-2)

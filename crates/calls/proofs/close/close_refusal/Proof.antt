@@ -1,0 +1,73 @@
+-- `calls::close::close_refusal` meets its contract: the tests in the definition's order.
+use mathlib.Core.Path.{_≡_, sym, _∙_}
+use mathlib.Core.Bool.{true, false}
+use borrow.Author.Needs.{needs}
+use borrow.Author.Tests.{not-true, not-false}
+use Rattle.search.specs.Close.{isReady, closeRefusal}
+use Rattle.search.specs.JobState.{isCoherent, isFinished}
+use Rattle.calls.proofs.close.close_refusal.Statement.{statement}
+use Rattle.calls.proofs.close.close_refusal.Tie as tie
+
+is-coherent-requires : tie.Need-is-coherent-requires
+is-coherent-requires c κs = search needs
+
+returns : tie.Need-returns
+unfolding closeRefusal
+returns c = rw (← c .before .is-coherent .ensures, not-true (c .before .is-coherent .result) (c .if1 .taken))
+
+is-finished-requires : tie.Need-is-finished-requires
+is-finished-requires c κs = search needs
+
+-- what each test has shown where the code goes on
+coherent : (c : tie.Else1) → isCoherent (c .before .before .args .job) ≡ true
+coherent c = sym (c .before .is-coherent .ensures) ∙ not-false (c .before .is-coherent .result) (c .if1 .left)
+
+unfinished : (c : tie.Else2) → isFinished (c .before .before .before .before .args .job .phase) ≡ false
+unfinished c = sym (c .before .is-finished .ensures) ∙ c .if2 .left
+
+ready : (c : tie.Else3) → isReady (c .before .before .before .before .before .before .args .job) ≡ true
+ready c = sym (c .before .is-ready .ensures) ∙ not-false (c .before .is-ready .result) (c .if3 .left)
+
+returns-2 : tie.Need-returns-2
+unfolding closeRefusal
+returns-2 c = rw (coherent (c .before .before), ← c .before .is-finished .ensures, c .if2 .taken)
+
+is-ready-requires : tie.Need-is-ready-requires
+is-ready-requires c κs = coherent (c .before .before)
+
+returns-3 : tie.Need-returns-3
+unfolding closeRefusal
+returns-3 c =
+    let u = c .before .before in
+    rw (coherent (u .before .before), unfinished u, ← c .before .is-ready .ensures, not-true (c .before .is-ready .result) (c .if3 .taken))
+
+is-past-last-requires : tie.Need-is-past-last-requires
+is-past-last-requires c κs = search needs
+
+returns-4 : tie.Need-returns-4
+unfolding closeRefusal
+returns-4 c =
+    let r = c .before .before in
+    let u = r .before .before in
+    rw (coherent (u .before .before), unfinished u, ready r, ← c .before .is-past-last .ensures, c .if4 .taken)
+
+returns-5 : tie.Need-returns-5
+unfolding closeRefusal
+returns-5 c =
+    let r = c .before .before in
+    let u = r .before .before in
+    rw (coherent (u .before .before), unfinished u, ready r, ← c .before .is-past-last .ensures, c .if4 .left)
+
+pub close-refusal-spec : {M : Type 1} → statement M
+close-refusal-spec =
+    tie.close
+    (tie.spec
+    is-coherent-requires
+    returns
+    is-finished-requires
+    returns-2
+    is-ready-requires
+    returns-3
+    is-past-last-requires
+    returns-4
+    returns-5)

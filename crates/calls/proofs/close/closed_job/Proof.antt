@@ -1,0 +1,21 @@
+-- `calls::close::closed_job` meets its contract.
+use borrow.Author.Needs.{needs}
+use Rattle.search.specs.JobState.{progressed}
+use Rattle.calls.proofs.Closing.{closed-is}
+use Rattle.calls.proofs.close.closed_job.Statement.{statement}
+use Rattle.calls.proofs.close.closed_job.Tie as tie
+
+next-phase-requires : tie.Need-next-phase-requires
+next-phase-requires c κs = search needs
+
+next-counts-requires : tie.Need-next-counts-requires
+next-counts-requires c κs = search needs
+
+returns : tie.Need-returns
+unfolding progressed
+returns c =
+    let p = c .before in
+    closed-is (p .before .before .before .args .job) (p .next-phase .result) (c .next-counts .result) (p .next-phase .ensures) (c .next-counts .ensures)
+
+pub closed-job-spec : {M : Type 1} → statement M
+closed-job-spec = tie.close (tie.spec next-phase-requires next-counts-requires returns)

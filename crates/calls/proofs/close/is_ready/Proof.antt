@@ -1,0 +1,142 @@
+-- `calls::close::is_ready` meets its contract: what is left to test from segment j on says it for all.
+use mathlib.Core.Path.{_≡_, refl, sym, ap, _∙_}
+use mathlib.Core.Bool.{Bool, _&&_}
+use mathlib.Core.List.{List}
+use Prim.Native.Nat.{ℕ, _-_, _≤_}
+use native.Mathlib.Omega.{arith}
+use borrow.Author.Needs.{needs}
+use borrow.Author.Tests.{not-true, not-false}
+use lib.Dec.{eqb}
+use lib.ListN.{getD, drop}
+use Rattle.base.specs.Words.{all, from}
+use Rattle.stacks.specs.Stack.{stackCount}
+use Rattle.search.specs.Close.{isDone, isReady}
+use Rattle.search.specs.JobState.{stacksAll, segmentsOf, stacksOf, passedOf, waitingOf}
+use Rattle.search.specs.Segments.{segmentCount, stacksIn}
+use Rattle.search.specs.declared.Job.{Job}
+use Rattle.job.proofs.Bounds.{coherent-bounds}
+use Rattle.job.proofs.Scans.{upto-on, upto-fails, upto-end}
+use Rattle.calls.proofs.close.is_ready.Statement.{statement}
+use Rattle.calls.proofs.close.is_ready.Tie as tie
+
+-- the test of segment j, by N, S and the two arrays
+abbrev done : ℕ → ℕ → List ℕ → List ℕ → ℕ → Bool
+done N S passed waiting j = eqb (getD passed j 0) (stacksIn N S j) && eqb (getD waiting j 0) 0
+
+ready-is : (job : Job) (N G : ℕ) → N ≡ stackCount (job .kind) (job .n) → G ≡ segmentCount N (job .size)
+    → all (done N (job .size) (job .passed) (job .waiting)) (from 0 G) ≡ isReady job
+unfolding isReady isDone passedOf waitingOf stacksOf segmentsOf stacksAll
+ready-is job N G e g =
+    ap (λ (m : ℕ). all (done N (job .size) (job .passed) (job .waiting)) (from 0 m)) g
+    ∙ ap (λ (m : ℕ). all (done m (job .size) (job .passed) (job .waiting)) (from 0 (segmentCount m (job .size)))) e
+
+abbrev Inv-loop : tie.InvT-loop
+Inv-loop size count segments passed waiting j₀ j =
+    (segments ≤ 64)
+    × (j ≤ segments)
+    × (all (done count size passed waiting) (from 0 segments) ≡ all (done count size passed waiting) (drop j (from 0 segments)))
+
+abbrev μ-loop : tie.MeasureT-loop
+μ-loop size count segments passed waiting j₀ j = segments - j
+
+stack-count-requires : tie.Need-stack-count-requires Inv-loop μ-loop
+stack-count-requires c κs = coherent-bounds (c .args .job) (c .pre) .is-size
+
+segment-count-requires : tie.Need-segment-count-requires Inv-loop μ-loop
+segment-count-requires c κs = coherent-bounds (c .before .args .job) (c .before .pre) .some
+
+loop-holds : tie.Need-loop-holds Inv-loop μ-loop
+unfolding segmentsOf stacksAll
+loop-holds c =
+    let g = c .before .before in
+    let job = g .before .before .args .job in
+    let e : g .segment-count .result ≡ segmentsOf job =
+    g .segment-count .ensures ∙ ap (λ (m : ℕ). segmentCount m (job .size)) (g .before .stack-count .ensures) in
+    (omega (arith, e, coherent-bounds job (g .before .before .pre) .few), search needs, refl)
+
+cast-is-done : tie.Need-cast-is-done Inv-loop μ-loop
+cast-is-done c = omega arith
+
+mul-is-done : tie.Need-mul-is-done Inv-loop μ-loop
+mul-is-done c = omega arith
+
+array-read-is-done : tie.Need-array-read-is-done Inv-loop μ-loop
+array-read-is-done c = omega arith
+
+cast-is-done-2 : tie.Need-cast-is-done-2 Inv-loop μ-loop
+cast-is-done-2 c = omega arith
+
+mul-is-done-2 : tie.Need-mul-is-done-2 Inv-loop μ-loop
+mul-is-done-2 c = omega arith
+
+array-read-is-done-2 : tie.Need-array-read-is-done-2 Inv-loop μ-loop
+array-read-is-done-2 c = omega arith
+
+is-done-requires : tie.Need-is-done-requires Inv-loop μ-loop
+is-done-requires c κs = search needs
+
+returns : tie.Need-returns Inv-loop μ-loop
+returns c =
+    let l = c .before .before .before in
+    let g = l .before .before .before in
+    let job = g .before .before .args .job in
+    let N = g .before .stack-count in
+    let G = g .segment-count in
+    let t = done (N .result) (job .size) (job .passed) (job .waiting) in
+    let f = c .before .is-done in
+    upto-fails t (G .result) (l .loop .j) (all t (from 0 (G .result))) (omega arith) (l .loop .inv .2)
+    (sym (f .ensures) ∙ not-true (f .result) (c .if1 .taken))
+    ∙ ready-is job (N .result) (G .result) (N .ensures) (G .ensures)
+
+add-j : tie.Need-add-j Inv-loop μ-loop
+add-j c = omega arith
+
+loop-less : tie.Need-loop-less Inv-loop μ-loop
+loop-less c = omega arith
+
+loop-again : tie.Need-loop-again Inv-loop μ-loop
+loop-again c =
+    let l = c .before .before .before in
+    let g = l .before .before .before in
+    let job = g .before .before .args .job in
+    let t = done (g .before .stack-count .result) (job .size) (job .passed) (job .waiting) in
+    let G = g .segment-count .result in
+    let f = c .before .is-done in (
+      l .loop .inv .0,
+      omega arith,
+      upto-on t G (l .loop .j) (all t (from 0 G)) (omega arith) (l .loop .inv .2)
+          (sym (f .ensures) ∙ not-false (f .result) (c .if1 .left)),
+    )
+
+returns-2 : tie.Need-returns-2 Inv-loop μ-loop
+returns-2 c =
+    let l = c .before in
+    let g = l .before .before .before in
+    let job = g .before .before .args .job in
+    let N = g .before .stack-count in
+    let G = g .segment-count in
+    let t = done (N .result) (job .size) (job .passed) (job .waiting) in
+    upto-end t (G .result) (l .loop .j) (all t (from 0 (G .result))) (omega arith) (l .loop .inv .2)
+    ∙ ready-is job (N .result) (G .result) (N .ensures) (G .ensures)
+
+pub is-ready-spec : {M : Type 1} → statement M
+is-ready-spec =
+    tie.close
+    (tie.spec
+    Inv-loop
+    μ-loop
+    stack-count-requires
+    segment-count-requires
+    loop-holds
+    cast-is-done
+    mul-is-done
+    array-read-is-done
+    cast-is-done-2
+    mul-is-done-2
+    array-read-is-done-2
+    is-done-requires
+    returns
+    add-j
+    loop-less
+    loop-again
+    returns-2)

@@ -1,0 +1,2 @@
+-- What a helper of Settle leaves, as one value.
+pub mod Marked

@@ -1,0 +1,168 @@
+-- A call of Expand: the scan of an accepted job fits, its run is the job's, and so is the answer; and the row of refusals.
+use mathlib.Core.Path.{_≡_, refl, sym, ap, _∙_}
+use mathlib.Core.Logic.{_⊎_, inl, inr}
+use mathlib.Core.Bool.{Bool, true, false, cond}
+use mathlib.Core.List.{List, [], _∷_}
+use Prim.Native.Nat.{ℕ, zero, suc, _+_, _-_, _*_, _%_, _<_, _≤_}
+use native.Mathlib.Nat.{le-of-lt}
+use native.Mathlib.Omega.{arith}
+use lib.Dec.{ltb, eqb}
+use lib.ListN.{length, getD, set, List·getD-eq-default}
+use borrow.Author.Tests.{lt-ltb, le-ltb}
+use Rattle.base.specs.Words.{unless}
+use Rattle.base.proofs.Tests.{lt-or-ge}
+use Rattle.job.proofs.Rows.{level-refuses, level-goes-on}
+use Rattle.stacks.specs.Turn.{turnsOf}
+use Rattle.search.specs.Entries.{entryAt, nextEntry}
+use Rattle.search.specs.Expand.{Expansion, levelRefusal, expandRefusal, childrenOf, lacksRoom, firstFrom, placeChild, placeAll, passOne, waitFor, expandStack, expandNext, expandRun, expansion, expandedJob, expandOf}
+use Rattle.search.specs.JobState.{isCoherent, levelOf, stacksAll, segmentsOf, stacksOf, logLength, passedOf, waitingOf, countOf, progressed}
+use Rattle.search.specs.Segments.{segmentLimit}
+use Rattle.search.specs.declared.Expanded.{Expanded}
+use Rattle.search.specs.declared.Job.{Job}
+use Rattle.search.proofs.Accepted.{LevelFacts, expand-facts, expand-accepted}
+use Rattle.search.proofs.Coherence.{begin-given, coherent-facts}
+use Rattle.search.proofs.EntryLaws.{next-level}
+use Rattle.expand.specs.Scan.{ScanFits, RunFits, running, reachedWith, scanJob, scanOf}
+use Rattle.expand.specs.declared.run.Reached.{Reached}
+use Rattle.expand.specs.declared.scan.Scan.{Scan}
+
+-- ---- refusals
+
+-- r is what the row that Settle shares answers
+module _ (job : Job) (j bytes logs : ℕ) {r : ℕ} (e : r ≡ levelRefusal job j bytes logs 0) where
+  abbrev rest : ℕ
+  rest = unless (ltb (passedOf job j) (stacksOf job j)) 11 0
+
+  pub refusal-level : (r ≡ 0 → ⊥) → r ≡ expandRefusal job j bytes logs
+  unfolding expandRefusal
+  refusal-level = level-refuses job j bytes logs rest r e
+
+  module _ {m : ℕ} (all : m ≡ stacksOf job j) (none : r ≡ 0) where
+    pub refusal-passed : m ≤ passedOf job j → 11 ≡ expandRefusal job j bytes logs
+    unfolding expandRefusal
+    refusal-passed l =
+        ap (λ (t : Bool). unless t 11 0) (sym (le-ltb (passedOf job j) (stacksOf job j) (omega arith)))
+        ∙ level-goes-on job j bytes logs rest r e none
+
+    pub refusal-none : passedOf job j < m → 0 ≡ expandRefusal job j bytes logs
+    unfolding expandRefusal
+    refusal-none l =
+        ap (λ (t : Bool). unless t 11 0) (sym (lt-ltb (passedOf job j) (stacksOf job j) (omega arith)))
+        ∙ level-goes-on job j bytes logs rest r e none
+
+-- ---- the scan, as the code fills it
+pub scan-is : (job : Job) (j : ℕ) {segments turns level mark : ℕ} → segments ≡ segmentsOf job → turns ≡ length (turnsOf (job .kind) (job .n))
+    → level ≡ levelOf (job .phase) → 1 ≤ level → mark ≡ nextEntry ((level - 1) % 3)
+    → _≡_ {A = Scan} (record {
+      kind = job .kind;
+      n = job .n;
+      size = job .size;
+      room = job .room;
+      segments = segments;
+      turns = turns;
+      j = j;
+      level = level;
+      from = (level - 1) % 3;
+      mark = mark;
+    }) (scanOf job j)
+unfolding scanOf
+scan-is job j {segments} {turns} {level} {mark} a b d some e = rw (a, b, e ∙ next-level level some, d)
+
+-- ---- a run over a scan is a run over its job
+
+module _ (job : Job) (j : ℕ) where
+  place-same : (children : List ℕ) (e : Expansion) → placeAll (scanJob (scanOf job j)) j children e ≡ placeAll job j children e
+  unfolding placeAll placeChild scanJob scanOf levelOf
+  place-same [] e = refl
+  place-same (c ∷ children) e = place-same children (placeChild job j c e)
+
+  next-same : (e : Expansion) → expandNext (scanJob (scanOf job j)) j e ≡ expandNext job j e
+  unfolding expandNext expandStack passOne waitFor scanJob scanOf levelOf segmentsOf stacksAll
+  next-same e =
+      let children = childrenOf (job .kind) (job .n) (j * job .size + e .at) in
+      let t = firstFrom (lacksRoom (job .size) (job .room) j (e .logs .waiting) children) 0 (segmentsOf job) in
+      ap
+      (λ (x : Expansion). cond (e .waits) e
+      (cond (eqb (entryAt (e .marks .segment) (e .at)) ((levelOf (job .phase) - 1) % 3))
+      (cond (ltb t (segmentsOf job)) (waitFor job j t e) (passOne job j x))
+      (passOne job j e)))
+      (place-same children e)
+
+  run-same : (left : ℕ) (e : Expansion) → expandRun (scanJob (scanOf job j)) j left e ≡ expandRun job j left e
+  unfolding expandRun
+  run-same zero e = refl
+  run-same (suc left) e = ap (expandRun (scanJob (scanOf job j)) j left) (next-same e) ∙ run-same left (expandNext job j e)
+
+  -- ---- an accepted call
+
+  -- what it answers, from how far it came
+  abbrev answer : Expansion → List ℕ × List ℕ × Expanded
+  answer x = (x .marks .segment, x .logs .log, record { refusal = 0; waits = x .waits; on = x .on; job = expandedJob job j x })
+
+  scan-fits : isCoherent job ≡ true → j < segmentsOf job → ScanFits (scanOf job j)
+  unfolding scanJob scanOf segmentsOf stacksAll levelOf
+  scan-fits coherent inside =
+      let given = begin-given (job .kind) (job .n) (job .wanted) (job .size) (job .room) (coherent-facts job coherent .begins) in
+      record {
+        is-size = given .size;
+        size-fits = given .segments;
+        room-fits = given .room;
+        segments-are = refl;
+        turns-are = refl;
+        inside = inside;
+        from-is = refl;
+        mark-is = refl;
+      }
+
+  waiting-most : isCoherent job ≡ true → length (job .waiting) ≡ 64 → (t : ℕ) → getD (job .waiting) t 0 ≤ job .room
+  unfolding segmentLimit waitingOf
+  waiting-most coherent long t = go (lt-or-ge t 64)
+    where
+      at-most : (b : Bool) → cond b (job .room) 0 ≤ job .room
+      at-most true = omega arith
+      at-most false = omega arith
+
+      go : (t < 64) ⊎ (64 ≤ t) → getD (job .waiting) t 0 ≤ job .room
+      go (inl h) = omega (arith, coherent-facts job coherent .waiting-fits t h, at-most (ltb t (segmentsOf job)))
+      go (inr h) =
+          let past : length (job .waiting) ≤ t = omega arith in
+          rw (List·getD-eq-default (job .waiting) 0 past) (omega arith)
+
+  module _ (segment log : List ℕ) (accepted : expandRefusal job j (length segment) (length log) ≡ 0) where
+    pub call-facts : LevelFacts job j (length segment) (length log)
+    call-facts = expand-facts job j (length segment) (length log) accepted .0
+
+    module _ {scan : Scan} {stacks : ℕ} (is : scan ≡ scanOf job j) (all : stacks ≡ stacksOf job j) where
+      -- what a run over the segment asks
+      pub run-given : length (job .waiting) ≡ 64
+          → RunFits scan (getD (job .passed) j 0) stacks (getD (job .counts) (scan .level) 0) segment log (job .waiting)
+      unfolding scanJob scanOf stacksOf stacksAll segmentsOf logLength levelOf passedOf countOf
+      run-given long =
+          let f = call-facts in
+          rw (is, all)
+          (record {
+            fit = scan-fits (f .coherent) (f .inside);
+            lent = record { bytes = f .long; places = f .wide; logs = long; most = waiting-most (f .coherent) long };
+            all = refl;
+            within = le-of-lt (expand-facts job j (length segment) (length log) accepted .1);
+            few = coherent-facts job (f .coherent) .counts-fit (levelOf (job .phase));
+          })
+
+      run-is : expandRun (scanJob scan) (scan .j) (stacks - getD (job .passed) j 0)
+          (running (getD (job .passed) j 0) segment (getD (job .counts) (scan .level) 0) log (job .waiting))
+          ≡ expansion job j segment log
+      unfolding scanOf expansion passedOf countOf
+      run-is =
+          rw (is, all)
+          (run-same (stacksOf job j - passedOf job j)
+          (running (passedOf job j) segment (countOf job (levelOf (job .phase))) log (job .waiting)))
+
+      -- the answer, from how far the run came and what it leaves
+      pub answer-is : (reached : Reached) {segment′ log′ waiting′ : List ℕ} {next : Job}
+          → reachedWith reached segment′ log′ waiting′
+          ≡ expandRun (scanJob scan) (scan .j) (stacks - getD (job .passed) j 0)
+          (running (getD (job .passed) j 0) segment (getD (job .counts) (scan .level) 0) log (job .waiting))
+          → next ≡ progressed job (job .phase) (set (job .passed) j (reached .at)) waiting′ (set (job .counts) (levelOf (job .phase)) (reached .count))
+          → _≡_ {A = List ℕ × List ℕ × Expanded} (segment′, log′, record { refusal = 0; waits = reached .waits; on = reached .on; job = next }) (expandOf job j segment log)
+      unfolding expandedJob
+      answer-is reached run e = rw e (ap answer (run ∙ run-is) ∙ sym (expand-accepted job j segment log accepted))

@@ -1,0 +1,303 @@
+-- A child placed, and then all: what the code's steps are to the definition, and that what is lent keeps its lengths and its room.
+use mathlib.Core.Path.{_≡_, refl, sym, ap, _∙_, subst}
+use mathlib.Core.Logic.{_⊎_, inl, inr}
+use mathlib.Core.Bool.{Bool, false, cond}
+use mathlib.Core.List.{List, [], _∷_}
+use Prim.Native.Nat.{ℕ, _+_, _-_, _*_, _/_, _%_, _<_, _≤_}
+use native.Mathlib.Nat.{suc-mul, mul-le-mul-right, mul-le-mul}
+use native.Mathlib.Numerals.{add-one}
+use native.Mathlib.Omega.{arith}
+use borrow.Rule.Slice.PartMut.{midOf, putMid, set-mid-at}
+use lib.ListN.{length, getD, set, take, drop, length-set, length-take, length-drop, drop-of-length-le}
+use lib.Seq.{getD-set-same, getD-set-other, set-out, getD-take, drop-cons}
+use Rattle.base.proofs.Tests.{lt-or-ge, eq-or-ne}
+use Rattle.search.specs.Entries.{entryAt}
+use Rattle.search.specs.Expand.{Marks, Expansion, markOne, logOne, fallingIn, placeChild, placeAll}
+use Rattle.search.specs.JobState.{levelOf, stacksAll, stacksOf}
+use Rattle.search.specs.Segments.{stacksIn}
+use Rattle.search.proofs.EntryLaws.{byte-inside}
+use Rattle.search.proofs.ExpandCases.{falling-here, falling-elsewhere, falling-le, place-here, place-elsewhere}
+use Rattle.search.proofs.MarkLaws.{mark-unseen, mark-seen, mark-length}
+use Rattle.search.proofs.SegmentLaws.{stack-segment, stack-offset}
+use Rattle.twobit.specs.Mark.{Marked}
+use Rattle.twobit.proofs.Marking.{mark-one}
+use Rattle.expand.specs.Scan.{LentFits, HasRoom, ChildFits, ChildrenFit, running, scanJob}
+use Rattle.expand.specs.declared.scan.Scan.{Scan}
+use Rattle.expand.proofs.Fitting.{ScanFacts, scan-facts}
+
+-- where a child's log and its next place stand, and that the numbers are small
+pub record LogPlace (scan : Scan) (child : ℕ) (log waiting : List ℕ) : Type 0 where
+  pub listed : child / scan .size < 64
+  pub start-small : child / scan .size * scan .room ≤ 67108864
+  pub start-within : child / scan .size * scan .room ≤ length log
+  pub free : getD waiting (child / scan .size) 0 < scan .room
+  pub place-within : getD waiting (child / scan .size) 0 < length log - child / scan .size * scan .room
+
+module _ {scan : Scan} {child count : ℕ} {segment log waiting : List ℕ} (g : ChildFits scan child count segment log waiting) where
+  facts : ScanFacts scan
+  facts = scan-facts scan (g .fit)
+
+  child-segment : child / scan .size < scan .segments
+  child-segment = rw (g .fit .segments-are) (stack-segment (stacksAll (scanJob scan)) (scan .size) (facts .some) child (g .below))
+
+  -- a child of this segment has its entry in the segment's bytes
+  pub child-byte : child / scan .size ≡ scan .j → child % scan .size / 4 < length segment
+  unfolding stacksAll stacksOf scanJob
+  child-byte e =
+      rw (g .lent .bytes, ← e)
+      (byte-inside (child % scan .size) (stacksIn (stacksAll (scanJob scan)) (scan .size) (child / scan .size))
+      (stack-offset (stacksAll (scanJob scan)) (scan .size) (facts .some) child (g .below)))
+
+  pub log-place : (child / scan .size ≡ scan .j → ⊥) → LogPlace scan child log waiting
+  log-place ne =
+      let t = child / scan .size in
+      let here = falling-here (scan .size) t child [] refl in
+      let most = mul-le-mul-right (scan .room) child-segment in
+      let more = suc-mul t (scan .room) in
+      let free : getD waiting t 0 < scan .room = omega (arith, g .room t ne) in
+      record {
+        listed = omega (arith, child-segment, facts);
+        start-small = omega (arith, mul-le-mul {n₂ = 64} {m₂ = 1048576} (let l : t ≤ 64 = omega (arith, child-segment, facts) in l) (facts .room-most));
+        start-within = omega (arith, g .lent .places);
+        free = free;
+        place-within = omega (arith, g .lent .places);
+      }
+
+  -- the leaf that marks, with one more where it says so
+  pub placed-here : {after : List ℕ} {fresh : Bool} {counted : ℕ} → child / scan .size ≡ scan .j
+      → Marked segment (child % scan .size) (scan .mark) after fresh → counted ≡ cond fresh (count + 1) count
+      → (at : ℕ) → running at after counted log waiting
+      ≡ placeChild (scanJob scan) (scan .j) child (running at segment count log waiting)
+  unfolding scanJob levelOf
+  placed-here {after} {fresh} e m c at =
+      rw c
+      (sym
+      (place-here (scanJob scan) (scan .j) child (running at segment count log waiting) e
+      ∙ ap (λ (marks : Marks). record { at = at; waits = false; on = 0; marks = marks; logs = record { log = log; waiting = waiting } })
+      (mark-one (scan .level) (child % scan .size) count segment after fresh (rw (← g .fit .mark-is) m))))
+
+  -- a place of the log's own stretch, and one more waits
+  pub placed-elsewhere : {after : List ℕ} (ne : child / scan .size ≡ scan .j → ⊥)
+      → (let t = child / scan .size in
+      let start = t * scan .room in
+      let k = length log - start in
+      after ≡ set (midOf start k log) (getD waiting t 0) (child % scan .size)
+      → (at : ℕ) → running at segment count (putMid start k log after) (set waiting t (getD waiting t 0 + 1))
+      ≡ placeChild (scanJob scan) (scan .j) child (running at segment count log waiting))
+  unfolding scanJob logOne
+  placed-elsewhere ne e at =
+      let t = child / scan .size in
+      let start = t * scan .room in
+      let k = length log - start in
+      let w = getD waiting t 0 in
+      let p = log-place ne in
+      ap (λ (xs : List ℕ). running at segment count xs (set waiting t (w + 1)))
+      (ap (putMid start k log) e
+      ∙ set-mid-at start k w log (child % scan .size) (simp (length-take, length-drop) (omega arith)))
+      ∙ sym (place-elsewhere (scanJob scan) (scan .j) child (running at segment count log waiting) ne)
+
+set-most : (xs : List ℕ) (i v : ℕ) → getD xs i 0 ≤ v → getD (set xs i v) i 0 ≤ v
+set-most xs i v h = go (lt-or-ge i (length xs))
+  where
+    go : (i < length xs) ⊎ (length xs ≤ i) → getD (set xs i v) i 0 ≤ v
+    go (inl l) = rw (getD-set-same xs i v 0 l) (omega arith)
+    go (inr l) = rw (set-out xs i v l) h
+
+-- what is lent, in the midst of a call
+abbrev pub Fits : Scan → Expansion → Type 0
+Fits scan e = LentFits scan (e .marks .segment) (e .logs .log) (e .logs .waiting)
+
+module _ (scan : Scan) (child : ℕ) (rest : List ℕ) (e : Expansion) (lent : Fits scan e)
+    (room : HasRoom scan (e .logs .waiting) (child ∷ rest)) where
+  abbrev Leaves : Expansion → Type 0
+  Leaves x = Fits scan x × HasRoom scan (x .logs .waiting) rest
+
+  -- a child leaves the lengths, and room for the children after it
+  pub place-fits : Leaves (placeChild (scanJob scan) (scan .j) child e)
+  unfolding scanJob levelOf logOne
+  place-fits = go (eq-or-ne (child / scan .size) (scan .j))
+    where
+      t : ℕ
+      t = child / scan .size
+
+      w : ℕ
+      w = getD (e .logs .waiting) t 0
+
+      elsewhere : (u : ℕ) → (t ≡ u → ⊥) → (u ≡ scan .j → ⊥) → getD (e .logs .waiting) u 0 + fallingIn (scan .size) u rest ≤ scan .room
+      elsewhere u ne nj = omega (arith, falling-elsewhere (scan .size) u child rest ne, room u nj)
+
+      free : (t ≡ scan .j → ⊥) → w + 1 + fallingIn (scan .size) t rest ≤ scan .room
+      free ne = omega (arith, falling-here (scan .size) t child rest refl, room t ne)
+
+      -- what waits after the child was logged
+      logged : (u : ℕ) → (t ≡ u) ⊎ (t ≡ u → ⊥) → (t ≡ scan .j → ⊥)
+          → (getD (set (e .logs .waiting) t (w + 1)) u 0 ≤ scan .room)
+          × ((u ≡ scan .j → ⊥) → getD (set (e .logs .waiting) t (w + 1)) u 0 + fallingIn (scan .size) u rest ≤ scan .room)
+      logged u (inl same) ne =
+          let most : getD (set (e .logs .waiting) t (w + 1)) t 0 ≤ w + 1 = set-most (e .logs .waiting) t (w + 1) (omega arith) in
+          rw (← same) (omega (arith, free ne), λ nj. omega (arith, free ne))
+      logged u (inr other) ne =
+          rw (getD-set-other (e .logs .waiting) t u (w + 1) 0 (λ q. other (sym q))) (lent .most u, elsewhere u other)
+
+      go : (t ≡ scan .j) ⊎ (t ≡ scan .j → ⊥) → Leaves (placeChild (scanJob scan) (scan .j) child e)
+      go (inl here) =
+          subst Leaves (sym (place-here (scanJob scan) (scan .j) child e here)) (
+            record {
+              bytes = mark-length (scan .level) (child % scan .size) (e .marks) ∙ lent .bytes;
+              places = lent .places;
+              logs = lent .logs;
+              most = lent .most;
+            },
+            λ u nj. elsewhere u (λ q. nj (sym q ∙ here)) nj,
+          )
+      go (inr ne) =
+          subst Leaves (sym (place-elsewhere (scanJob scan) (scan .j) child e ne)) (
+            record {
+              bytes = lent .bytes;
+              places = length-set (e .logs .log) (t * scan .room + w) (child % scan .size) ∙ lent .places;
+              logs = length-set (e .logs .waiting) t (w + 1) ∙ lent .logs;
+              most = λ u. logged u (eq-or-ne t u) ne .0;
+            },
+            λ u. logged u (eq-or-ne t u) ne .1,
+          )
+
+-- at most one more is counted
+pub place-count : (scan : Scan) (child : ℕ) (e : Expansion) → placeChild (scanJob scan) (scan .j) child e .marks .count ≤ e .marks .count + 1
+unfolding scanJob levelOf
+place-count scan child e = go (eq-or-ne (child / scan .size) (scan .j))
+  where
+    d : ℕ
+    d = scan .level
+
+    i : ℕ
+    i = child % scan .size
+
+    mark : (entryAt (e .marks .segment) i ≡ 3) ⊎ (entryAt (e .marks .segment) i ≡ 3 → ⊥) → markOne d i (e .marks) .count ≤ e .marks .count + 1
+    mark (inl h) = rw (mark-unseen d i (e .marks) h) (omega arith)
+    mark (inr h) = rw (mark-seen d i (e .marks) h) (omega arith)
+
+    go : (child / scan .size ≡ scan .j) ⊎ (child / scan .size ≡ scan .j → ⊥)
+        → placeChild (scanJob scan) (scan .j) child e .marks .count ≤ e .marks .count + 1
+    go (inl h) = rw (place-here (scanJob scan) (scan .j) child e h) (mark (eq-or-ne (entryAt (e .marks .segment) i) 3))
+    go (inr h) = rw (place-elsewhere (scanJob scan) (scan .j) child e h) (omega arith)
+
+module _ (scan : Scan) where
+  pub all-fits : (children : List ℕ) (e : Expansion) → Fits scan e → HasRoom scan (e .logs .waiting) children
+      → Fits scan (placeAll (scanJob scan) (scan .j) children e)
+  unfolding placeAll
+  all-fits [] e lent room = lent
+  all-fits (c ∷ children) e lent room =
+      let next = place-fits scan c children e lent room in
+      all-fits children (placeChild (scanJob scan) (scan .j) c e) (next .0) (next .1)
+
+  pub all-count : (children : List ℕ) (e : Expansion) → placeAll (scanJob scan) (scan .j) children e .marks .count ≤ e .marks .count + length children
+  unfolding placeAll
+  all-count [] e = omega arith
+  all-count (c ∷ children) e =
+      omega (arith, all-count children (placeChild (scanJob scan) (scan .j) c e), place-count scan c e)
+
+-- ---- a stack's children, one after the other
+
+-- the children of an array
+abbrev pub childrenIn : Scan → List ℕ → List ℕ
+childrenIn scan array = take (scan .turns) array
+
+-- a call that has placed the first i children, from what it was given
+pub record PlacedTo (scan : Scan) (array : List ℕ) (segment₀ : List ℕ) (count₀ : ℕ) (log₀ waiting₀ : List ℕ) (segment : List ℕ) (count : ℕ)
+    (log waiting : List ℕ) (i : ℕ) : Type 0 where
+  pub given : ChildrenFit scan array count₀ segment₀ log₀ waiting₀
+  pub long : scan .turns ≤ length array
+  pub within : i ≤ scan .turns
+  pub fits : LentFits scan segment log waiting
+  pub room : HasRoom scan waiting (drop i (childrenIn scan array))
+  pub counted : count ≤ count₀ + i
+  pub placed : (at : ℕ) → placeAll (scanJob scan) (scan .j) (childrenIn scan array) (running at segment₀ count₀ log₀ waiting₀)
+      ≡ placeAll (scanJob scan) (scan .j) (drop i (childrenIn scan array)) (running at segment count log waiting)
+
+module _ {scan : Scan} {array : List ℕ} {segment₀ : List ℕ} {count₀ : ℕ} {log₀ waiting₀ : List ℕ} where
+  pub placed-none : ChildrenFit scan array count₀ segment₀ log₀ waiting₀ → length array ≡ 12
+      → PlacedTo scan array segment₀ count₀ log₀ waiting₀ segment₀ count₀ log₀ waiting₀ 0
+  placed-none given twelve =
+      record {
+        given = given;
+        long = omega (arith, scan-facts scan (given .fit));
+        within = omega arith;
+        fits = given .lent;
+        room = given .room;
+        counted = omega arith;
+        placed = λ at. refl;
+      }
+
+  module _ {segment : List ℕ} {count : ℕ} {log waiting : List ℕ} {i : ℕ}
+      (p : PlacedTo scan array segment₀ count₀ log₀ waiting₀ segment count log waiting i) where
+    pub placed-end : scan .turns ≤ i
+        → (at : ℕ) → running at segment count log waiting
+        ≡ placeAll (scanJob scan) (scan .j) (childrenIn scan array) (running at segment₀ count₀ log₀ waiting₀)
+    unfolding placeAll
+    placed-end h at =
+        let all : length (childrenIn scan array) ≤ i = omega (arith, length-take (scan .turns) array) in
+        sym
+        (p .placed at
+        ∙ ap (λ (xs : List ℕ). placeAll (scanJob scan) (scan .j) xs (running at segment count log waiting))
+        (drop-of-length-le (childrenIn scan array) all))
+
+    module _ (inside : i < scan .turns) where
+      left : drop i (childrenIn scan array) ≡ getD array i 0 ∷ drop (i + 1) (childrenIn scan array)
+      left =
+          rw (add-one i, ← (getD-take (scan .turns) array i 0 inside))
+          (drop-cons (childrenIn scan array) i 0 (omega (arith, p .long, length-take (scan .turns) array)))
+
+      room-left : HasRoom scan waiting (getD array i 0 ∷ drop (i + 1) (childrenIn scan array))
+      room-left = rw left at (p .room)
+
+      room-next : HasRoom scan waiting (getD array i 0 ∷ [])
+      room-next t ne = go (eq-or-ne (getD array i 0 / scan .size) t)
+        where
+          go : (getD array i 0 / scan .size ≡ t) ⊎ (getD array i 0 / scan .size ≡ t → ⊥)
+              → getD waiting t 0 + fallingIn (scan .size) t (getD array i 0 ∷ []) ≤ scan .room
+          go (inl e) =
+              omega (
+                arith,
+                falling-here (scan .size) t (getD array i 0) [] e,
+                falling-here (scan .size) t (getD array i 0) (drop (i + 1) (childrenIn scan array)) e,
+                falling-le (scan .size) t [],
+                room-left t ne,
+              )
+          go (inr e) =
+              omega (arith, falling-elsewhere (scan .size) t (getD array i 0) [] e, falling-le (scan .size) t [], room-left t ne)
+
+      pub placed-child : ChildFits scan (getD array i 0) count segment log waiting
+      placed-child =
+          record {
+            fit = p .given .fit;
+            lent = p .fits;
+            below = p .given .below i;
+            room = room-next;
+            few = omega (arith, p .counted, p .given .few, scan-facts scan (p .given .fit));
+          }
+
+      pub placed-more : {segment′ : List ℕ} {count′ : ℕ} {log′ waiting′ : List ℕ}
+          → ((at : ℕ) → running at segment′ count′ log′ waiting′
+          ≡ placeChild (scanJob scan) (scan .j) (getD array i 0) (running at segment count log waiting))
+          → PlacedTo scan array segment₀ count₀ log₀ waiting₀ segment′ count′ log′ waiting′ (i + 1)
+      unfolding placeAll
+      placed-more step =
+          let before = running 0 segment count log waiting in
+          let rest = drop (i + 1) (childrenIn scan array) in
+          let next = place-fits scan (getD array i 0) rest before (p .fits) room-left in
+          record {
+            given = p .given;
+            long = p .long;
+            within = omega arith;
+            fits = subst (Fits scan) (sym (step 0)) (next .0);
+            room = subst (λ (e : Expansion). HasRoom scan (e .logs .waiting) rest) (sym (step 0)) (next .1);
+            counted = omega (
+              arith,
+              p .counted,
+              place-count scan (getD array i 0) before,
+              ap (λ (e : Expansion). e .marks .count) (step 0),
+            );
+            placed = λ at. p .placed at
+                ∙ ap (λ (xs : List ℕ). placeAll (scanJob scan) (scan .j) xs (running at segment count log waiting)) left
+                ∙ ap (placeAll (scanJob scan) (scan .j) rest) (sym (step at));
+          }

@@ -1,0 +1,292 @@
+-- A run over the stacks of a segment: the children of each as an array, room for them, and what each case of the code is to the definition.
+use mathlib.Core.Path.{_≡_, refl, sym, ap, _∙_, subst}
+use mathlib.Core.Logic.{_⊎_, inl, inr}
+use mathlib.Core.Bool.{true}
+use mathlib.Core.List.{List, _++_}
+use Prim.Native.Nat.{ℕ, zero, suc, _+_, _-_, _*_, _/_, _%_, _^_, _<_, _≤_}
+use native.Mathlib.Numerals.{add-one}
+use native.Mathlib.Omega.{arith}
+use lib.ListN.{length, getD, take, replicate, length-take, length-replicate, getD-replicate, List·getD-append, List·getD-eq-default}
+use lib.Seq.{take-at, getD-append-add}
+use borrow.Author.Tests.{lt-ltb, le-ltb, eq-eqb, ne-eqb}
+use Rattle.base.proofs.Tests.{lt-or-ge}
+use Rattle.stacks.specs.Stack.{stackCount}
+use Rattle.stacks.proofs.Sizes.{count-pos}
+use Rattle.search.specs.Entries.{entryAt}
+use Rattle.search.specs.Expand.{Expansion, childrenOf, fallingIn, lacksRoom, firstFrom, placeAll, passOne, waitFor, expandStack, expandNext, expandRun}
+use Rattle.search.specs.JobState.{countLimit, levelOf, stacksAll, segmentsOf, stacksOf}
+use Rattle.search.proofs.Children.{children-length, children-inside}
+use Rattle.search.proofs.EntryLaws.{byte-inside}
+use Rattle.search.proofs.ExpandCases.{first-before, room-enough}
+use Rattle.search.proofs.SegmentLaws.{segment-stack, segment-starts, stack-segment, stacksIn-le}
+use Rattle.expand.specs.Scan.{ScanFits, LentFits, HasRoom, WaitingFits, ChildrenFit, RunFits, running, reachedWith, scanJob}
+use Rattle.expand.specs.declared.run.Reached.{Reached}
+use Rattle.expand.specs.declared.scan.Scan.{Scan}
+use Rattle.expand.proofs.Fitting.{ScanFacts, scan-facts}
+use Rattle.expand.proofs.Lowest.{falling-place}
+use Rattle.expand.proofs.Placing.{Fits, all-fits, all-count}
+
+zeros-at : (n k : ℕ) → getD {A = ℕ} (replicate n 0) k 0 ≡ 0
+zeros-at n k = go (lt-or-ge k n)
+  where
+    go : (k < n) ⊎ (n ≤ k) → getD {A = ℕ} (replicate n 0) k 0 ≡ 0
+    go (inl h) = getD-replicate n k 0 0 h
+    go (inr h) = List·getD-eq-default (replicate n 0) 0 (rw (length-replicate {A = ℕ} n 0) h)
+
+-- the children of the stack at place `at` of this segment
+abbrev childrenAt : Scan → ℕ → List ℕ
+childrenAt scan at = childrenOf (scan .kind) (scan .n) (scan .j * scan .size + at)
+
+module _ (scan : Scan) (fit : ScanFits scan) where
+  facts : ScanFacts scan
+  facts = scan-facts scan fit
+
+  segments-of : segmentsOf (scanJob scan) ≡ scan .segments
+  unfolding segmentsOf stacksAll scanJob
+  segments-of = sym (fit .segments-are)
+
+  -- the segment's first index fits, and so does each of its stacks'
+  pub base-inside : scan .j * scan .size < stacksAll (scanJob scan)
+  base-inside = segment-starts (stacksAll (scanJob scan)) (scan .size) (facts .some) (scan .j) (rw (← fit .segments-are) (fit .inside))
+
+  stack-inside : (at : ℕ) → at < stacksOf (scanJob scan) (scan .j) → scan .j * scan .size + at < stacksAll (scanJob scan)
+  unfolding stacksOf scanJob
+  stack-inside at h = segment-stack (stacksAll (scanJob scan)) (scan .size) (facts .some) (scan .j) at h
+
+  -- ---- the children of the stack at index v, as the array of twelve has them
+  module _ (v : ℕ) (array : List ℕ)
+      (filled : array ≡ childrenOf (scan .kind) (scan .n) v ++ replicate (12 - length (childrenOf (scan .kind) (scan .n) v)) 0) where
+    pub array-children : take (scan .turns) array ≡ childrenOf (scan .kind) (scan .n) v
+    array-children =
+        ap (take (scan .turns)) filled
+        ∙ take-at (childrenOf (scan .kind) (scan .n) v) (replicate (12 - length (childrenOf (scan .kind) (scan .n) v)) 0) (scan .turns)
+        (children-length (scan .kind) (scan .n) v ∙ sym (fit .turns-are))
+
+    pub array-below : v < stacksAll (scanJob scan) → (i : ℕ) → getD array i 0 < stacksAll (scanJob scan)
+    unfolding stacksAll scanJob
+    array-below h i = rw filled (go (lt-or-ge i (length cs)))
+      where
+        cs : List ℕ
+        cs = childrenOf (scan .kind) (scan .n) v
+
+        zeros : List ℕ
+        zeros = replicate (12 - length cs) 0
+
+        none : (k : ℕ) → getD zeros k 0 ≡ 0
+        none k = zeros-at (12 - length cs) k
+
+        go : (i < length cs) ⊎ (length cs ≤ i) → getD (cs ++ zeros) i 0 < stackCount (scan .kind) (scan .n)
+        go (inl l) = rw (List·getD-append cs zeros 0 i l) (children-inside (scan .kind) (scan .n) v (fit .is-size) h i l)
+        go (inr l) =
+            let at : i ≡ length cs + (i - length cs) = omega arith in
+            rw (at, getD-append-add cs zeros (i - length cs) 0, none (i - length cs)) (count-pos (scan .kind) (scan .n))
+
+  -- ---- room
+
+  -- where no segment lacks room, each has it: a child falls in no segment from G up
+  pub room-found : (waiting children : List ℕ) → WaitingFits scan waiting → ((i : ℕ) → i < length children → getD children i 0 < stacksAll (scanJob scan))
+      → scan .segments ≤ firstFrom (lacksRoom (scan .size) (scan .room) (scan .j) waiting children) 0 (scan .segments)
+      → HasRoom scan waiting children
+  room-found waiting children most inside all t ne = go (lt-or-ge t (scan .segments)) (lt-or-ge 0 (fallingIn (scan .size) t children))
+    where
+      go : (t < scan .segments) ⊎ (scan .segments ≤ t) → (0 < fallingIn (scan .size) t children) ⊎ (fallingIn (scan .size) t children ≤ 0)
+          → getD waiting t 0 + fallingIn (scan .size) t children ≤ scan .room
+      go (inl h) s =
+          omega (
+            arith,
+            most t,
+            room-enough (scan .size) (scan .room) (scan .j) waiting children t
+                (first-before (lacksRoom (scan .size) (scan .room) (scan .j) waiting children) 0 (scan .segments) t (omega arith) (omega arith))
+                ne,
+          )
+      go (inr h) (inl l) =
+          let q = falling-place (scan .size) t children l in
+          let low = stack-segment (stacksAll (scanJob scan)) (scan .size) (facts .some) (getD children (q .0) 0) (inside (q .0) (q .1)) in
+          absurd (omega (arith, q .2, fit .segments-are))
+      go (inr h) (inr l) = omega (arith, most t)
+
+  -- ---- one stack
+  module _ (at : ℕ) (segment : List ℕ) (count : ℕ) (log waiting : List ℕ) where
+    pub next-skips : (entryAt segment at ≡ scan .from → ⊥)
+        → expandNext (scanJob scan) (scan .j) (running at segment count log waiting) ≡ running (suc at) segment count log waiting
+    unfolding expandNext passOne scanJob levelOf
+    next-skips ne = rw (ne-eqb (entryAt segment at) ((scan .level - 1) % 3) (λ e. ne (e ∙ sym (fit .from-is))))
+
+    module _ (due : entryAt segment at ≡ scan .from) (full : ℕ)
+        (lowest : full ≡ firstFrom (lacksRoom (scan .size) (scan .room) (scan .j) waiting (childrenAt scan at)) 0 (scan .segments)) where
+      pub next-waits : full < scan .segments
+          → expandNext (scanJob scan) (scan .j) (running at segment count log waiting)
+          ≡ reachedWith (record { at = at; waits = true; on = full; count = count }) segment log waiting
+      unfolding expandNext expandStack waitFor scanJob levelOf
+      next-waits h =
+          rw (
+            eq-eqb (entryAt segment at) ((scan .level - 1) % 3) (due ∙ fit .from-is),
+            segments-of,
+            ← lowest,
+            lt-ltb full (scan .segments) h,
+          )
+
+      pub next-places : (segment′ : List ℕ) (count′ : ℕ) (log′ waiting′ : List ℕ) → scan .segments ≤ full
+          → running at segment′ count′ log′ waiting′
+          ≡ placeAll (scanJob scan) (scan .j) (childrenAt scan at) (running at segment count log waiting)
+          → expandNext (scanJob scan) (scan .j) (running at segment count log waiting) ≡ running (suc at) segment′ count′ log′ waiting′
+      unfolding expandNext expandStack passOne scanJob levelOf
+      next-places segment′ count′ log′ waiting′ h e =
+          rw (
+            eq-eqb (entryAt segment at) ((scan .level - 1) % 3) (due ∙ fit .from-is),
+            segments-of,
+            ← lowest,
+            le-ltb full (scan .segments) h,
+            ← e,
+          )
+
+  -- a call that waits goes no further
+  run-stopped : (left : ℕ) (e : Expansion) → e .waits ≡ true → expandRun (scanJob scan) (scan .j) left e ≡ e
+  unfolding expandRun expandNext
+  run-stopped zero e h = refl
+  run-stopped (suc left) e h = ap (expandRun (scanJob scan) (scan .j) left) (next e h) ∙ run-stopped left e h
+    where
+      next : (e : Expansion) → e .waits ≡ true → expandNext (scanJob scan) (scan .j) e ≡ e
+      next e h = rw h
+
+-- ---- the run
+
+-- a call that has come to stack `at`, from what it was given
+pub record RunTo (scan : Scan) (first stacks : ℕ) (segment₀ : List ℕ) (count₀ : ℕ) (log₀ waiting₀ : List ℕ) (segment : List ℕ) (count : ℕ)
+    (log waiting : List ℕ) (at : ℕ) : Type 0 where
+  pub given : RunFits scan first stacks count₀ segment₀ log₀ waiting₀
+  pub within : at ≤ stacks
+  pub fits : LentFits scan segment log waiting
+  pub counted : count ≤ countLimit + 12 * at
+  pub run : expandRun (scanJob scan) (scan .j) (stacks - first) (running first segment₀ count₀ log₀ waiting₀)
+      ≡ expandRun (scanJob scan) (scan .j) (stacks - at) (running at segment count log waiting)
+
+module _ {scan : Scan} {first stacks : ℕ} {segment₀ : List ℕ} {count₀ : ℕ} {log₀ waiting₀ : List ℕ} where
+  pub run-none : RunFits scan first stacks count₀ segment₀ log₀ waiting₀
+      → RunTo scan first stacks segment₀ count₀ log₀ waiting₀ segment₀ count₀ log₀ waiting₀ first
+  run-none given = record { given = given; within = given .within; fits = given .lent; counted = omega (arith, given .few); run = refl }
+
+  module _ {segment : List ℕ} {count : ℕ} {log waiting : List ℕ} {at : ℕ}
+      (r : RunTo scan first stacks segment₀ count₀ log₀ waiting₀ segment count log waiting at) where
+    pub run-end : stacks ≤ at
+        → running at segment count log waiting
+        ≡ expandRun (scanJob scan) (scan .j) (stacks - first) (running first segment₀ count₀ log₀ waiting₀)
+    unfolding expandRun
+    run-end h =
+        sym
+        (r .run
+        ∙ ap (λ (n : ℕ). expandRun (scanJob scan) (scan .j) n (running at segment count log waiting))
+        (let e : stacks - at ≡ 0 = omega arith in e))
+
+    -- there are few enough stacks that the count stays far below its type's end
+    few : count ≤ 2 ^ 61
+    unfolding countLimit stacksOf scanJob
+    few =
+        let facts : ScanFacts scan = scan-facts scan (r .given .fit) in
+        omega (arith, r .counted, r .within, r .given .all, stacksIn-le (stacksAll (scanJob scan)) (scan .size) (facts .some) (scan .j))
+
+    -- the same values by other names
+    pub run-same : {segment′ : List ℕ} {count′ : ℕ} {log′ waiting′ : List ℕ} → segment′ ≡ segment → log′ ≡ log → waiting′ ≡ waiting
+        → count′ ≡ count → RunTo scan first stacks segment₀ count₀ log₀ waiting₀ segment′ count′ log′ waiting′ at
+    run-same a b c d = rw (a, b, c, d) r
+
+    module _ (more : at < stacks) where
+      pub run-byte : at / 4 < length segment
+      run-byte = rw (r .fits .bytes, ← (r .given .all)) (byte-inside at stacks more)
+
+      inside : scan .j * scan .size + at < stacksAll (scanJob scan)
+      inside = stack-inside scan (r .given .fit) at (rw (← (r .given .all)) more)
+
+      pub run-inside : scan .j * scan .size + at < stackCount (scan .kind) (scan .n)
+      unfolding stacksAll scanJob
+      run-inside = inside
+
+      run-next : expandRun (scanJob scan) (scan .j) (stacks - first) (running first segment₀ count₀ log₀ waiting₀)
+          ≡ expandRun (scanJob scan) (scan .j) (stacks - suc at) (expandNext (scanJob scan) (scan .j) (running at segment count log waiting))
+      unfolding expandRun
+      run-next =
+          r .run
+          ∙ ap (λ (n : ℕ). expandRun (scanJob scan) (scan .j) n (running at segment count log waiting))
+          (let e : stacks - at ≡ suc (stacks - suc at) = omega arith in e)
+
+      run-more : {segment′ : List ℕ} {count′ : ℕ} {log′ waiting′ : List ℕ} → LentFits scan segment′ log′ waiting′ → count′ ≤ count + 12
+          → expandNext (scanJob scan) (scan .j) (running at segment count log waiting) ≡ running (suc at) segment′ count′ log′ waiting′
+          → RunTo scan first stacks segment₀ count₀ log₀ waiting₀ segment′ count′ log′ waiting′ (at + 1)
+      run-more fits counted step =
+          record {
+            given = r .given;
+            within = omega arith;
+            fits = fits;
+            counted = omega (arith, r .counted);
+            run = rw (add-one at) (run-next ∙ ap (expandRun (scanJob scan) (scan .j) (stacks - suc at)) step);
+          }
+
+      run-waits : (reached : Reached) → reached .waits ≡ true
+          → expandNext (scanJob scan) (scan .j) (running at segment count log waiting) ≡ reachedWith reached segment log waiting
+          → reachedWith reached segment log waiting
+          ≡ expandRun (scanJob scan) (scan .j) (stacks - first) (running first segment₀ count₀ log₀ waiting₀)
+      run-waits reached waits step =
+          sym
+          (run-next
+          ∙ ap (expandRun (scanJob scan) (scan .j) (stacks - suc at)) step
+          ∙ run-stopped scan (r .given .fit) (stacks - suc at) (reachedWith reached segment log waiting) waits)
+
+      -- a stack that is due, with its children in an array and the lowest segment that lacks room for them
+      module _ {array : List ℕ} {full : ℕ} (due : entryAt segment at ≡ scan .from)
+          (filled : array ≡ childrenAt scan at ++ replicate (12 - length (childrenAt scan at)) 0)
+          (lowest : full ≡ firstFrom (lacksRoom (scan .size) (scan .room) (scan .j) waiting (take (scan .turns) array)) 0 (scan .segments)) where
+        children : take (scan .turns) array ≡ childrenAt scan at
+        children = array-children scan (r .given .fit) (scan .j * scan .size + at) array filled
+
+        lowest-children : full ≡ firstFrom (lacksRoom (scan .size) (scan .room) (scan .j) waiting (childrenAt scan at)) 0 (scan .segments)
+        lowest-children =
+            lowest ∙ ap (λ (cs : List ℕ). firstFrom (lacksRoom (scan .size) (scan .room) (scan .j) waiting cs) 0 (scan .segments)) children
+
+        pub run-blocked : full < scan .segments
+            → reachedWith (record { at = at; waits = true; on = full; count = count }) segment log waiting
+            ≡ expandRun (scanJob scan) (scan .j) (stacks - first) (running first segment₀ count₀ log₀ waiting₀)
+        run-blocked h =
+            run-waits (record { at = at; waits = true; on = full; count = count }) refl
+            (next-waits scan (r .given .fit) at segment count log waiting due full lowest-children h)
+
+        module _ (enough : scan .segments ≤ full) where
+          room : HasRoom scan waiting (take (scan .turns) array)
+          unfolding stacksAll scanJob
+          room =
+              rw children
+              (room-found scan (r .given .fit) waiting (childrenAt scan at) (r .fits .most)
+              (children-inside (scan .kind) (scan .n) (scan .j * scan .size + at) (r .given .fit .is-size) inside)
+              (rw (← lowest-children) enough))
+
+          pub run-children : ChildrenFit scan array count segment log waiting
+          run-children =
+              record {
+                fit = r .given .fit;
+                lent = r .fits;
+                below = array-below scan (r .given .fit) (scan .j * scan .size + at) array filled inside;
+                room = room;
+                few = few;
+              }
+
+          pub run-placed : {segment′ : List ℕ} {count′ : ℕ} {log′ waiting′ : List ℕ}
+              → ((at : ℕ) → running at segment′ count′ log′ waiting′
+              ≡ placeAll (scanJob scan) (scan .j) (take (scan .turns) array) (running at segment count log waiting))
+              → RunTo scan first stacks segment₀ count₀ log₀ waiting₀ segment′ count′ log′ waiting′ (at + 1)
+          run-placed {segment′} {count′} {log′} {waiting′} step =
+              let before = running at segment count log waiting in
+              run-more
+              (subst (Fits scan) (sym (step at)) (all-fits scan (take (scan .turns) array) before (r .fits) room))
+              (omega (
+                arith,
+                ap (λ (e : Expansion). e .marks .count) (step at),
+                all-count scan (take (scan .turns) array) before,
+                length-take (scan .turns) array,
+                scan-facts scan (r .given .fit),
+              ))
+              (next-places scan (r .given .fit) at segment count log waiting due full lowest-children segment′ count′ log′ waiting′ enough
+              (step at ∙ ap (λ (cs : List ℕ). placeAll (scanJob scan) (scan .j) cs before) children))
+
+      pub run-skipped : (entryAt segment at ≡ scan .from → ⊥)
+          → RunTo scan first stacks segment₀ count₀ log₀ waiting₀ segment count log waiting (at + 1)
+      run-skipped ne =
+          run-more (r .fits) (omega arith) (next-skips scan (r .given .fit) at segment count log waiting ne)

@@ -1,0 +1,123 @@
+-- `expand::children::children_of` meets its contract. The loop's invariant: the first i children, and zeros after them.
+use mathlib.Core.Path.{_≡_, sym, ap, _∙_}
+use Prim.Native.Nat.{_+_, _-_, _≤_}
+use native.Mathlib.Omega.{arith}
+use borrow.Author.Needs.{needs}
+use Rattle.stacks.specs.Turn.{firstTurn, turnOf}
+use Rattle.stacks.specs.Index.{rankOf, stackAt}
+use Rattle.stacks.specs.Stack.{isStack}
+use Rattle.stacks.proofs.Numbering.{unrank-stack}
+use Rattle.stacks.proofs.Sizes.{size-twelve}
+use Rattle.stacks.proofs.TurnLaws.{first-pos, turn-stack}
+use Rattle.expand.proofs.Filling.{filledTo, first-within, filled-none, filled-more, filled-all}
+use Rattle.expand.proofs.children.children_of.Statement.{statement}
+use Rattle.expand.proofs.children.children_of.Tie as tie
+
+abbrev Inv-loop : tie.InvT-loop
+Inv-loop kind n index stack children₀ k₀ i₀ children k i =
+    (n ≤ 12) × (k ≤ n + 1) × (k ≡ firstTurn kind + i) × (1 ≤ firstTurn kind) × (children ≡ filledTo kind n index i)
+
+abbrev μ-loop : tie.MeasureT-loop
+μ-loop kind n index stack children₀ k₀ i₀ children k i = n + 1 - k
+
+unrank-requires : tie.Need-unrank-requires Inv-loop μ-loop
+unrank-requires c κs = c .pre
+
+first-turn-requires : tie.Need-first-turn-requires Inv-loop μ-loop
+first-turn-requires c κs = search needs
+
+loop-holds : tie.Need-loop-holds Inv-loop μ-loop
+loop-holds c =
+    let s = c .before .before in
+    let size = s .pre .0 in
+    let first = c .first-turn .ensures in (
+      size-twelve (s .args .kind) (s .args .n) size,
+      omega (arith, first-within (s .args .kind) (s .args .n) size),
+      omega arith,
+      first-pos (s .args .kind),
+      sym (filled-none (s .args .kind) (s .args .n) (s .args .index)),
+    )
+
+turned-requires : tie.Need-turned-requires Inv-loop μ-loop
+turned-requires c κs =
+    let s = c .before .before .before .before in (
+      s .pre .0,
+      ap (isStack (s .args .kind) (s .args .n)) (c .before .before .before .unrank .ensures)
+          ∙ unrank-stack (s .args .kind) (s .args .n) (s .args .index) (s .pre .0) (s .pre .1),
+      omega arith,
+    )
+
+turned-is : (c : tie.After-turned Inv-loop μ-loop)
+    → let s = c .before .before .before .before .before in
+    c .turned .result ≡ turnOf (s .args .kind) (c .before .before .loop .k) (stackAt (s .args .kind) (s .args .n) (s .args .index))
+turned-is c =
+    let s = c .before .before .before .before .before in
+    c .turned .ensures ∙ ap (turnOf (s .args .kind) (c .before .before .loop .k)) (c .before .before .before .before .unrank .ensures)
+
+rank-requires : tie.Need-rank-requires Inv-loop μ-loop
+rank-requires c κs =
+    let s = c .before .before .before .before .before in (
+      s .pre .0,
+      ap (isStack (s .args .kind) (s .args .n)) (turned-is c)
+          ∙ turn-stack (s .args .kind) (s .args .n) (s .pre .0) (c .before .before .loop .k) (stackAt (s .args .kind) (s .args .n) (s .args .index)) (omega arith)
+          (unrank-stack (s .args .kind) (s .args .n) (s .args .index) (s .pre .0) (s .pre .1)),
+    )
+
+mul-children : tie.Need-mul-children Inv-loop μ-loop
+mul-children c = omega arith
+
+array-write-children : tie.Need-array-write-children Inv-loop μ-loop
+array-write-children c = omega arith
+
+add-k : tie.Need-add-k Inv-loop μ-loop
+add-k c = omega arith
+
+add-i : tie.Need-add-i Inv-loop μ-loop
+add-i c = omega arith
+
+loop-less : tie.Need-loop-less Inv-loop μ-loop
+loop-less c = omega arith
+
+loop-again : tie.Need-loop-again Inv-loop μ-loop
+loop-again c =
+    let a = c .before .before .before in
+    let s = a .before .before .before in
+    let inv = a .loop .inv in (
+      inv .0,
+      omega arith,
+      omega arith,
+      inv .3,
+      filled-more (s .args .kind) (s .args .n) (s .args .index) (a .loop .children) (a .loop .k) (a .loop .i) (c .rank .result) (s .pre .0)
+          (inv .4)
+          (inv .2)
+          (omega arith)
+          (c .rank .ensures ∙ ap (rankOf (s .args .kind) (s .args .n)) (turned-is (c .before))),
+    )
+
+returns : tie.Need-returns Inv-loop μ-loop
+returns c =
+    let a = c .before in
+    let s = a .before .before .before in
+    filled-all (s .args .kind) (s .args .n) (s .args .index) (a .loop .children) (a .loop .k) (a .loop .i) (a .loop .inv .4)
+    (a .loop .inv .2)
+    (omega arith)
+    (omega arith)
+
+pub children-of-spec : {M : Type 1} → statement M
+children-of-spec =
+    tie.close
+    (tie.spec
+    Inv-loop
+    μ-loop
+    unrank-requires
+    first-turn-requires
+    loop-holds
+    turned-requires
+    rank-requires
+    mul-children
+    array-write-children
+    add-k
+    add-i
+    loop-less
+    loop-again
+    returns)

@@ -1,0 +1,140 @@
+-- `expand::place::place_child` meets its contract: a child of this segment, newly marked or seen, and a child of another.
+use mathlib.Core.Path.{sym, ap}
+use mathlib.Core.Bool.{Bool, cond}
+use Prim.Native.Nat.{_+_}
+use native.Mathlib.Omega.{arith}
+use lib.ListN.{length-take, length-drop}
+use borrow.Author.Needs.{needs}
+use Rattle.expand.proofs.Fitting.{scan-facts}
+use Rattle.expand.proofs.Placing.{LogPlace, child-byte, log-place, placed-here, placed-elsewhere}
+use Rattle.expand.proofs.place.place_child.Statement.{statement}
+use Rattle.expand.proofs.place.place_child.Tie as tie
+
+-- a child of another segment
+place : (c : tie.Else1)
+    → let a = c .before .before .before .before .args in LogPlace (a .scan) (a .child) (a .log .now) (a .waiting .now)
+place c = log-place (c .before .before .before .before .pre) (c .if1 .left)
+
+div-t : tie.Need-div-t
+div-t c = scan-facts (c .before .before .args .scan) (c .before .before .pre .fit) .some
+
+rem-offset : tie.Need-rem-offset
+rem-offset c = scan-facts (c .before .before .args .scan) (c .before .before .pre .fit) .some
+
+mark-requires : tie.Need-mark-requires
+mark-requires c κs =
+    let here = c .before in
+    let s = here .before .before .before .before in (omega (arith, s .pre .fit .mark-is), child-byte (s .pre) (here .if1 .taken))
+
+add-result : tie.Need-add-result
+add-result c = search needs
+
+same-length : tie.Need-same-length
+same-length c = search needs
+
+returns : tie.Need-returns
+returns c =
+    let marked = c .before .before .before in
+    let here = marked .before .before in
+    let s = here .before .before .before .before in
+    placed-here (s .pre) (here .if1 .taken) (marked .mark .ensures)
+    (ap (λ (b : Bool). cond b (s .args .count + 1) (s .args .count)) (sym (c .if2 .taken)))
+
+same-length-2 : tie.Need-same-length-2
+same-length-2 c = search needs
+
+returns-2 : tie.Need-returns-2
+returns-2 c =
+    let marked = c .before .before .before in
+    let here = marked .before .before in
+    let s = here .before .before .before .before in
+    placed-here (s .pre) (here .if1 .taken) (marked .mark .ensures)
+    (ap (λ (b : Bool). cond b (s .args .count + 1) (s .args .count)) (sym (c .if2 .left)))
+
+cast-start : tie.Need-cast-start
+cast-start c = omega (arith, place c)
+
+cast-start-2 : tie.Need-cast-start-2
+cast-start-2 c = search needs
+
+mul-start : tie.Need-mul-start
+mul-start c = omega (arith, place (c .before))
+
+cast-at : tie.Need-cast-at
+cast-at c = omega (arith, place (c .before))
+
+mul-at : tie.Need-mul-at
+mul-at c = omega (arith, place (c .before))
+
+element-copy-out-at : tie.Need-element-copy-out-at
+element-copy-out-at c = omega (arith, place (c .before))
+
+mul-append : tie.Need-mul-append
+mul-append c = omega (arith, place (c .before .before))
+
+sub-append : tie.Need-sub-append
+sub-append c = omega (arith, place (c .before .before))
+
+part-append-start : tie.Need-part-append-start
+part-append-start c = omega (arith, place (c .before .before))
+
+part-append-end : tie.Need-part-append-end
+part-append-end c = search needs
+
+cast-append : tie.Need-cast-append
+cast-append c = omega (arith, place (c .before .before .before))
+
+append-requires : tie.Need-append-requires
+append-requires c κs = simp (length-take, length-drop) (omega (arith, place (c .before .before .before)))
+
+add-waiting : tie.Need-add-waiting
+add-waiting c = omega (arith, place (c .before .before .before .before .before .before))
+
+cast-waiting : tie.Need-cast-waiting
+cast-waiting c = omega (arith, place (c .before .before .before .before .before .before))
+
+mul-waiting : tie.Need-mul-waiting
+mul-waiting c = omega (arith, place (c .before .before .before .before .before .before))
+
+element-write-waiting : tie.Need-element-write-waiting
+element-write-waiting c = omega (arith, place (c .before .before .before .before .before .before))
+
+same-length-3 : tie.Need-same-length-3
+same-length-3 c = search needs
+
+returns-3 : tie.Need-returns-3
+returns-3 c =
+    let appended = c .before .before in
+    let elsewhere = appended .before .before .before .before in
+    placed-elsewhere (elsewhere .before .before .before .before .pre) (elsewhere .if1 .left) (appended .append .ensures)
+
+pub place-child-spec : {M : Type 1} → statement M
+place-child-spec =
+    tie.close
+    (tie.spec
+    div-t
+    rem-offset
+    mark-requires
+    add-result
+    same-length
+    returns
+    same-length-2
+    returns-2
+    cast-start
+    cast-start-2
+    mul-start
+    cast-at
+    mul-at
+    element-copy-out-at
+    mul-append
+    sub-append
+    part-append-start
+    part-append-end
+    cast-append
+    append-requires
+    add-waiting
+    cast-waiting
+    mul-waiting
+    element-write-waiting
+    same-length-3
+    returns-3)

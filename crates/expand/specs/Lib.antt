@@ -1,0 +1,2 @@
+-- What the functions of Expand promise of one another.
+pub mod Scan

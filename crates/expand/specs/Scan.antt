@@ -1,0 +1,126 @@
+-- One call of Expand as its functions speak of it.
+--   scanOf       what a call on segment j of a job copies
+--   scanJob      the job that a scan stands for
+--   ScanFits     what holds of a scan
+--   running      how far a call has come, where it does not wait
+--   LentFits     what holds of what is lent
+--   HasRoom      the logs have places for children
+--   ChildFits, ChildrenFit, RunFits   what placing one child, placing all and a run ask
+--   reachedWith  how far a call came
+use mathlib.Core.Path.{_≡_}
+use mathlib.Core.Bool.{true, false}
+use mathlib.Core.List.{List, [], _∷_}
+use Prim.Native.Nat.{ℕ, _+_, _-_, _*_, _%_, _^_, _<_, _≤_}
+use lib.ListN.{length, getD, take}
+use Rattle.stacks.specs.Stack.{isSize}
+use Rattle.stacks.specs.Turn.{turnsOf}
+use Rattle.search.specs.Entries.{bytesFor}
+use Rattle.search.specs.Expand.{Expansion, fallingIn}
+use Rattle.search.specs.JobState.{countLimit, levelOf, stacksAll, segmentsOf, stacksOf}
+use Rattle.search.specs.Segments.{segmentCount, isSegmentSize, isLogRoom}
+use Rattle.search.specs.declared.Job.{Job}
+use Rattle.search.specs.declared.Phase.the-variants.{Level}
+use Rattle.expand.specs.declared.run.Reached.{Reached}
+use Rattle.expand.specs.declared.scan.Scan.{Scan}
+
+unfoldable pub scanOf : Job → ℕ → Scan
+scanOf job j =
+    let d = levelOf (job .phase) in
+    record {
+      kind = job .kind;
+      n = job .n;
+      size = job .size;
+      room = job .room;
+      segments = segmentsOf job;
+      turns = length (turnsOf (job .kind) (job .n));
+      j = j;
+      level = d;
+      from = (d - 1) % 3;
+      mark = d % 3;
+    }
+
+-- its other fields do not matter
+unfoldable pub scanJob : Scan → Job
+scanJob scan =
+    record {
+      kind = scan .kind;
+      n = scan .n;
+      wanted = [];
+      size = scan .size;
+      room = scan .room;
+      phase = Level (scan .level);
+      passed = [];
+      waiting = [];
+      counts = [];
+    }
+
+pub record ScanFits (scan : Scan) : Type 0 where
+  pub is-size : isSize (scan .kind) (scan .n) ≡ true
+  pub size-fits : isSegmentSize (stacksAll (scanJob scan)) (scan .size) ≡ true
+  pub room-fits : isLogRoom (scan .room) ≡ true
+  pub segments-are : scan .segments ≡ segmentCount (stacksAll (scanJob scan)) (scan .size)
+  pub turns-are : scan .turns ≡ length (turnsOf (scan .kind) (scan .n))
+  pub inside : scan .j < scan .segments
+  pub from-is : scan .from ≡ (scan .level - 1) % 3
+  pub mark-is : scan .mark ≡ scan .level % 3
+
+-- a call at a stack that it does not wait before, from the count and what is lent
+abbrev pub running : ℕ → List ℕ → ℕ → List ℕ → List ℕ → Expansion
+running at segment count log waiting =
+    record {
+      at = at;
+      waits = false;
+      on = 0;
+      marks = record { segment = segment; count = count };
+      logs = record { log = log; waiting = waiting };
+    }
+
+-- no log is over full
+abbrev pub WaitingFits : Scan → List ℕ → Type 0
+WaitingFits scan waiting = (t : ℕ) → getD waiting t 0 ≤ scan .room
+
+-- every log but this segment's has a place for each child that falls in its segment
+abbrev pub HasRoom : Scan → List ℕ → List ℕ → Type 0
+HasRoom scan waiting children = (t : ℕ) → (t ≡ scan .j → ⊥) → getD waiting t 0 + fallingIn (scan .size) t children ≤ scan .room
+
+-- what is lent has its right length
+pub record LentFits (scan : Scan) (segment log waiting : List ℕ) : Type 0 where
+  pub bytes : length segment ≡ bytesFor (stacksOf (scanJob scan) (scan .j))
+  pub places : length log ≡ scan .segments * scan .room
+  pub logs : length waiting ≡ 64
+  pub most : WaitingFits scan waiting
+
+-- what the functions ask. The counts are bounded far below their type's end: each child adds at most one
+
+pub record ChildFits (scan : Scan) (child count : ℕ) (segment log waiting : List ℕ) : Type 0 where
+  pub fit : ScanFits scan
+  pub lent : LentFits scan segment log waiting
+  pub below : child < stacksAll (scanJob scan)
+  pub room : HasRoom scan waiting (child ∷ [])
+  pub few : count ≤ 2 ^ 62
+
+-- the children are the first of an array
+pub record ChildrenFit (scan : Scan) (array : List ℕ) (count : ℕ) (segment log waiting : List ℕ) : Type 0 where
+  pub fit : ScanFits scan
+  pub lent : LentFits scan segment log waiting
+  pub below : (i : ℕ) → getD array i 0 < stacksAll (scanJob scan)
+  pub room : HasRoom scan waiting (take (scan .turns) array)
+  pub few : count ≤ 2 ^ 61
+
+pub record RunFits (scan : Scan) (first stacks count : ℕ) (segment log waiting : List ℕ) : Type 0 where
+  pub fit : ScanFits scan
+  pub lent : LentFits scan segment log waiting
+  pub all : stacks ≡ stacksOf (scanJob scan) (scan .j)
+  pub within : first ≤ stacks
+  pub few : count ≤ countLimit
+
+-- how far a call came, with what it leaves of what it was lent
+abbrev pub reachedWith : Reached → List ℕ → List ℕ → List ℕ → Expansion
+reachedWith reached segment log waiting =
+    record {
+      at = reached .at;
+      waits = reached .waits;
+      on = reached .on;
+      marks = record { segment = segment; count = reached .count };
+      logs = record { log = log; waiting = waiting };
+    }

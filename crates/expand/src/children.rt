@@ -1,0 +1,40 @@
+// The children of a stack.
+ghost use mathlib.Core.Bool.{true};
+ghost use mathlib.Core.List.{_++_};
+ghost use mathlib.Core.Path.{_≡_};
+ghost use Prim.Native.Nat.{_-_, _<_};
+ghost use lib.ListN.{length, replicate};
+ghost use Rattle.search.specs.Expand.{childrenOf};
+ghost use Rattle.stacks.specs.Stack.{isSize, stackCount};
+ghost use Rattle.stacks.specs.Turn.{turnsOf};
+use perm::kind;
+use perm::numbering;
+use perm::turning;
+
+// How many turns a kind and n have, which is how many children each stack has.
+pub fn turn_count(kind: u8, n: u8) -> u32
+    requires { ⌜ isSize kind n ≡ true ⌝ }
+    ensures { λ r. ⌜ r ≡ length (turnsOf kind n) ⌝ }
+{
+    let last = (n as u32) + 1;
+    let first = kind::first_turn(kind) as u32;
+    if last < first { 0 } else { last - first }
+}
+
+// The indexes of the children of the stack at an index, by rising k, and zeros after them.
+pub fn children_of(kind: u8, n: u8, index: u32) -> [u32; 12]
+    requires { ⌜ (isSize kind n ≡ true) × (index < stackCount kind n) ⌝ }
+    ensures { λ r. ⌜ r ≡ childrenOf kind n index ++ replicate (12 - length (childrenOf kind n index)) 0 ⌝ }
+{
+    let stack = numbering::unrank(kind, n, index);
+    let mut children = [0u32; 12];
+    let mut k = kind::first_turn(kind);
+    let mut i: usize = 0;
+    while k <= n {
+        let child = turning::turned(kind, n, stack, k);
+        children[i] = numbering::rank(kind, n, child);
+        k += 1;
+        i += 1;
+    }
+    children
+}

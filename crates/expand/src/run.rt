@@ -1,0 +1,59 @@
+// A run of Expand over the stacks of a segment.
+ghost use mathlib.Core.Path.{_≡_};
+ghost use Prim.Native.Nat.{_-_};
+ghost use Rattle.search.specs.Expand.{expandRun};
+ghost use Rattle.expand.specs.Scan.{RunFits, running, reachedWith, scanJob};
+use crate::children;
+use crate::logs;
+use crate::place;
+use crate::scan::Scan;
+use twobit::entry;
+
+// How far a call came: the first stack not passed, whether it waits before it and for which segment, and the level's count.
+pub struct Reached {
+    pub at: u32,
+    pub waits: bool,
+    pub on: u32,
+    pub count: u64,
+}
+
+// From the first stack not passed to the last, or to the first whose children lack room.
+pub fn expand_run(
+    scan: Scan,
+    first: u32,
+    stacks: u32,
+    from_count: u64,
+    segment: &mut [u8],
+    log: &mut [u32],
+    waiting: &mut [u32; 64],
+) -> Reached
+    requires { ⌜ RunFits scan first stacks «from_count» (now segment) (now log) (now waiting) ⌝ }
+    ensures { λ r. ⌜ reachedWith r (now (segment .exit)) (now (log .exit)) (now (waiting .exit)) ≡ expandRun (scanJob scan) (scan .j) (stacks - first) (running first (now (segment .entry)) «from_count» (now (log .entry)) (now (waiting .entry))) ⌝ }
+{
+    let base = scan.j * scan.size;
+    let segments = scan.segments;
+    let mut count = from_count;
+    let mut at = first;
+    while at < stacks {
+        if entry::get_entry(segment, at) == scan.from {
+            let children = children::children_of(scan.kind, scan.n, base + at);
+            let full = logs::full_segment(scan, children, waiting);
+            if full < segments {
+                return Reached {
+                    at,
+                    waits: true,
+                    on: full,
+                    count,
+                };
+            }
+            count = place::place_all(scan, children, count, segment, log, waiting);
+        }
+        at += 1;
+    }
+    Reached {
+        at,
+        waits: false,
+        on: 0,
+        count,
+    }
+}

@@ -1,0 +1,87 @@
+-- What a job that Begin would accept, and a coherent one, keep within bounds, so that the code's numbers fit.
+use mathlib.Core.Path.{_≡_, refl, subst}
+use mathlib.Core.Bool.{Bool, true, cond}
+use Prim.Native.Nat.{ℕ, _+_, _*_, _≤_, _<_}
+use native.Mathlib.Nat.{suc-mul, mul-le-mul, mul-le-mul-right}
+use native.Mathlib.Omega.{arith}
+use borrow.Author.Tests.{lt-ltb, ltb-true, leb-true}
+use lib.Dec.{leb}
+use Rattle.base.proofs.Tests.{and-left, and-right, never}
+use Rattle.stacks.specs.Stack.{isSize, isStack}
+use Rattle.search.specs.JobState.{lastLevel, beginRefusal, isLevel, levelOf, phaseFits, stacksAll, segmentsOf, logLength, waitingOf, isCoherent}
+use Rattle.search.specs.Segments.{segmentLimit}
+use Rattle.search.specs.declared.Job.{Job}
+use Rattle.search.specs.declared.Phase.{Phase}
+use Rattle.search.specs.declared.Phase.the-variants.{Blanking, Level, Finished}
+use Rattle.search.proofs.Coherence.{begin-given, coherent-facts}
+use Rattle.search.proofs.SegmentLaws.{segment-size-facts, log-room-facts}
+
+pub record Bounds (job : Job) : Type 0 where
+  pub is-size : isSize (job .kind) (job .n) ≡ true
+  pub is-stack : isStack (job .kind) (job .n) (job .wanted) ≡ true
+  pub some : 0 < job .size
+  pub small : job .size ≤ 67108864
+  pub few : segmentsOf job ≤ 64
+  pub narrow : job .room ≤ 1048576
+
+module _ (job : Job) where
+  pub begun-bounds : beginRefusal (job .kind) (job .n) (job .wanted) (job .size) (job .room) ≡ 0 → Bounds job
+  unfolding segmentsOf stacksAll
+  begun-bounds h =
+      let g = begin-given (job .kind) (job .n) (job .wanted) (job .size) (job .room) h in
+      let s = segment-size-facts (stacksAll job) (job .size) (g .segments) in
+      record {
+        is-size = g .size;
+        is-stack = g .stack;
+        some = omega (arith, s .least);
+        small = s .most;
+        few = s .few;
+        narrow = log-room-facts (job .room) (g .room) .most;
+      }
+
+  pub coherent-bounds : isCoherent job ≡ true → Bounds job
+  coherent-bounds h = begun-bounds (coherent-facts job h .begins)
+
+-- ---- the level
+
+level-le : (p : Phase) → phaseFits p ≡ true → levelOf p ≤ 31
+unfolding phaseFits levelOf lastLevel
+level-le Blanking h = omega arith
+level-le (Level d) h = leb-true d 31 (and-right (leb 1 d) (leb d 31) h)
+level-le (Finished d) h = omega (arith, ltb-true d 31 h)
+
+level-pos : (p : Phase) → phaseFits p ≡ true → isLevel p ≡ true → 1 ≤ levelOf p
+unfolding phaseFits levelOf isLevel lastLevel
+level-pos Blanking h k = never k refl
+level-pos (Level d) h k = leb-true 1 d (and-left (leb 1 d) (leb d 31) h)
+level-pos (Finished d) h k = never k refl
+
+module _ (job : Job) (coherent : isCoherent job ≡ true) where
+  pub level-most : levelOf (job .phase) ≤ 31
+  level-most = level-le (job .phase) (coherent-facts job coherent .phase-fits)
+
+  pub level-least : isLevel (job .phase) ≡ true → 1 ≤ levelOf (job .phase)
+  level-least = level-pos (job .phase) (coherent-facts job coherent .phase-fits)
+
+  -- ---- the log area, of at most 64 logs of 2^20 places
+
+  pub area-small : logLength job ≤ 67108864
+  unfolding logLength
+  area-small =
+      let b = coherent-bounds job coherent in
+      omega (arith, mul-le-mul (b .few) (b .narrow))
+
+  module _ (j : ℕ) (inside : j < segmentsOf job) where
+    pub segment-below : j < 64
+    segment-below = omega (arith, coherent-bounds job coherent .few)
+
+    pub waiting-le : waitingOf job j ≤ job .room
+    unfolding segmentLimit
+    waiting-le =
+        subst (λ (t : Bool). waitingOf job j ≤ cond t (job .room) 0) (lt-ltb j (segmentsOf job) inside)
+        (coherent-facts job coherent .waiting-fits j segment-below)
+
+    -- the waiting part of a log is within the log area
+    pub part-within : j * job .room + waitingOf job j ≤ logLength job
+    unfolding logLength
+    part-within = omega (arith, waiting-le, suc-mul j (job .room), mul-le-mul-right (job .room) inside)

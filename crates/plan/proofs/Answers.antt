@@ -1,0 +1,99 @@
+-- The answers of Read an entry and Plan, with the row's number or with what was asked for; and when there is a plan.
+use mathlib.Core.Path.{_≡_}
+use mathlib.Core.Bool.{Bool, true, false, not, _&&_}
+use mathlib.Core.List.{List, _++_}
+use Prim.Native.Nat.{ℕ}
+use native.Mathlib.Omega.{arith}
+use lib.Dec.{eqb}
+use lib.IntN.{ℤ}
+use lib.ListN.{length, take, drop}
+use borrow.Author.Tests.{eq-eqb, ne-eqb}
+use Rattle.base.specs.Words.{unless}
+use Rattle.base.proofs.Tests.{and-fails-left, and-fails-right}
+use Rattle.stacks.specs.Index.{rankOf}
+use Rattle.search.specs.Entries.{entryAt, unseen}
+use Rattle.search.specs.Plan.{entryOf, isWanted, routeFrom, hasPlan, planRefusal, planOf}
+use Rattle.search.specs.Read.{readRefusal, readOf}
+use Rattle.search.specs.declared.Entry.{Entry}
+use Rattle.search.specs.declared.Planned.{Planned}
+use Rattle.plan.specs.Row.{planRow}
+use Rattle.plan.proofs.Routes.{routeAt}
+use Rattle.plan.proofs.Rows.{RowFacts, row-refuses, row-goes-on}
+
+-- ---- Read an entry: r is what the row answers
+
+module _ (kind n : ℕ) (table : List ℕ) (i r : ℕ) (e : r ≡ readRefusal kind n (length table) i) where
+  pub no-entry : (r ≡ 0 → ⊥) → _≡_ {A = Entry} (record { refusal = r; entry = 0 }) (readOf kind n table i)
+  unfolding readOf
+  no-entry h = rw (← e, ne-eqb r 0 h)
+
+  pub an-entry : r ≡ 0 → (v : ℕ) → v ≡ entryAt table i → _≡_ {A = Entry} (record { refusal = 0; entry = v }) (readOf kind n table i)
+  unfolding readOf
+  an-entry h v q = rw (← e, h, q)
+
+-- ---- when there is a plan
+
+module _ (kind n : ℕ) (table : List ℕ) (wanted given : List ℤ) where
+  -- the three tests in their order
+  abbrev seen : Bool
+  seen = not (eqb (entryOf kind n table given) 3)
+
+  abbrev rooted : Bool
+  rooted = eqb (entryOf kind n table wanted) 0
+
+  abbrev arrives : Bool
+  arrives = isWanted kind n table wanted (routeFrom kind n table wanted given .stack)
+
+  -- v is the given stack's entry
+  module _ (v : ℕ) (a : v ≡ entryOf kind n table given) where
+    pub no-plan-unseen : v ≡ 3 → hasPlan kind n table wanted given ≡ false
+    unfolding hasPlan unseen
+    no-plan-unseen h = rw (← a, h)
+
+    -- w is the wanted stack's entry
+    module _ (w : ℕ) (b : w ≡ entryOf kind n table wanted) where
+      pub no-plan-root : (w ≡ 0 → ⊥) → hasPlan kind n table wanted given ≡ false
+      unfolding hasPlan unseen
+      no-plan-root h = and-fails-left (seen && rooted) arrives (and-fails-right seen rooted (rw (← b) (ne-eqb w 0 h)))
+
+      -- the route comes to the stack s
+      module _ (s : List ℤ) (c : s ≡ routeFrom kind n table wanted given .stack) (end goal : ℕ) (d : end ≡ rankOf kind n s) (e : goal ≡ rankOf kind n wanted) where
+        pub no-plan-route : (end ≡ goal → ⊥) → hasPlan kind n table wanted given ≡ false
+        unfolding hasPlan unseen isWanted
+        no-plan-route h = and-fails-right (seen && rooted) arrives (rw (← c, ← d, ← e) (ne-eqb end goal h))
+
+        pub a-plan : (v ≡ 3 → ⊥) → w ≡ 0 → end ≡ goal → hasPlan kind n table wanted given ≡ true
+        unfolding hasPlan unseen isWanted
+        a-plan h k l = rw (← a, ← b, ← c, ← d, ← e, ne-eqb v 3 h, k, eq-eqb end goal l)
+
+-- ---- Plan
+
+module _ (kind n : ℕ) (wanted given : List ℤ) (table list : List ℕ) where
+  refused : (r : ℕ) → r ≡ planRefusal kind n wanted given table (length list) → (r ≡ 0 → ⊥)
+      → _≡_ {A = List ℕ × Planned} (list, record { refusal = r; turns = 0 }) (planOf kind n wanted given table list)
+  unfolding planOf
+  refused r e h = rw (← e, ne-eqb r 0 h)
+
+  -- the row up to 15 refuses
+  pub row-refused : (r : ℕ) → r ≡ planRow kind n wanted given (length table) (length list) 0 → (r ≡ 0 → ⊥)
+      → _≡_ {A = List ℕ × Planned} (list, record { refusal = r; turns = 0 }) (planOf kind n wanted given table list)
+  unfolding planRefusal planRow
+  row-refused r e h =
+      refused r (row-refuses kind n wanted given (length table) (length list) r (unless (hasPlan kind n table wanted given) 15 0) e h) h
+
+  -- it does not
+  module _ (f : RowFacts kind n wanted given (length table) (length list)) where
+    rest-is : unless (hasPlan kind n table wanted given) 15 0 ≡ planRefusal kind n wanted given table (length list)
+    unfolding planRefusal planRow
+    rest-is = row-goes-on kind n wanted given (length table) (length list) f (unless (hasPlan kind n table wanted given) 15 0)
+
+    pub plan-refused : hasPlan kind n table wanted given ≡ false
+        → _≡_ {A = List ℕ × Planned} (list, record { refusal = 15; turns = 0 }) (planOf kind n wanted given table list)
+    plan-refused h = refused 15 (rw (← rest-is, h)) (λ e. omega arith)
+
+    -- the route's turns, cut from an array, stand at the front of the list
+    pub plan-accepted : hasPlan kind n table wanted given ≡ true → (stack : List ℤ) (turns : List ℕ) (taken : ℕ) (after : List ℕ)
+        → routeAt stack turns taken ≡ routeFrom kind n table wanted given → length (take taken turns) ≡ taken → after ≡ take taken turns ++ drop taken list
+        → _≡_ {A = List ℕ × Planned} (after, record { refusal = 0; turns = taken }) (planOf kind n wanted given table list)
+    unfolding planOf
+    plan-accepted h stack turns taken after e l a = rw (← rest-is, h, ← e, l, a)

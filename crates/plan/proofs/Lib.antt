@@ -1,0 +1,4 @@
+-- What the code of Read an entry and Plan is proved with.
+pub mod Routes
+pub mod Rows
+pub mod Answers

@@ -1,0 +1,111 @@
+-- `plan::plan::plan_refusal` meets its contract: the tests in the definition's order.
+use mathlib.Core.Path.{_≡_, sym, ap, _∙_}
+use mathlib.Core.Bool.{true}
+use native.Mathlib.Omega.{arith}
+use borrow.Author.Tests.{not-true, not-false}
+use Rattle.stacks.specs.Stack.{isSize, isStack}
+use Rattle.stacks.proofs.Sizes.{size-twelve}
+use Rattle.search.specs.Entries.{bytesFor}
+use Rattle.perm.proofs.Refusals.{size-passes}
+use Rattle.plan.proofs.Rows.{row-size, row-wanted, row-given, row-table, row-list, row-accepts}
+use borrow.Author.Needs.{needs}
+use Rattle.plan.proofs.plan.plan_refusal.Statement.{statement}
+use Rattle.plan.proofs.plan.plan_refusal.Tie as tie
+
+size-refusal-requires : tie.Need-size-refusal-requires
+size-refusal-requires c κs = search needs
+
+returns : tie.Need-returns
+returns c =
+    let a = c .before .before .args in
+    row-size (a .kind) (a .n) (a .wanted) (a .given) (a .bytes) (a .room) (c .before .size-refusal .result) (c .before .size-refusal .ensures) (c .if1 .taken)
+
+-- the kind and n pass
+sized : (c : tie.Else1) → isSize (c .before .before .args .kind) (c .before .before .args .n) ≡ true
+sized c =
+    let a = c .before .before .args in
+    size-passes (a .kind) (a .n) 0 (sym (c .before .size-refusal .ensures) ∙ c .if1 .left) .0
+
+is-stack-requires : tie.Need-is-stack-requires
+is-stack-requires c κs = size-twelve (c .before .before .args .kind) (c .before .before .args .n) (sized c)
+
+returns-2 : tie.Need-returns-2
+returns-2 c =
+    let b = c .before .before in
+    let f = b .before .size-refusal in
+    let a = b .before .before .args in
+    row-wanted (a .kind) (a .n) (a .wanted) (a .given) (a .bytes) (a .room) (f .result) (f .ensures) (b .if1 .left)
+    (sym (c .before .is-stack .ensures) ∙ not-true (c .before .is-stack .result) (c .if2 .taken))
+
+goal-passes : (c : tie.Else2) → let a = c .before .before .before .before .args in isStack (a .kind) (a .n) (a .wanted) ≡ true
+goal-passes c = sym (c .before .is-stack .ensures) ∙ not-false (c .before .is-stack .result) (c .if2 .left)
+
+is-stack-requires-2 : tie.Need-is-stack-requires-2
+is-stack-requires-2 c κs = is-stack-requires (c .before .before) κs
+
+returns-3 : tie.Need-returns-3
+returns-3 c =
+    let b = c .before .before .before .before in
+    let f = b .before .size-refusal in
+    let a = b .before .before .args in
+    row-given (a .kind) (a .n) (a .wanted) (a .given) (a .bytes) (a .room) (f .result) (f .ensures) (b .if1 .left) (goal-passes (c .before .before))
+    (sym (c .before .is-stack2 .ensures) ∙ not-true (c .before .is-stack2 .result) (c .if3 .taken))
+
+start-passes : (c : tie.Else3) → let a = c .before .before .before .before .before .before .args in isStack (a .kind) (a .n) (a .given) ≡ true
+start-passes c = sym (c .before .is-stack2 .ensures) ∙ not-false (c .before .is-stack2 .result) (c .if3 .left)
+
+stack-count-requires : tie.Need-stack-count-requires
+stack-count-requires c κs = sized (c .before .before .before .before)
+
+bytes-for-requires : tie.Need-bytes-for-requires
+bytes-for-requires c κs = search needs
+
+cast-if4 : tie.Need-cast-if4
+cast-if4 c = search needs
+
+returns-4 : tie.Need-returns-4
+returns-4 c =
+    let d = c .before in
+    let g = d .before .before in
+    let b = g .before .before .before .before in
+    let f = b .before .size-refusal in
+    let a = b .before .before .args in
+    row-table (a .kind) (a .n) (a .wanted) (a .given) (a .bytes) (a .room) (f .result) (f .ensures) (b .if1 .left) (goal-passes (g .before .before)) (start-passes g)
+    (d .bytes-for .result) (d .bytes-for .ensures ∙ ap bytesFor (d .before .stack-count .ensures)) (c .if4 .taken)
+
+returns-5 : tie.Need-returns-5
+returns-5 c =
+    let d = c .before .before in
+    let g = d .before .before in
+    let b = g .before .before .before .before in
+    let f = b .before .size-refusal in
+    let a = b .before .before .args in
+    row-list (a .kind) (a .n) (a .wanted) (a .given) (a .bytes) (a .room) (f .result) (f .ensures) (b .if1 .left) (goal-passes (g .before .before)) (start-passes g)
+    (d .bytes-for .result) (d .bytes-for .ensures ∙ ap bytesFor (d .before .stack-count .ensures)) (c .before .if4 .left) (omega arith)
+
+returns-6 : tie.Need-returns-6
+returns-6 c =
+    let d = c .before .before in
+    let g = d .before .before in
+    let b = g .before .before .before .before in
+    let f = b .before .size-refusal in
+    let a = b .before .before .args in
+    row-accepts (a .kind) (a .n) (a .wanted) (a .given) (a .bytes) (a .room) (f .result) (f .ensures) (b .if1 .left) (goal-passes (g .before .before)) (start-passes g)
+    (d .bytes-for .result) (d .bytes-for .ensures ∙ ap bytesFor (d .before .stack-count .ensures)) (c .before .if4 .left) (omega arith)
+
+pub plan-refusal-spec : {M : Type 1} → statement M
+plan-refusal-spec =
+    tie.close
+    (tie.spec
+    size-refusal-requires
+    returns
+    is-stack-requires
+    returns-2
+    is-stack-requires-2
+    returns-3
+    stack-count-requires
+    bytes-for-requires
+    cast-if4
+    returns-4
+    returns-5
+    returns-6)

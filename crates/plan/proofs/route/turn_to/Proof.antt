@@ -1,0 +1,99 @@
+-- `plan::route::turn_to` meets its contract. The loop's invariant: the first turn that leads there is the first of those not tried yet.
+use mathlib.Core.Path.{_≡_, ap}
+use Prim.Native.Nat.{_+_, _-_, _≤_}
+use native.Mathlib.Omega.{arith}
+use borrow.Author.Needs.{needs}
+use Rattle.base.specs.Words.{from}
+use Rattle.stacks.specs.Turn.{turnsOf}
+use Rattle.stacks.proofs.Sizes.{size-twelve}
+use Rattle.stacks.proofs.TurnLaws.{turn-stack}
+use Rattle.plan.specs.Routes.{firstTo}
+use Rattle.plan.proofs.Routes.{first-inside, untried-all, tried-all, tried-hit, tried-miss}
+use Rattle.plan.proofs.route.turn_to.Statement.{statement}
+use Rattle.plan.proofs.route.turn_to.Tie as tie
+
+abbrev Inv-loop : tie.InvT-loop
+Inv-loop kind n stack v table first left₀ left =
+    (n ≤ 12) × (first + left ≤ n + 1) × (firstTo kind n table stack v (from (n + 1 - left) left) ≡ firstTo kind n table stack v (turnsOf kind n))
+
+abbrev μ-loop : tie.MeasureT-loop
+μ-loop kind n stack v table first left₀ left = left
+
+first-turn-requires : tie.Need-first-turn-requires Inv-loop μ-loop
+first-turn-requires c κs = search needs
+
+add-left : tie.Need-add-left Inv-loop μ-loop
+add-left c = record { fits = omega (arith, size-twelve (c .before .before .args .kind) (c .before .before .args .n) (c .before .before .pre .0)) }
+
+sub-left : tie.Need-sub-left Inv-loop μ-loop
+sub-left c = omega (arith, c .first-turn .ensures, first-inside (c .before .before .args .kind) (c .before .before .args .n) (c .before .before .pre .0))
+
+loop-holds : tie.Need-loop-holds Inv-loop μ-loop
+loop-holds c =
+    let a = c .before .before .args in
+    (size-twelve (a .kind) (a .n) (c .before .before .pre .0), omega (arith, sub-left c), ap (firstTo (a .kind) (a .n) (a .table .now) (a .stack) (a .v)) (untried-all (a .kind) (a .n) (c .first-turn .result) (c .before .before .pre .0) (c .first-turn .ensures)))
+
+add-k : tie.Need-add-k Inv-loop μ-loop
+add-k c = record { fits = omega arith }
+
+sub-k : tie.Need-sub-k Inv-loop μ-loop
+sub-k c = omega arith
+
+turned-requires : tie.Need-turned-requires Inv-loop μ-loop
+turned-requires c κs =
+    let s = c .before .before .before .before in
+    (s .pre .0, s .pre .1, omega arith)
+
+entry-of-requires : tie.Need-entry-of-requires Inv-loop μ-loop
+entry-of-requires c κs =
+    let s = c .before .before .before .before .before in
+    (s .pre .0, rw (c .turned .ensures) (turn-stack (s .args .kind) (s .args .n) (s .pre .0) _ (s .args .stack) (omega arith) (s .pre .1)), s .pre .2)
+
+returns : tie.Need-returns Inv-loop μ-loop
+returns c =
+    let a = c .before .before .before .before in
+    let s = a .before .before .before .args in
+    tried-hit (s .kind) (s .n) (s .table .now) (s .stack) (s .v) (a .loop .left) (a .loop .inv .2) (c .before .before .before .loop-test .taken) (omega arith)
+    (c .before .before .turned .result) (c .before .before .turned .ensures) (c .before .entry-of .result) (c .before .entry-of .ensures) (c .if1 .taken)
+
+sub-left-2 : tie.Need-sub-left-2 Inv-loop μ-loop
+sub-left-2 c = omega arith
+
+loop-less : tie.Need-loop-less Inv-loop μ-loop
+loop-less c = omega arith
+
+loop-again : tie.Need-loop-again Inv-loop μ-loop
+loop-again c =
+    let a = c .before .before .before .before in
+    let s = a .before .before .before .args in (
+      a .loop .inv .0,
+      omega arith,
+      tried-miss (s .kind) (s .n) (s .table .now) (s .stack) (s .v) (a .loop .left) (a .loop .inv .2) (c .before .before .before .loop-test .taken) (omega arith)
+          (c .before .before .turned .result) (c .before .before .turned .ensures) (c .before .entry-of .result) (c .before .entry-of .ensures) (c .if1 .left),
+    )
+
+returns-2 : tie.Need-returns-2 Inv-loop μ-loop
+returns-2 c =
+    let a = c .before in
+    let s = a .before .before .before .args in
+    tried-all (s .kind) (s .n) (s .table .now) (s .stack) (s .v) (a .loop .left) (a .loop .inv .2) (omega arith)
+
+pub turn-to-spec : {M : Type 1} → statement M
+turn-to-spec =
+    tie.close
+    (tie.spec
+    Inv-loop
+    μ-loop
+    first-turn-requires
+    add-left
+    sub-left
+    loop-holds
+    add-k
+    sub-k
+    turned-requires
+    entry-of-requires
+    returns
+    sub-left-2
+    loop-less
+    loop-again
+    returns-2)

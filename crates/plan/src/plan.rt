@@ -1,0 +1,103 @@
+// Plan.
+ghost use mathlib.Core.Path.{_≡_};
+ghost use mathlib.Core.List.{_++_};
+ghost use Prim.Native.Nat.{_≤_};
+ghost use lib.ListN.{length, take, drop};
+ghost use Rattle.search.specs.Plan.{planOf};
+ghost use Rattle.plan.specs.Row.{planRow};
+use crate::route;
+use perm::kind;
+use perm::numbering;
+use perm::operations;
+use perm::valid;
+use search::Planned;
+use twobit::segment;
+
+// Every refusal but 15, which wants the table.
+pub fn plan_refusal(
+    kind: u8,
+    n: u8,
+    wanted: [i8; 12],
+    given: [i8; 12],
+    bytes: usize,
+    room: usize,
+) -> u8
+    ensures { λ r. ⌜ r ≡ planRow kind n wanted given bytes room 0 ⌝ }
+{
+    let refusal = operations::size_refusal(kind, n);
+    if refusal != 0 {
+        return refusal;
+    }
+    if !valid::is_stack(kind, n, wanted) {
+        return 3;
+    }
+    if !valid::is_stack(kind, n, given) {
+        return 3;
+    }
+    let count = kind::stack_count(kind, n);
+    if bytes != segment::bytes_for(count) as usize {
+        return 10;
+    }
+    if room < 30 {
+        return 10;
+    }
+    0
+}
+
+// The turns come to the front of the list, and the bytes past them stay.
+pub fn copy_turns(list: &mut [u8], turns: [u8; 30], taken: u32)
+    requires { ⌜ (taken ≤ 30) × (taken ≤ length (now list)) ⌝ }
+    ensures { λ _. ⌜ now (list .exit) ≡ take taken turns ++ drop taken (now (list .entry)) ⌝ }
+{
+    let mut i: u32 = 0;
+    while i < taken {
+        list[i as usize] = turns[i as usize];
+        i += 1;
+    }
+}
+
+// Plan.
+pub fn plan(
+    kind: u8,
+    n: u8,
+    wanted: [i8; 12],
+    given: [i8; 12],
+    table: &[u8],
+    list: &mut [u8],
+) -> Planned
+    ensures { λ r. ⌜ (now (list .exit), r) ≡ planOf kind n wanted given (now (table .entry)) (now (list .entry)) ⌝ }
+{
+    let refusal = plan_refusal(kind, n, wanted, given, table.len(), list.len());
+    if refusal != 0 {
+        return Planned { refusal, turns: 0 };
+    }
+    if route::entry_of(kind, n, given, table) == 3 {
+        return Planned {
+            refusal: 15,
+            turns: 0,
+        };
+    }
+    if route::entry_of(kind, n, wanted, table) != 0 {
+        return Planned {
+            refusal: 15,
+            turns: 0,
+        };
+    }
+    let way = route::route_from(kind, n, wanted, given, table);
+    let stack = way.stack;
+    let turns = way.turns;
+    let taken = way.taken;
+    let end = numbering::rank(kind, n, stack);
+    let goal = numbering::rank(kind, n, wanted);
+    if end != goal {
+        return Planned {
+            refusal: 15,
+            turns: 0,
+        };
+    }
+    copy_turns(list, turns, taken);
+    Planned {
+        refusal: 0,
+        turns: taken,
+    }
+}

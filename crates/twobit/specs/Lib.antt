@@ -1,0 +1,2 @@
+-- What the leaf that marks promises.
+pub mod Mark
