@@ -1,0 +1,61 @@
+-- A refusal changes nothing: what is lent stays as it was, and the mirror comes back as it was given.
+use mathlib.Core.Path.{_≡_, refl, ap, _∙_}
+use mathlib.Core.Bool.{Bool, true, false, cond}
+use mathlib.Core.List.{List}
+use Prim.Native.Nat.{ℕ}
+use Rattle.search.proofs.Accepted.{blank-refused, blank-refusal, expand-refused, expand-refusal, settle-refused, settle-refusal, close-refused}
+use Rattle.search.specs.Blank.{blankOf}
+use Rattle.search.specs.Close.{closeOf}
+use Rattle.search.specs.Settle.{settleOf}
+use Rattle.search.specs.declared.Answer.{Answer}
+use Rattle.search.specs.declared.Expanded.{Expanded}
+use Rattle.hokrund.specs.Calls.{noPhase, blankCall, expandCall, settleCall, closeCall}
+use Rattle.hokrund.specs.Mirror.{hasPhase, jobOf, mirrorOf, answerOf, expandedOf}
+use Rattle.hokrund.specs.declared.mirror.HokrundAnswer.{HokrundAnswer}
+use Rattle.hokrund.specs.declared.mirror.HokrundExpanded.{HokrundExpanded}
+use Rattle.hokrund.specs.declared.mirror.HokrundJob.{HokrundJob}
+use Rattle.hokrund.proofs.MirrorLaws.{mirror-job}
+
+-- a call on a mirror that has a phase or none
+kept : {X : Type 0} (refusal : X → ℕ) (Same : X → Type 0) (t : Bool) (done none : X) → Same none
+    → (t ≡ true → (refusal done ≡ 0 → ⊥) → Same done)
+    → (refusal (cond t done none) ≡ 0 → ⊥) → Same (cond t done none)
+kept refusal Same true done none a b h = b refl h
+kept refusal Same false done none a b h = a
+
+module _ (m : HokrundJob) where
+  -- of an operation with one buffer
+  answer-keeps : (segment : List ℕ) (out : List ℕ × Answer) (r : ℕ)
+      → ((out .1 .refusal ≡ 0 → ⊥) → _≡_ {A = List ℕ × Answer} out (segment, record { refusal = r; job = jobOf m }))
+      → (let call : List ℕ × HokrundAnswer = cond (hasPhase m) (out .0, answerOf (out .1)) (segment, noPhase m) in
+      (call .1 .refusal ≡ 0 → ⊥) → (call .0 ≡ segment) × (call .1 .job ≡ m))
+  unfolding answerOf
+  answer-keeps segment out r refused =
+      kept (λ (o : List ℕ × HokrundAnswer). o .1 .refusal) (λ (o : List ℕ × HokrundAnswer). (o .0 ≡ segment) × (o .1 .job ≡ m)) (hasPhase m) _ _ (refl, refl) (λ phase h.
+      (ap (λ (o : List ℕ × Answer). o .0) (refused h), ap (λ (o : List ℕ × Answer). mirrorOf (o .1 .job)) (refused h) ∙ mirror-job m phase))
+
+  module _ (j : ℕ) (segment : List ℕ) where
+    pub blank-keeps : (blankCall m j segment .1 .refusal ≡ 0 → ⊥) → (blankCall m j segment .0 ≡ segment) × (blankCall m j segment .1 .job ≡ m)
+    unfolding blankCall
+    blank-keeps =
+        answer-keeps segment (blankOf (jobOf m) j segment) _ (λ h. blank-refused (jobOf m) j segment (λ z. h (blank-refusal (jobOf m) j segment ∙ z)))
+
+    module _ (log : List ℕ) where
+      pub expand-keeps : (expandCall m j segment log .2 .refusal ≡ 0 → ⊥)
+          → (expandCall m j segment log .0 ≡ segment) × (expandCall m j segment log .1 ≡ log) × (expandCall m j segment log .2 .job ≡ m)
+      unfolding expandCall expandedOf
+      expand-keeps =
+          kept (λ (o : List ℕ × List ℕ × HokrundExpanded). o .2 .refusal) (λ (o : List ℕ × List ℕ × HokrundExpanded). (o .0 ≡ segment) × (o .1 ≡ log) × (o .2 .job ≡ m)) (hasPhase m) _ _ (refl, refl, refl) (λ phase h.
+          let e = expand-refused (jobOf m) j segment log (λ z. h (expand-refusal (jobOf m) j segment log ∙ z)) in
+          (ap (λ (o : List ℕ × List ℕ × Expanded). o .0) e, ap (λ (o : List ℕ × List ℕ × Expanded). o .1) e, ap (λ (o : List ℕ × List ℕ × Expanded). mirrorOf (o .2 .job)) e ∙ mirror-job m phase))
+
+      pub settle-keeps : (settleCall m j segment log .1 .refusal ≡ 0 → ⊥) → (settleCall m j segment log .0 ≡ segment) × (settleCall m j segment log .1 .job ≡ m)
+      unfolding settleCall
+      settle-keeps =
+          answer-keeps segment (settleOf (jobOf m) j segment log) _ (λ h. settle-refused (jobOf m) j segment log (λ z. h (settle-refusal (jobOf m) j segment log ∙ z)))
+
+  pub close-keeps : (closeCall m .refusal ≡ 0 → ⊥) → closeCall m .job ≡ m
+  unfolding closeCall answerOf closeOf
+  close-keeps =
+      kept (λ (o : HokrundAnswer). o .refusal) (λ (o : HokrundAnswer). o .job ≡ m) (hasPhase m) _ _ refl (λ phase h.
+      ap (λ (o : Answer). mirrorOf (o .job)) (close-refused (jobOf m) h) ∙ mirror-job m phase)

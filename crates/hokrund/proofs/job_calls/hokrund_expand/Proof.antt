@@ -1,0 +1,57 @@
+-- `hokrund::job_calls::hokrund_expand` meets its contract: refused 7, or the outcome of the operation, its answer converted.
+use mathlib.Core.Path.{refl, sym, _∙_}
+use borrow.Author.Tests.{not-true, not-false}
+use Rattle.search.specs.Expand.{expandOf}
+use Rattle.hokrund.specs.Mirror.{expandedOf}
+use Rattle.hokrund.specs.Calls.{expandCall}
+use Rattle.hokrund.proofs.Wrapped.{converted-2}
+use borrow.Author.Needs.{needs}
+use Rattle.hokrund.proofs.job_calls.hokrund_expand.Statement.{statement}
+use Rattle.hokrund.proofs.job_calls.hokrund_expand.Tie as tie
+
+has-phase-requires : tie.Need-has-phase-requires
+has-phase-requires c κs = search needs
+
+returns : tie.Need-returns
+unfolding expandCall
+returns c =
+    let f = c .before .has-phase in rw (sym (f .ensures) ∙ not-true (f .result) (c .if1 .taken)) refl
+
+job-of-requires : tie.Need-job-of-requires
+job-of-requires c κs = search needs
+
+expand-requires : tie.Need-expand-requires
+expand-requires c κs = search needs
+
+mirror-of-requires : tie.Need-mirror-of-requires
+mirror-of-requires c κs = search needs
+
+same-length : tie.Need-same-length
+same-length c = search needs
+
+same-length-2 : tie.Need-same-length-2
+same-length-2 c = search needs
+
+returns-2 : tie.Need-returns-2
+unfolding expandCall expandedOf
+returns-2 c =
+    let op = c .before .before .before .before .before in
+    let made = op .before .before .before in
+    let f = made .before .before .has-phase in
+    let a = made .before .before .before .before .before .args in
+    let out = expandOf (made .job-of .result) (a .j) (a .segment .now) (a .log .now) in
+    rw (sym (f .ensures) ∙ not-false (f .result) (made .before .if1 .left))
+    (rw (sym (made .job-of .ensures)) (converted-2 expandedOf _ _ (op .expand .result) _ out (op .expand .ensures) (rw (c .mirror-of .ensures) refl)))
+
+pub hokrund-expand-spec : {M : Type 1} → statement M
+hokrund-expand-spec =
+    tie.close
+    (tie.spec
+    has-phase-requires
+    returns
+    job-of-requires
+    expand-requires
+    mirror-of-requires
+    same-length
+    same-length-2
+    returns-2)

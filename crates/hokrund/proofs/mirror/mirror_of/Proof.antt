@@ -1,0 +1,19 @@
+-- `hokrund::mirror::mirror_of` meets its contract: field by field.
+use mathlib.Core.Path.{refl}
+use Rattle.hokrund.specs.Mirror.{mirrorOf}
+use borrow.Author.Needs.{needs}
+use Rattle.hokrund.proofs.mirror.mirror_of.Statement.{statement}
+use Rattle.hokrund.proofs.mirror.mirror_of.Tie as tie
+
+phase-number-requires : tie.Need-phase-number-requires
+phase-number-requires c κs = search needs
+
+level-of-requires : tie.Need-level-of-requires
+level-of-requires c κs = search needs
+
+returns : tie.Need-returns
+unfolding mirrorOf
+returns c = rw (c .before .phase-number .ensures) (rw (c .level-of .ensures) refl)
+
+pub mirror-of-spec : {M : Type 1} → statement M
+mirror-of-spec = tie.close (tie.spec phase-number-requires level-of-requires returns)

@@ -1,0 +1,53 @@
+-- The calls that lend a buffer or take a job: what each leaves in the buffers and its answer, by the definition of the operation.
+-- A mirror whose two numbers are no phase is refused 7, and given back as it was.
+use mathlib.Core.Bool.{false, cond}
+use mathlib.Core.List.{List, []}
+use Prim.Native.Nat.{ℕ, _*_}
+use Rattle.search.specs.Blank.{blankOf}
+use Rattle.search.specs.Close.{closeOf}
+use Rattle.search.specs.Expand.{expandOf}
+use Rattle.search.specs.Look.{lookOf}
+use Rattle.search.specs.Plan.{planOf}
+use Rattle.search.specs.Settle.{settleOf}
+use Rattle.hokrund.specs.Mirror.{hasPhase, jobOf, answerOf, expandedOf, lookedOf, plannedOf}
+use Rattle.hokrund.specs.declared.mirror.HokrundAnswer.{HokrundAnswer}
+use Rattle.hokrund.specs.declared.mirror.HokrundExpanded.{HokrundExpanded}
+use Rattle.hokrund.specs.declared.mirror.HokrundJob.{HokrundJob}
+use Rattle.hokrund.specs.declared.mirror.HokrundLook.{HokrundLook}
+use Rattle.hokrund.specs.declared.mirror.HokrundPlanned.{HokrundPlanned}
+use Rattle.hokrund.specs.declared.mirror.HokrundStack.{HokrundStack}
+
+abbrev pub noPhase : HokrundJob → HokrundAnswer
+noPhase m = record { refusal = 7; job = m }
+
+unfoldable pub blankCall : HokrundJob → ℕ → List ℕ → List ℕ × HokrundAnswer
+blankCall m j segment =
+    cond (hasPhase m)
+    (let out = blankOf (jobOf m) j segment in (out .0, answerOf (out .1)))
+    (segment, noPhase m)
+
+unfoldable pub expandCall : HokrundJob → ℕ → List ℕ → List ℕ → List ℕ × List ℕ × HokrundExpanded
+expandCall m j segment log =
+    cond (hasPhase m)
+    (let out = expandOf (jobOf m) j segment log in (out .0, out .1, expandedOf (out .2)))
+    (segment, log, record { refusal = 7; waits = false; on = 0; job = m })
+
+unfoldable pub settleCall : HokrundJob → ℕ → List ℕ → List ℕ → List ℕ × HokrundAnswer
+settleCall m j segment log =
+    cond (hasPhase m)
+    (let out = settleOf (jobOf m) j segment log in (out .0, answerOf (out .1)))
+    (segment, noPhase m)
+
+unfoldable pub closeCall : HokrundJob → HokrundAnswer
+closeCall m = cond (hasPhase m) (answerOf (closeOf (jobOf m))) (noPhase m)
+
+-- the part that Look hands back, and where it stands in the log area
+unfoldable pub lookCall : HokrundJob → ℕ → List ℕ → List ℕ × HokrundLook
+lookCall m j log =
+    cond (hasPhase m)
+    (let out = lookOf (jobOf m) j log in (out .0, lookedOf (j * m .room) out))
+    ([], record { refusal = 7; start = 0; length = 0 })
+
+unfoldable pub planCall : ℕ → ℕ → HokrundStack → HokrundStack → List ℕ → List ℕ → List ℕ × HokrundPlanned
+planCall kind n wanted given table list =
+    let out = planOf kind n (wanted .places) (given .places) table list in (out .0, plannedOf (out .1))

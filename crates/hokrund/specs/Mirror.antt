@@ -1,0 +1,100 @@
+-- The mirror of the job, in which the phase is two numbers, and the answers in C's structs.
+--   phaseNumber, levelOf    the two numbers of a phase
+--   phaseOf                 the phase of two numbers that isPhase accepts
+--   jobOf, mirrorOf         the two conversions of the job
+use mathlib.Core.Bool.{Bool, true, false, cond}
+use mathlib.Core.List.{List}
+use Prim.Native.Nat.{ℕ, zero, suc}
+use lib.Dec.{eqb}
+use lib.ListN.{length}
+use Rattle.stacks.specs.declared.Indexed.{Indexed}
+use Rattle.stacks.specs.declared.Stacked.{Stacked}
+use Rattle.search.specs.JobState.{levelOf}
+use Rattle.search.specs.declared.Answer.{Answer}
+use Rattle.search.specs.declared.Entry.{Entry}
+use Rattle.search.specs.declared.Expanded.{Expanded}
+use Rattle.search.specs.declared.Job.{Job}
+use Rattle.search.specs.declared.Phase.{Phase}
+use Rattle.search.specs.declared.Phase.the-variants.{Blanking, Level, Finished}
+use Rattle.search.specs.declared.Planned.{Planned}
+use Rattle.hokrund.specs.declared.mirror.HokrundAnswer.{HokrundAnswer}
+use Rattle.hokrund.specs.declared.mirror.HokrundEntry.{HokrundEntry}
+use Rattle.hokrund.specs.declared.mirror.HokrundExpanded.{HokrundExpanded}
+use Rattle.hokrund.specs.declared.mirror.HokrundIndexed.{HokrundIndexed}
+use Rattle.hokrund.specs.declared.mirror.HokrundJob.{HokrundJob}
+use Rattle.hokrund.specs.declared.mirror.HokrundLook.{HokrundLook}
+use Rattle.hokrund.specs.declared.mirror.HokrundPlanned.{HokrundPlanned}
+use Rattle.hokrund.specs.declared.mirror.HokrundStacked.{HokrundStacked}
+
+unfoldable pub phaseNumber : Phase → ℕ
+phaseNumber Blanking = 0
+phaseNumber (Level d) = 1
+phaseNumber (Finished d) = 2
+
+unfoldable pub phaseOf : ℕ → ℕ → Phase
+phaseOf zero level = Blanking
+phaseOf (suc zero) level = Level level
+phaseOf (suc (suc k)) level = Finished level
+
+-- Blanking carries no level, so its second number is 0
+unfoldable pub isPhase : ℕ → ℕ → Bool
+isPhase zero level = eqb level 0
+isPhase (suc zero) level = true
+isPhase (suc (suc zero)) level = true
+isPhase (suc (suc (suc k))) level = false
+
+-- whether a mirror's two numbers are those of a phase
+unfoldable pub hasPhase : HokrundJob → Bool
+hasPhase m = isPhase (m .phase) (m .level)
+
+unfoldable pub jobOf : HokrundJob → Job
+jobOf m =
+    record {
+      kind = m .kind;
+      n = m .n;
+      wanted = m .wanted .places;
+      size = m .size;
+      room = m .room;
+      phase = phaseOf (m .phase) (m .level);
+      passed = m .passed;
+      waiting = m .waiting;
+      counts = m .counts;
+    }
+
+unfoldable pub mirrorOf : Job → HokrundJob
+mirrorOf job =
+    record {
+      kind = job .kind;
+      n = job .n;
+      phase = phaseNumber (job .phase);
+      level = levelOf (job .phase);
+      wanted = record { places = job .wanted };
+      size = job .size;
+      room = job .room;
+      passed = job .passed;
+      waiting = job .waiting;
+      counts = job .counts;
+    }
+
+-- the answers, field by field
+unfoldable pub indexedOf : Indexed → HokrundIndexed
+indexedOf a = record { refusal = a .refusal; index = a .index }
+
+unfoldable pub stackedOf : Stacked → HokrundStacked
+stackedOf a = record { refusal = a .refusal; stack = record { places = a .stack } }
+
+unfoldable pub answerOf : Answer → HokrundAnswer
+answerOf a = record { refusal = a .refusal; job = mirrorOf (a .job) }
+
+unfoldable pub expandedOf : Expanded → HokrundExpanded
+expandedOf a = record { refusal = a .refusal; waits = a .waits; on = a .on; job = mirrorOf (a .job) }
+
+-- Look's part and number: where the part stands, from a start on; 0 and 0 beside a refusal
+unfoldable pub lookedOf : ℕ → List ℕ × ℕ → HokrundLook
+lookedOf start out = record { refusal = out .1; start = cond (eqb (out .1) 0) start 0; length = length (out .0) }
+
+unfoldable pub entryOf : Entry → HokrundEntry
+entryOf a = record { refusal = a .refusal; entry = a .entry }
+
+unfoldable pub plannedOf : Planned → HokrundPlanned
+plannedOf a = record { refusal = a .refusal; turns = a .turns }

@@ -1,0 +1,121 @@
+// Begin, and the calls on a job: a mirror whose numbers are no phase is refused 7 and given back, any other goes to the operation.
+ghost use mathlib.Core.Path.{_≡_};
+ghost use lib.ListN.{take, drop};
+ghost use Rattle.search.specs.Begin.{beginOf};
+ghost use Rattle.hokrund.specs.Mirror.{answerOf};
+ghost use Rattle.hokrund.specs.Calls.{blankCall, expandCall, settleCall, lookCall, closeCall};
+use crate::mirror;
+use crate::mirror::HokrundAnswer;
+use crate::mirror::HokrundExpanded;
+use crate::mirror::HokrundJob;
+use crate::mirror::HokrundLook;
+use crate::mirror::HokrundStack;
+use calls::blank;
+use calls::close;
+use calls::look;
+use calls::settle;
+use job::begin;
+
+#[no_mangle]
+pub extern "C" fn hokrund_begin(
+    kind: u8,
+    n: u8,
+    wanted: HokrundStack,
+    size: u32,
+    room: u32,
+) -> HokrundAnswer
+    ensures { λ r. ⌜ r ≡ answerOf (beginOf kind n (wanted .places) size room) ⌝ }
+{
+    let places = wanted.places;
+    mirror::answer_of(begin::begin(kind, n, places, size, room))
+}
+
+#[no_mangle]
+pub extern "C" fn hokrund_blank(job: HokrundJob, j: u32, segment: &mut [u8]) -> HokrundAnswer
+    ensures { λ r. ⌜ (now (segment .exit), r) ≡ blankCall job j (now (segment .entry)) ⌝ }
+{
+    if !mirror::has_phase(job) {
+        return HokrundAnswer { refusal: 7, job };
+    }
+    mirror::answer_of(blank::blank(mirror::job_of(job), j, segment))
+}
+
+#[no_mangle]
+pub extern "C" fn hokrund_expand(
+    job: HokrundJob,
+    j: u32,
+    segment: &mut [u8],
+    log: &mut [u32],
+) -> HokrundExpanded
+    ensures { λ r. ⌜ (now (segment .exit), now (log .exit), r) ≡ expandCall job j (now (segment .entry)) (now (log .entry)) ⌝ }
+{
+    if !mirror::has_phase(job) {
+        return HokrundExpanded {
+            refusal: 7,
+            waits: false,
+            on: 0,
+            job,
+        };
+    }
+    let expanded = expand::expand::expand(mirror::job_of(job), j, segment, log);
+    HokrundExpanded {
+        refusal: expanded.refusal,
+        waits: expanded.waits,
+        on: expanded.on,
+        job: mirror::mirror_of(expanded.job),
+    }
+}
+
+#[no_mangle]
+pub extern "C" fn hokrund_settle(
+    job: HokrundJob,
+    j: u32,
+    segment: &mut [u8],
+    log: &[u32],
+) -> HokrundAnswer
+    ensures { λ r. ⌜ (now (segment .exit), r) ≡ settleCall job j (now (segment .entry)) (now (log .entry)) ⌝ }
+{
+    if !mirror::has_phase(job) {
+        return HokrundAnswer { refusal: 7, job };
+    }
+    mirror::answer_of(settle::settle(mirror::job_of(job), j, segment, log))
+}
+
+// What start and length say is the part itself.
+#[no_mangle]
+pub extern "C" fn hokrund_look(job: HokrundJob, j: u32, log: &[u32]) -> HokrundLook
+    ensures { λ r. ⌜ (take (r .length) (drop (r .start) (now (log .entry))), r) ≡ lookCall job j (now (log .entry)) ⌝ }
+{
+    if !mirror::has_phase(job) {
+        return HokrundLook {
+            refusal: 7,
+            start: 0,
+            length: 0,
+        };
+    }
+    let mut refusal: u8 = 0;
+    let part = look::look(mirror::job_of(job), j, log, &mut refusal);
+    let length = part.len();
+    if refusal != 0 {
+        return HokrundLook {
+            refusal,
+            start: 0,
+            length,
+        };
+    }
+    HokrundLook {
+        refusal: 0,
+        start: (j as usize) * (job.room as usize),
+        length,
+    }
+}
+
+#[no_mangle]
+pub extern "C" fn hokrund_close(job: HokrundJob) -> HokrundAnswer
+    ensures { λ r. ⌜ r ≡ closeCall job ⌝ }
+{
+    if !mirror::has_phase(job) {
+        return HokrundAnswer { refusal: 7, job };
+    }
+    mirror::answer_of(close::close(mirror::job_of(job)))
+}

@@ -1,0 +1,7 @@
+// The operations of document 01 for C: each wraps the operation of its name, and include/hokrund.h declares it.
+// No enum, no array by value and no reference as a result passes to C: the job travels as a flat mirror, a stack in a struct, and the
+// part that Look hands back as start and length.
+pub mod job_calls;
+pub mod mirror;
+pub mod stack_calls;
+pub mod table_calls;

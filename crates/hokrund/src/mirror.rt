@@ -1,0 +1,158 @@
+// The job, a stack and the answers as C sees them, and the conversions to and from the operations' own types.
+ghost use mathlib.Core.Path.{_≡_};
+ghost use Rattle.hokrund.specs.Mirror.{phaseNumber, phaseOf, hasPhase, jobOf, mirrorOf, answerOf};
+use job::phase;
+use search::Answer;
+use search::Job;
+use search::Phase;
+
+#[repr(C)]
+pub struct HokrundStack {
+    pub places: [i8; 12],
+}
+
+// search's Job, its phase as two numbers: 0 Blanking with level 0, 1 Level, 2 Finished.
+#[repr(C)]
+pub struct HokrundJob {
+    pub kind: u8,
+    pub n: u8,
+    pub phase: u8,
+    pub level: u8,
+    pub wanted: HokrundStack,
+    pub size: u32,
+    pub room: u32,
+    pub passed: [u32; 64],
+    pub waiting: [u32; 64],
+    pub counts: [u64; 32],
+}
+
+#[repr(C)]
+pub struct HokrundIndexed {
+    pub refusal: u8,
+    pub index: u32,
+}
+
+#[repr(C)]
+pub struct HokrundStacked {
+    pub refusal: u8,
+    pub stack: HokrundStack,
+}
+
+#[repr(C)]
+pub struct HokrundAnswer {
+    pub refusal: u8,
+    pub job: HokrundJob,
+}
+
+#[repr(C)]
+pub struct HokrundExpanded {
+    pub refusal: u8,
+    pub waits: bool,
+    pub on: u32,
+    pub job: HokrundJob,
+}
+
+// The waiting part stands in the caller's log area from start on. Beside a refusal both numbers are 0.
+#[repr(C)]
+pub struct HokrundLook {
+    pub refusal: u8,
+    pub start: usize,
+    pub length: usize,
+}
+
+#[repr(C)]
+pub struct HokrundEntry {
+    pub refusal: u8,
+    pub entry: u8,
+}
+
+#[repr(C)]
+pub struct HokrundPlanned {
+    pub refusal: u8,
+    pub turns: u32,
+}
+
+pub fn phase_number(phase: Phase) -> u8
+    ensures { λ r. ⌜ r ≡ phaseNumber phase ⌝ }
+{
+    match phase {
+        Phase::Blanking => 0,
+        Phase::Level(_) => 1,
+        Phase::Finished(_) => 2,
+    }
+}
+
+pub fn phase_of(number: u8, level: u8) -> Phase
+    ensures { λ r. ⌜ r ≡ phaseOf number level ⌝ }
+{
+    if number == 0 {
+        return Phase::Blanking;
+    }
+    if number == 1 {
+        return Phase::Level(level);
+    }
+    Phase::Finished(level)
+}
+
+// Whether a mirror's two numbers are those of a phase.
+pub fn has_phase(mirror: HokrundJob) -> bool
+    ensures { λ r. ⌜ r ≡ hasPhase mirror ⌝ }
+{
+    if mirror.phase == 0 {
+        return mirror.level == 0;
+    }
+    mirror.phase < 3
+}
+
+// The two conversions. A new field of the job is a line in each, two if it is an array; their proofs and laws name no field but the phase.
+pub fn job_of(mirror: HokrundJob) -> Job
+    ensures { λ r. ⌜ r ≡ jobOf mirror ⌝ }
+{
+    let wanted = mirror.wanted.places;
+    let passed = mirror.passed;
+    let waiting = mirror.waiting;
+    let counts = mirror.counts;
+    let phase = phase_of(mirror.phase, mirror.level);
+    Job {
+        kind: mirror.kind,
+        n: mirror.n,
+        wanted,
+        size: mirror.size,
+        room: mirror.room,
+        phase,
+        passed,
+        waiting,
+        counts,
+    }
+}
+
+pub fn mirror_of(job: Job) -> HokrundJob
+    ensures { λ r. ⌜ r ≡ mirrorOf job ⌝ }
+{
+    let phase = job.phase;
+    let wanted = job.wanted;
+    let passed = job.passed;
+    let waiting = job.waiting;
+    let counts = job.counts;
+    HokrundJob {
+        kind: job.kind,
+        n: job.n,
+        phase: phase_number(phase),
+        level: phase::level_of(phase),
+        wanted: HokrundStack { places: wanted },
+        size: job.size,
+        room: job.room,
+        passed,
+        waiting,
+        counts,
+    }
+}
+
+pub fn answer_of(answer: Answer) -> HokrundAnswer
+    ensures { λ r. ⌜ r ≡ answerOf answer ⌝ }
+{
+    HokrundAnswer {
+        refusal: answer.refusal,
+        job: mirror_of(answer.job),
+    }
+}

@@ -1,0 +1,39 @@
+// Read an entry, and Plan.
+ghost use mathlib.Core.Path.{_≡_};
+ghost use Rattle.search.specs.Read.{readOf};
+ghost use Rattle.hokrund.specs.Mirror.{entryOf};
+ghost use Rattle.hokrund.specs.Calls.{planCall};
+use crate::mirror::HokrundEntry;
+use crate::mirror::HokrundPlanned;
+use crate::mirror::HokrundStack;
+
+#[no_mangle]
+pub extern "C" fn hokrund_read_entry(kind: u8, n: u8, table: &[u8], index: u32) -> HokrundEntry
+    ensures { λ r. ⌜ r ≡ entryOf (readOf kind n (now (table .entry)) index) ⌝ }
+{
+    let entry = plan::read::read_entry(kind, n, table, index);
+    HokrundEntry {
+        refusal: entry.refusal,
+        entry: entry.entry,
+    }
+}
+
+#[no_mangle]
+pub extern "C" fn hokrund_plan(
+    kind: u8,
+    n: u8,
+    wanted: HokrundStack,
+    given: HokrundStack,
+    table: &[u8],
+    list: &mut [u8],
+) -> HokrundPlanned
+    ensures { λ r. ⌜ (now (list .exit), r) ≡ planCall kind n wanted given (now (table .entry)) (now (list .entry)) ⌝ }
+{
+    let from = given.places;
+    let to = wanted.places;
+    let planned = plan::plan::plan(kind, n, to, from, table, list);
+    HokrundPlanned {
+        refusal: planned.refusal,
+        turns: planned.turns,
+    }
+}

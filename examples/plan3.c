@@ -1,0 +1,66 @@
+/* Builds the table of plain 3 for the wanted stack 1 2 3, in two segments of S = 4, and plans document 01's frames from it.
+ *   rt staticlib hokrund
+ *   cc -std=c99 -Iinclude examples/plan3.c target/staticlib/libhokrund.a -o target/plan3
+ *   target/plan3 | cmp - examples/plan3.out */
+#include "hokrund.h"
+#include <stdio.h>
+#include <stdlib.h>
+
+enum { KIND = HOKRUND_PLAIN, PANES = 3, S = 4, C = 16 };
+enum { N = HOKRUND_STACKS(KIND, PANES), G = HOKRUND_SEGMENT_COUNT(N, S) };
+
+/* The segments stand in the table itself. */
+static uint8_t table[HOKRUND_TABLE_BYTES(N)];
+static uint32_t logs[HOKRUND_LOG_WORDS(G, C)];
+#define SEGMENT(j) table + (j) * S / 4, HOKRUND_SEGMENT_BYTES(HOKRUND_SEGMENT_STACKS(N, S, j))
+#define LOGS logs, HOKRUND_LOG_WORDS(G, C)
+
+static HokrundJob next(uint8_t refusal, HokrundJob job)
+{
+    if (refusal != 0) {
+        printf("refused %d\n", refusal);
+        exit(1);
+    }
+    return job;
+}
+
+static HokrundJob next_of(HokrundAnswer answer)
+{
+    return next(answer.refusal, answer.job);
+}
+
+static void build(HokrundStack wanted)
+{
+    HokrundJob job = next_of(hokrund_begin(KIND, PANES, wanted, S, C));
+    for (uint32_t j = 0; j < G; j++)
+        job = next_of(hokrund_blank(job, j, SEGMENT(j)));
+    job = next_of(hokrund_close(job));
+    while (job.phase != HOKRUND_FINISHED) {
+        for (uint32_t j = 0; j < G; j++) {
+            while (job.passed[j] < HOKRUND_SEGMENT_STACKS(N, S, j)) {
+                HokrundExpanded e = hokrund_expand(job, j, SEGMENT(j), LOGS);
+                job = next(e.refusal, e.job);
+                if (e.waits)
+                    job = next_of(hokrund_settle(job, e.on, SEGMENT(e.on), LOGS));
+            }
+        }
+        for (uint32_t j = 0; j < G; j++)
+            job = next_of(hokrund_settle(job, j, SEGMENT(j), LOGS));
+        job = next_of(hokrund_close(job));
+    }
+}
+
+int main(void)
+{
+    HokrundStack wanted = {{1, 2, 3}}, given[] = {{{3, 1, 2}}, {{1, 3, 2}}, {{1, 2, 3}}, {{1, 1, 3}}};
+    build(wanted);
+    for (int i = 0; i < 4; i++) {
+        uint8_t turns[HOKRUND_TURN_LIST];
+        HokrundPlanned p = hokrund_plan(KIND, PANES, wanted, given[i], table, sizeof table, turns, sizeof turns);
+        printf("%d %d %d:", given[i].places[0], given[i].places[1], given[i].places[2]);
+        for (uint32_t t = 0; t < p.turns; t++)
+            printf(" %d", turns[t]);
+        printf(p.refusal != 0 ? " refused %d\n" : "\n", p.refusal);
+    }
+    return 0;
+}

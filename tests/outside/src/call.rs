@@ -1,0 +1,274 @@
+// One call with all its arguments, what a system made of it, and both in print.
+
+use std::fmt;
+use std::rc::Rc;
+
+use crate::system::*;
+
+// A call; tables are shared, as some are large.
+#[derive(Clone)]
+pub enum Call {
+    Index { kind: u8, n: u8, stack: Stack },
+    StackAt { kind: u8, n: u8, index: u32 },
+    Turn { kind: u8, n: u8, stack: Stack, k: u8 },
+    Begin { kind: u8, n: u8, wanted: Stack, size: u32, room: u32 },
+    Blank { job: Job, j: u32, segment: Vec<u8> },
+    Expand { job: Job, j: u32, segment: Vec<u8>, logs: Vec<u32> },
+    Settle { job: Job, j: u32, segment: Vec<u8>, logs: Vec<u32> },
+    Look { job: Job, j: u32, logs: Vec<u32> },
+    Close { job: Job },
+    ReadEntry { kind: u8, n: u8, table: Rc<Vec<u8>>, index: u32 },
+    Plan { kind: u8, n: u8, wanted: Stack, given: Stack, table: Rc<Vec<u8>>, list: Vec<u8> },
+}
+
+pub const OPERATIONS: [&str; 11] =
+    ["Index", "Stack at", "Turn", "Begin", "Blank", "Expand", "Settle", "Look", "Close", "Read", "Plan"];
+
+#[derive(Clone, PartialEq, Eq, Debug)]
+pub enum Answered {
+    Indexed(Indexed),
+    Stacked(Stacked),
+    Answer(Answer),
+    Expanded(Expanded),
+    Looked(Looked),
+    Entry(Entry),
+    Planned(Planned),
+}
+
+impl Answered {
+    pub fn refusal(&self) -> u8 {
+        match self {
+            Answered::Indexed(answer) => answer.refusal,
+            Answered::Stacked(answer) => answer.refusal,
+            Answered::Answer(answer) => answer.refusal,
+            Answered::Expanded(answer) => answer.refusal,
+            Answered::Looked(answer) => answer.number,
+            Answered::Entry(answer) => answer.refusal,
+            Answered::Planned(answer) => answer.refusal,
+        }
+    }
+
+    pub fn job(&self) -> Option<&Job> {
+        match self {
+            Answered::Answer(answer) => Some(&answer.job),
+            Answered::Expanded(answer) => Some(&answer.job),
+            _ => None,
+        }
+    }
+}
+
+// The answer, and the final contents of everything lent. Buffers that the call was not lent are empty.
+#[derive(Clone, PartialEq, Eq)]
+pub struct Outcome {
+    pub answer: Answered,
+    pub segment: Vec<u8>,
+    pub logs: Vec<u32>,
+    pub list: Vec<u8>,
+    // Nothing was written beside a buffer, or into one lent for reading.
+    pub kept_off: bool,
+}
+
+// A copy of a buffer between guards of a fixed pattern.
+struct Lent<T> {
+    cells: Vec<T>,
+    guard: T,
+}
+
+const GUARDS: usize = 16;
+
+impl<T: Copy + PartialEq> Lent<T> {
+    fn new(contents: &[T], guard: T) -> Lent<T> {
+        let mut cells = Vec::with_capacity(contents.len() + 2 * GUARDS);
+        cells.resize(GUARDS, guard);
+        cells.extend_from_slice(contents);
+        cells.resize(contents.len() + 2 * GUARDS, guard);
+        Lent { cells, guard }
+    }
+
+    fn slice(&mut self) -> &mut [T] {
+        let end = self.cells.len() - GUARDS;
+        &mut self.cells[GUARDS..end]
+    }
+
+    fn contents(mut self, kept_off: &mut bool) -> Vec<T> {
+        let end = self.cells.len() - GUARDS;
+        *kept_off &= self.cells[..GUARDS].iter().chain(&self.cells[end..]).all(|cell| *cell == self.guard);
+        self.cells.truncate(end);
+        self.cells.drain(..GUARDS);
+        self.cells
+    }
+}
+
+// A table above this length is lent as it is and not looked at again.
+const COPIED: usize = 1 << 20;
+
+impl Call {
+    // The place of the operation in OPERATIONS.
+    pub fn operation(&self) -> usize {
+        match self {
+            Call::Index { .. } => 0,
+            Call::StackAt { .. } => 1,
+            Call::Turn { .. } => 2,
+            Call::Begin { .. } => 3,
+            Call::Blank { .. } => 4,
+            Call::Expand { .. } => 5,
+            Call::Settle { .. } => 6,
+            Call::Look { .. } => 7,
+            Call::Close { .. } => 8,
+            Call::ReadEntry { .. } => 9,
+            Call::Plan { .. } => 10,
+        }
+    }
+
+    pub fn job(&self) -> Option<&Job> {
+        match self {
+            Call::Blank { job, .. } | Call::Expand { job, .. } | Call::Settle { job, .. } => Some(job),
+            Call::Look { job, .. } | Call::Close { job } => Some(job),
+            _ => None,
+        }
+    }
+
+    // The segment, log area and turn list as lent.
+    pub fn lent(&self) -> (&[u8], &[u32], &[u8]) {
+        match self {
+            Call::Blank { segment, .. } => (segment, &[], &[]),
+            Call::Expand { segment, logs, .. } | Call::Settle { segment, logs, .. } => (segment, logs, &[]),
+            Call::Look { logs, .. } => (&[], logs, &[]),
+            Call::Plan { list, .. } => (&[], &[], list),
+            _ => (&[], &[], &[]),
+        }
+    }
+
+    // Runs the call on copies of its buffers.
+    pub fn run<S: System + ?Sized>(&self, system: &S) -> Outcome {
+        let (segment, logs, list) = self.lent();
+        let (mut segment, mut logs, mut list) =
+            (Lent::new(segment, 0xa5), Lent::new(logs, 0xa5a5_a5a5), Lent::new(list, 0xa5));
+        let mut kept_off = true;
+        let answer = match self {
+            Call::Index { kind, n, stack } => Answered::Indexed(system.index_of_stack(*kind, *n, *stack)),
+            Call::StackAt { kind, n, index } => Answered::Stacked(system.stack_at_index(*kind, *n, *index)),
+            Call::Turn { kind, n, stack, k } => Answered::Stacked(system.turn(*kind, *n, *stack, *k)),
+            Call::Begin { kind, n, wanted, size, room } => {
+                Answered::Answer(system.begin(*kind, *n, *wanted, *size, *room))
+            }
+            Call::Blank { job, j, .. } => Answered::Answer(system.blank(job, *j, segment.slice())),
+            Call::Expand { job, j, .. } => Answered::Expanded(system.expand(job, *j, segment.slice(), logs.slice())),
+            Call::Settle { job, j, .. } => Answered::Answer(system.settle(job, *j, segment.slice(), logs.slice())),
+            Call::Look { job, j, .. } => Answered::Looked(system.look(job, *j, logs.slice())),
+            Call::Close { job } => Answered::Answer(system.close(job)),
+            Call::ReadEntry { kind, n, table, index } => {
+                Answered::Entry(reading(table, &mut kept_off, |table| system.read_entry(*kind, *n, table, *index)))
+            }
+            Call::Plan { kind, n, wanted, given, table, .. } => {
+                let list = list.slice();
+                Answered::Planned(reading(table, &mut kept_off, |table| {
+                    system.plan(*kind, *n, *wanted, *given, table, list)
+                }))
+            }
+        };
+        let segment = segment.contents(&mut kept_off);
+        let logs = logs.contents(&mut kept_off);
+        let list = list.contents(&mut kept_off);
+        if matches!(self, Call::Settle { .. } | Call::Look { .. }) {
+            kept_off &= logs == self.lent().1;
+        }
+        Outcome { answer, segment, logs, list, kept_off }
+    }
+}
+
+// Lends a copy of a table for reading, and sees that it stays as it was.
+fn reading<R>(table: &[u8], kept_off: &mut bool, call: impl FnOnce(&[u8]) -> R) -> R {
+    if table.len() > COPIED {
+        return call(table);
+    }
+    let mut copy = Lent::new(table, 0xa5);
+    let answer = call(copy.slice());
+    *kept_off &= copy.contents(kept_off) == table;
+    answer
+}
+
+// ---- In print
+
+// At most so many runs of a buffer are printed.
+const PRINTED: usize = 4096;
+
+// A buffer in hexadecimal, runs of equal items as item*times.
+struct Runs<'a, T>(&'a [T]);
+
+impl<T: PartialEq + fmt::LowerHex> fmt::Display for Runs<'_, T> {
+    fn fmt(&self, f: &mut fmt::Formatter) -> fmt::Result {
+        write!(f, "{} [", self.0.len())?;
+        for (place, run) in self.0.chunk_by(|a, b| a == b).enumerate() {
+            if place == PRINTED {
+                write!(f, " ..")?;
+                break;
+            }
+            let times = if run.len() > 1 { format!("*{}", run.len()) } else { String::new() };
+            write!(f, "{}{:x}{}", if place > 0 { " " } else { "" }, run[0], times)?;
+        }
+        write!(f, "]")
+    }
+}
+
+struct Shown<'a>(&'a Job);
+
+impl fmt::Display for Shown<'_> {
+    fn fmt(&self, f: &mut fmt::Formatter) -> fmt::Result {
+        let Job { kind, n, wanted, size, room, phase, passed, waiting, counts } = self.0;
+        write!(f, "kind {kind} n {n} wanted {wanted:?} size {size} room {room} phase {phase:?}")?;
+        write!(f, "\n    passed  {}\n    waiting {}\n    counts  {}", Runs(passed), Runs(waiting), Runs(counts))
+    }
+}
+
+impl fmt::Display for Call {
+    fn fmt(&self, f: &mut fmt::Formatter) -> fmt::Result {
+        write!(f, "{}", OPERATIONS[self.operation()])?;
+        match self {
+            Call::Index { kind, n, stack } => write!(f, " kind {kind} n {n} stack {stack:?}"),
+            Call::StackAt { kind, n, index } => write!(f, " kind {kind} n {n} index {index}"),
+            Call::Turn { kind, n, stack, k } => write!(f, " kind {kind} n {n} stack {stack:?} k {k}"),
+            Call::Begin { kind, n, wanted, size, room } => {
+                write!(f, " kind {kind} n {n} wanted {wanted:?} size {size} room {room}")
+            }
+            Call::Blank { job, j, segment } => write!(f, " j {j}\n    {}\n    segment {}", Shown(job), Runs(segment)),
+            Call::Expand { job, j, segment, logs } | Call::Settle { job, j, segment, logs } => {
+                write!(f, " j {j}\n    {}\n    segment {}\n    logs    {}", Shown(job), Runs(segment), Runs(logs))
+            }
+            Call::Look { job, j, logs } => write!(f, " j {j}\n    {}\n    logs    {}", Shown(job), Runs(logs)),
+            Call::Close { job } => write!(f, "\n    {}", Shown(job)),
+            Call::ReadEntry { kind, n, table, index } => {
+                write!(f, " kind {kind} n {n} index {index}\n    table   {}", Runs(table))
+            }
+            Call::Plan { kind, n, wanted, given, table, list } => {
+                write!(f, " kind {kind} n {n} wanted {wanted:?} given {given:?}")?;
+                write!(f, "\n    table   {}\n    list    {}", Runs(table), Runs(list))
+            }
+        }
+    }
+}
+
+impl fmt::Display for Outcome {
+    fn fmt(&self, f: &mut fmt::Formatter) -> fmt::Result {
+        match &self.answer {
+            Answered::Answer(answer) => write!(f, "refusal {}\n    {}", answer.refusal, Shown(&answer.job))?,
+            Answered::Expanded(Expanded { refusal, waits, on, job }) => {
+                write!(f, "refusal {refusal} waits {waits} on {on}\n    {}", Shown(job))?
+            }
+            other => write!(f, "{other:?}")?,
+        }
+        if !self.segment.is_empty() {
+            write!(f, "\n    segment {}", Runs(&self.segment))?;
+        }
+        if !self.logs.is_empty() {
+            write!(f, "\n    logs    {}", Runs(&self.logs))?;
+        }
+        if !self.list.is_empty() {
+            write!(f, "\n    list    {}", Runs(&self.list))?;
+        }
+        if !self.kept_off {
+            write!(f, "\n    wrote where it must not")?;
+        }
+        Ok(())
+    }
+}

@@ -1,0 +1,260 @@
+// What any one system is held to: document 01's examples, the numbering, whole builds against the plain search,
+// published diameters. Each check says what it did, or what was wrong.
+
+use crate::build::{ordered, size_for, Build, Fields, Order};
+use crate::cases::right_stack;
+use crate::paper::{self, COATED, PLAIN};
+use crate::rng::Rng;
+use crate::search;
+use crate::system::*;
+
+type Checked = Result<String, String>;
+
+fn equal<T: PartialEq + std::fmt::Debug>(what: &str, got: T, right: T) -> Result<(), String> {
+    if got == right {
+        Ok(())
+    } else {
+        Err(format!("{what}: got {got:?} and not {right:?}"))
+    }
+}
+
+fn stack(panes: &[i8]) -> Stack {
+    let mut stack = NO_STACK;
+    stack[..panes.len()].copy_from_slice(panes);
+    stack
+}
+
+fn finished(system: &dyn System, fields: &Fields, order: Order, rng: &mut Rng) -> Result<Build, String> {
+    let mut build =
+        Build::begin(system, fields, rng).map_err(|refusal| format!("Begin refused {refusal}: {fields:?}"))?;
+    build
+        .finish(system, order, rng)
+        .map_err(|(refusal, call)| format!("{call} refused {refusal}: {fields:?} {order:?}"))?;
+    Ok(build)
+}
+
+// ---- Document 01's examples
+
+// All of "At the edges", and the report's counts and plans.
+pub fn examples(system: &dyn System) -> Checked {
+    let mut rng = Rng::new(1);
+    let mut examples = 0;
+    let mut check = |result: Result<(), String>| {
+        examples += 1;
+        result
+    };
+    let index = |kind, panes: &[i8]| {
+        let answer = system.index_of_stack(kind, panes.len() as u8, stack(panes));
+        (answer.refusal, answer.index)
+    };
+    let at = |kind, n, index| {
+        let answer = system.stack_at_index(kind, n, index);
+        (answer.refusal, answer.stack)
+    };
+    let turn = |kind, panes: &[i8], k| {
+        let answer = system.turn(kind, panes.len() as u8, stack(panes), k);
+        (answer.refusal, answer.stack)
+    };
+
+    for (place, panes) in [[1, 2, 3], [1, 3, 2], [2, 1, 3], [2, 3, 1], [3, 1, 2], [3, 2, 1]].iter().enumerate() {
+        check(equal("index of a plain stack of 3", index(PLAIN, panes), (0, place as u32)))?;
+    }
+    check(equal("plain index 5", at(PLAIN, 3, 5), (0, stack(&[3, 2, 1]))))?;
+    check(equal("plain index 6", at(PLAIN, 3, 6), (4, NO_STACK)))?;
+    check(equal("index of +2 -1", index(COATED, &[2, -1]), (0, 5)))?;
+    check(equal("index of -1 -2", index(COATED, &[-1, -2]), (0, 3)))?;
+    check(equal("turn 2 of +1 +2", turn(COATED, &[1, 2], 2), (0, stack(&[-2, -1]))))?;
+    check(equal("plain turn 1", turn(PLAIN, &[1, 2], 1), (4, NO_STACK)))?;
+    check(equal("plain 1 has no turn", (0..=255).all(|k| turn(PLAIN, &[1], k).0 == 4), true))?;
+
+    let tables: [(u8, u8, u32, &[u8]); 5] = [
+        (PLAIN, 1, 4, &[0xfc]),
+        (COATED, 1, 4, &[0xf4]),
+        (PLAIN, 3, 4, &[0x90, 0xf6]),
+        (PLAIN, 3, 8, &[0x90, 0xf6]),
+        (PLAIN, 3, 67_108_864, &[0x90, 0xf6]),
+    ];
+    for (kind, n, size, right) in tables {
+        let fields = Fields { kind, n, wanted: ordered(n), size, room: 16 };
+        let build = finished(system, &fields, Order::Rising, &mut rng)?;
+        check(equal(&format!("table of {fields:?}"), build.table(), right.to_vec()))?;
+    }
+    let counts: [(u8, u8, &[u64]); 4] = [
+        (COATED, 2, &[1, 2, 2, 2, 1]),
+        (PLAIN, 4, &[1, 3, 6, 11, 3]),
+        (PLAIN, 5, &[1, 4, 12, 35, 48, 20]),
+        (PLAIN, 3, &[1, 2, 2, 1]),
+    ];
+    for (kind, n, right) in counts {
+        let fields = Fields { kind, n, wanted: ordered(n), size: 4, room: 16 };
+        let build = finished(system, &fields, Order::Rising, &mut rng)?;
+        let levels = build.deepest().map_or(0, |deepest| deepest as usize + 1);
+        check(equal(&format!("counts of {fields:?}"), build.job.counts[..levels].to_vec(), right.to_vec()))?;
+        check(equal(&format!("later counts of {fields:?}"), build.job.counts[levels..].iter().sum(), 0))?;
+    }
+
+    let refusal_of_n = |kind, n: u8| {
+        let wanted = ordered(n.min(12));
+        let begin = system.begin(kind, n, wanted, 67_108_864, 16).refusal;
+        [system.index_of_stack(kind, n, wanted).refusal, system.stack_at_index(kind, n, 0).refusal, begin]
+    };
+    check(equal("plain 12", refusal_of_n(PLAIN, 12), [0; 3]))?;
+    check(equal("plain 13", refusal_of_n(PLAIN, 13), [2; 3]))?;
+    check(equal("coated 10", refusal_of_n(COATED, 10), [0; 3]))?;
+    check(equal("coated 11", refusal_of_n(COATED, 11), [2; 3]))?;
+    let begin = |n, size, room| system.begin(PLAIN, n, ordered(n), size, room).refusal;
+    check(equal("S 4", begin(3, 4, 16), 0))?;
+    check(equal("S 6", begin(3, 6, 16), 5))?;
+    check(equal("plain 6 with S 12", begin(6, 12, 16), 0))?;
+    check(equal("plain 6 with S 8", begin(6, 8, 16), 5))?;
+    check(equal("C 15", begin(3, 4, 15), 6))?;
+    check(equal("C 16", begin(3, 4, 16), 0))?;
+    check(equal("the largest C", begin(3, 4, 1_048_576), 0))?;
+    check(equal("a larger C", begin(3, 4, 1_048_577), 6))?;
+    check(equal("a larger S", begin(3, 67_108_868, 16), 5))?;
+    // Sixty segments: the job names segment 59 and no segment 60.
+    let sixty = system.begin(PLAIN, 6, ordered(6), 12, 16).job;
+    check(equal("segment 59 of plain 6 with S 12", system.blank(&sixty, 59, &mut [0; 3]).refusal, 0))?;
+    check(equal("segment 60 of plain 6 with S 12", system.blank(&sixty, 60, &mut [0; 3]).refusal, 9))?;
+
+    // The report's input: plain 3, wanted 1 2 3, S 4, C 16.
+    let fields = Fields { kind: PLAIN, n: 3, wanted: ordered(3), size: 4, room: 16 };
+    let build = finished(system, &fields, Order::Rising, &mut rng)?;
+    check(equal("deepest of the report's build", build.deepest(), Some(3)))?;
+    let table = build.table();
+    let plan = |panes: &[i8]| {
+        let mut list = [0xee; 30];
+        let answer = system.plan(PLAIN, 3, fields.wanted, stack(panes), &table, &mut list);
+        let (turns, rest) = list.split_at(answer.turns as usize);
+        (answer.refusal, turns.to_vec(), rest.iter().all(|&byte| byte == 0xee))
+    };
+    check(equal("plan of 3 1 2", plan(&[3, 1, 2]), (0, vec![3, 2], true)))?;
+    check(equal("plan of 1 3 2", plan(&[1, 3, 2]), (0, vec![2, 3, 2], true)))?;
+    check(equal("plan of 1 2 3", plan(&[1, 2, 3]), (0, vec![], true)))?;
+    check(equal("plan of 1 1 3", plan(&[1, 1, 3]), (3, vec![], true)))?;
+    Ok(format!("{examples} examples of document 01"))
+}
+
+// ---- The numbering
+
+// The next order in lexicographic order, found without any index.
+fn next_order(panes: &mut [i8]) -> bool {
+    let Some(step) = panes.windows(2).rposition(|pair| pair[0] < pair[1]) else { return false };
+    let above = panes.iter().rposition(|&pane| pane > panes[step]).expect("the next place is larger");
+    panes.swap(step, above);
+    panes[step + 1..].reverse();
+    true
+}
+
+// Every stack of plain 1 to 8 and coated 1 to 6 in order: index, its inverse, and each turn undone and seen by the plain search's own flip.
+pub fn numbering(system: &dyn System) -> Checked {
+    let (mut stacks, mut turns) = (0, 0);
+    for (kind, most) in [(PLAIN, 8), (COATED, 6)] {
+        for n in 1..=most {
+            let mut order = ordered(n);
+            let mut place = 0;
+            loop {
+                for coats in 0..if kind == COATED { 1 << n } else { 1u32 } {
+                    let mut panes = order;
+                    (0..n as usize)
+                        .filter(|p| coats >> (n as usize - 1 - p) & 1 == 1)
+                        .for_each(|p| panes[p] = -panes[p]);
+                    equal("index", system.index_of_stack(kind, n, panes), Indexed { refusal: 0, index: place })?;
+                    equal("stack", system.stack_at_index(kind, n, place), Stacked { refusal: 0, stack: panes })?;
+                    for k in paper::turns(kind, n) {
+                        let mut flipped = panes;
+                        search::flip(kind == COATED, &mut flipped, k as usize);
+                        equal("turn", system.turn(kind, n, panes, k), Stacked { refusal: 0, stack: flipped })?;
+                        equal("turn back", system.turn(kind, n, flipped, k), Stacked { refusal: 0, stack: panes })?;
+                        turns += 1;
+                    }
+                    stacks += 1;
+                    place += 1;
+                }
+                if !next_order(&mut order[..n as usize]) {
+                    break;
+                }
+            }
+            equal("count of stacks", u64::from(place), paper::count_of_stacks(kind, n))?;
+            equal("index past the last", system.stack_at_index(kind, n, place).refusal, 4)?;
+        }
+    }
+    Ok(format!("{stacks} stacks in lexicographic order, {turns} turns there and back"))
+}
+
+// ---- Whole builds
+
+// Plain 1 to 7 and coated 1 to 5, several wanted stacks, S, C and orders: entry by entry and count by count against
+// the plain search, then the plan of every stack.
+pub fn builds(system: &dyn System, seed: u64) -> Checked {
+    let mut rng = Rng::new(seed);
+    let (mut builds, mut entries, mut plans) = (0, 0, 0);
+    for (kind, most) in [(PLAIN, 7), (COATED, 5)] {
+        for n in 1..=most {
+            let stacks = paper::count_of_stacks(kind, n);
+            let reversed = std::array::from_fn(|p| if p < n as usize { n as i8 - p as i8 } else { 0 });
+            for wanted in [ordered(n), reversed, right_stack(&mut rng, kind, n), right_stack(&mut rng, kind, n)] {
+                let distances = search::search(kind == COATED, &wanted[..n as usize]);
+                equal("sum of counts", distances.counts.iter().sum(), stacks)?;
+                for (size, room) in [
+                    (size_for(stacks, 64), 16),
+                    (size_for(stacks, 64), 37),
+                    (size_for(stacks, 7), 16),
+                    (size_for(stacks, 2), 1000),
+                    (size_for(stacks, 1), 16),
+                    (67_108_864, 16),
+                ] {
+                    for order in [Order::Rising, Order::Falling, Order::Shuffled] {
+                        let fields = Fields { kind, n, wanted, size, room };
+                        let build = finished(system, &fields, order, &mut rng)?;
+                        build.agrees_with(&distances).map_err(|wrong| format!("{wrong}: {fields:?} {order:?}"))?;
+                        builds += 1;
+                        entries += stacks;
+                        if order == Order::Shuffled && room == 16 {
+                            plans += all_plans(system, &build, &distances)?;
+                        }
+                    }
+                }
+            }
+        }
+    }
+    Ok(format!("{builds} builds against the plain search, {entries} entries, {plans} plans"))
+}
+
+// The plan of every stack has the fewest turns and arrives.
+fn all_plans(system: &dyn System, build: &Build, distances: &search::Distances) -> Result<u64, String> {
+    let Job { kind, n, wanted, .. } = build.job;
+    let table = build.table();
+    for (index, &fewest) in distances.turns.iter().enumerate() {
+        let given = paper::stack_at(kind, n, index as u32);
+        let mut list = [0; 30];
+        let planned = system.plan(kind, n, wanted, given, &table, &mut list);
+        let what = format!("plan of {given:?} to {wanted:?}");
+        equal(&what, planned, Planned { refusal: 0, turns: u32::from(fewest) })?;
+        let mut at = given;
+        list[..fewest as usize].iter().for_each(|&k| search::flip(kind == COATED, &mut at[..n as usize], k as usize));
+        equal(&what, at, wanted)?;
+    }
+    Ok(distances.turns.len() as u64)
+}
+
+// ---- Diameters
+
+// Source document 000, Table 1: the diameter for each n, plain and coated.
+pub const PUBLISHED: [[u8; 12]; 2] =
+    [[0, 1, 3, 4, 5, 7, 8, 9, 10, 11, 13, 14], [1, 4, 6, 8, 10, 12, 14, 15, 17, 18, 19, 21]];
+
+// Whole builds up to these n have the published diameter as deepest level, and counts that add to N.
+pub fn diameters(system: &dyn System, plain_to: u8, coated_to: u8) -> Checked {
+    let mut rng = Rng::new(1);
+    for (kind, most) in [(PLAIN, plain_to), (COATED, coated_to)] {
+        for n in 1..=most {
+            let stacks = paper::count_of_stacks(kind, n);
+            let fields = Fields { kind, n, wanted: ordered(n), size: size_for(stacks, 12), room: 4096 };
+            let build = finished(system, &fields, Order::Rising, &mut rng)?;
+            equal(&format!("diameter of {fields:?}"), build.deepest(), Some(PUBLISHED[kind as usize][n as usize - 1]))?;
+            equal(&format!("sum of counts of {fields:?}"), build.job.counts.iter().sum(), stacks)?;
+        }
+    }
+    Ok(format!("published diameters of plain 1 to {plain_to} and coated 1 to {coated_to}"))
+}

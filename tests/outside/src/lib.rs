@@ -1,0 +1,14 @@
+// The parts of the outside tests, as a library that the benchmark uses too.
+#![deny(unsafe_code)]
+
+pub mod build;
+pub mod call;
+pub mod cases;
+pub mod checks;
+pub mod compare;
+pub mod faulty;
+pub mod linked;
+pub mod paper;
+pub mod rng;
+pub mod search;
+pub mod system;

@@ -1,0 +1,214 @@
+// The proved library as a system, through its C boundary: include/hokrund.h once more, as Rust declares it.
+#![allow(unsafe_code)]
+
+use std::mem::{offset_of, size_of};
+
+use crate::system::*;
+
+#[derive(Clone, Copy)]
+#[repr(C)]
+struct CStack {
+    places: Stack,
+}
+
+#[derive(Clone, Copy)]
+#[repr(C)]
+struct CJob {
+    kind: u8,
+    n: u8,
+    phase: u8,
+    level: u8,
+    wanted: CStack,
+    size: u32,
+    room: u32,
+    passed: [u32; 64],
+    waiting: [u32; 64],
+    counts: [u64; 32],
+}
+
+#[repr(C)]
+struct CIndexed {
+    refusal: u8,
+    index: u32,
+}
+
+#[repr(C)]
+struct CStacked {
+    refusal: u8,
+    stack: CStack,
+}
+
+#[repr(C)]
+struct CAnswer {
+    refusal: u8,
+    job: CJob,
+}
+
+#[repr(C)]
+struct CExpanded {
+    refusal: u8,
+    waits: bool,
+    on: u32,
+    job: CJob,
+}
+
+#[repr(C)]
+struct CLook {
+    refusal: u8,
+    start: usize,
+    length: usize,
+}
+
+#[repr(C)]
+struct CEntry {
+    refusal: u8,
+    entry: u8,
+}
+
+#[repr(C)]
+struct CPlanned {
+    refusal: u8,
+    turns: u32,
+}
+
+// The layout that include/hokrund.h asserts on its side.
+const _: () = {
+    assert!(size_of::<CJob>() == 792 && offset_of!(CJob, wanted) == 4 && offset_of!(CJob, size) == 16);
+    assert!(offset_of!(CJob, passed) == 24 && offset_of!(CJob, waiting) == 280 && offset_of!(CJob, counts) == 536);
+    assert!(size_of::<CIndexed>() == 8 && size_of::<CStacked>() == 13 && size_of::<CAnswer>() == 800);
+    assert!(size_of::<CExpanded>() == 800 && offset_of!(CExpanded, on) == 4 && offset_of!(CExpanded, job) == 8);
+    assert!(size_of::<CLook>() == 24 && size_of::<CEntry>() == 2 && size_of::<CPlanned>() == 8);
+};
+
+extern "C" {
+    fn hokrund_index_of_stack(kind: u8, n: u8, stack: CStack) -> CIndexed;
+    fn hokrund_stack_at_index(kind: u8, n: u8, index: u32) -> CStacked;
+    fn hokrund_turn(kind: u8, n: u8, stack: CStack, k: u8) -> CStacked;
+    fn hokrund_begin(kind: u8, n: u8, wanted: CStack, size: u32, room: u32) -> CAnswer;
+    fn hokrund_blank(job: CJob, j: u32, segment: *mut u8, length: usize) -> CAnswer;
+    fn hokrund_expand(job: CJob, j: u32, segment: *mut u8, length: usize, log: *mut u32, words: usize) -> CExpanded;
+    fn hokrund_settle(job: CJob, j: u32, segment: *mut u8, length: usize, log: *const u32, words: usize) -> CAnswer;
+    fn hokrund_look(job: CJob, j: u32, log: *const u32, words: usize) -> CLook;
+    fn hokrund_close(job: CJob) -> CAnswer;
+    fn hokrund_read_entry(kind: u8, n: u8, table: *const u8, length: usize, index: u32) -> CEntry;
+    #[allow(clippy::too_many_arguments)]
+    fn hokrund_plan(
+        kind: u8,
+        n: u8,
+        wanted: CStack,
+        given: CStack,
+        table: *const u8,
+        length: usize,
+        list: *mut u8,
+        room: usize,
+    ) -> CPlanned;
+}
+
+fn mirror(job: &Job) -> CJob {
+    let (phase, level) = match job.phase {
+        Phase::Blanking => (0, 0),
+        Phase::Level(d) => (1, d),
+        Phase::Finished(d) => (2, d),
+    };
+    CJob {
+        kind: job.kind,
+        n: job.n,
+        phase,
+        level,
+        wanted: CStack { places: job.wanted },
+        size: job.size,
+        room: job.room,
+        passed: job.passed,
+        waiting: job.waiting,
+        counts: job.counts,
+    }
+}
+
+fn job(mirror: CJob) -> Job {
+    let phase = match (mirror.phase, mirror.level) {
+        (0, 0) => Phase::Blanking,
+        (1, d) => Phase::Level(d),
+        (2, d) => Phase::Finished(d),
+        other => panic!("the library gave the phase {other:?}"),
+    };
+    Job {
+        kind: mirror.kind,
+        n: mirror.n,
+        wanted: mirror.wanted.places,
+        size: mirror.size,
+        room: mirror.room,
+        phase,
+        passed: mirror.passed,
+        waiting: mirror.waiting,
+        counts: mirror.counts,
+    }
+}
+
+fn answer(a: CAnswer) -> Answer {
+    Answer { refusal: a.refusal, job: job(a.job) }
+}
+
+fn stacked(s: CStacked) -> Stacked {
+    Stacked { refusal: s.refusal, stack: s.stack.places }
+}
+
+pub struct Library;
+
+// Each slice is lent as its pointer and length, which is all that the library asks of its caller.
+impl System for Library {
+    fn index_of_stack(&self, kind: u8, n: u8, stack: Stack) -> Indexed {
+        let r = unsafe { hokrund_index_of_stack(kind, n, CStack { places: stack }) };
+        Indexed { refusal: r.refusal, index: r.index }
+    }
+
+    fn stack_at_index(&self, kind: u8, n: u8, index: u32) -> Stacked {
+        stacked(unsafe { hokrund_stack_at_index(kind, n, index) })
+    }
+
+    fn turn(&self, kind: u8, n: u8, stack: Stack, k: u8) -> Stacked {
+        stacked(unsafe { hokrund_turn(kind, n, CStack { places: stack }, k) })
+    }
+
+    fn begin(&self, kind: u8, n: u8, wanted: Stack, size: u32, room: u32) -> Answer {
+        answer(unsafe { hokrund_begin(kind, n, CStack { places: wanted }, size, room) })
+    }
+
+    fn blank(&self, job: &Job, j: u32, segment: &mut [u8]) -> Answer {
+        answer(unsafe { hokrund_blank(mirror(job), j, segment.as_mut_ptr(), segment.len()) })
+    }
+
+    fn expand(&self, job: &Job, j: u32, segment: &mut [u8], logs: &mut [u32]) -> Expanded {
+        let r = unsafe {
+            hokrund_expand(mirror(job), j, segment.as_mut_ptr(), segment.len(), logs.as_mut_ptr(), logs.len())
+        };
+        Expanded { refusal: r.refusal, waits: r.waits, on: r.on, job: self::job(r.job) }
+    }
+
+    fn settle(&self, job: &Job, j: u32, segment: &mut [u8], logs: &[u32]) -> Answer {
+        answer(unsafe {
+            hokrund_settle(mirror(job), j, segment.as_mut_ptr(), segment.len(), logs.as_ptr(), logs.len())
+        })
+    }
+
+    fn look(&self, job: &Job, j: u32, logs: &[u32]) -> Looked {
+        let r = unsafe { hokrund_look(mirror(job), j, logs.as_ptr(), logs.len()) };
+        Looked { start: r.start, len: r.length, number: r.refusal }
+    }
+
+    fn close(&self, job: &Job) -> Answer {
+        answer(unsafe { hokrund_close(mirror(job)) })
+    }
+
+    fn read_entry(&self, kind: u8, n: u8, table: &[u8], index: u32) -> Entry {
+        let r = unsafe { hokrund_read_entry(kind, n, table.as_ptr(), table.len(), index) };
+        Entry { refusal: r.refusal, entry: r.entry }
+    }
+
+    fn plan(&self, kind: u8, n: u8, wanted: Stack, given: Stack, table: &[u8], list: &mut [u8]) -> Planned {
+        let (wanted, given) = (CStack { places: wanted }, CStack { places: given });
+        let r = unsafe {
+            hokrund_plan(kind, n, wanted, given, table.as_ptr(), table.len(), list.as_mut_ptr(), list.len())
+        };
+        Planned { refusal: r.refusal, turns: r.turns }
+    }
+}

@@ -1,0 +1,151 @@
+// Runs every outside test and prints what was checked; exits with 1 where a check failed.
+//
+//   cargo run --release --offline --manifest-path tests/outside/Cargo.toml -- [options]
+//   --seed S           the seed of all random cases (1)
+//   --cases N          how many single calls are compared, about (600000)
+//   --family F         one family only: stacks, calls, tables, lists, large
+//   --case K           one case of that family only, to run a failing one again
+
+use std::process::ExitCode;
+use std::time::Instant;
+
+use outside::cases::{Family, FAMILIES};
+use outside::checks;
+use outside::compare::{compare, Tally};
+use outside::faulty::{Fault, Faulty, FAULTS};
+use outside::linked::Library;
+use outside::paper::Paper;
+use outside::system::System;
+
+struct Options {
+    seed: u64,
+    cases: u64,
+    family: Option<Family>,
+    case: Option<u64>,
+}
+
+fn options() -> Result<Options, String> {
+    let mut options = Options { seed: 1, cases: 600_000, family: None, case: None };
+    let mut words = std::env::args().skip(1);
+    while let Some(name) = words.next() {
+        let value = words.next().ok_or(format!("{name} needs a value"))?;
+        let number = || value.parse::<u64>().map_err(|_| format!("{name} needs a number"));
+        match name.as_str() {
+            "--seed" => options.seed = number()?,
+            "--cases" => options.cases = number()?,
+            "--case" => options.case = Some(number()?),
+            "--family" => {
+                let named = |family: &&Family| format!("{family:?}").to_lowercase() == value;
+                options.family = Some(*FAMILIES.iter().find(named).ok_or(format!("no family {value}"))?);
+            }
+            _ => return Err(format!("no option {name}")),
+        }
+    }
+    if options.case.is_some() && options.family.is_none() {
+        return Err("--case needs --family".to_string());
+    }
+    Ok(options)
+}
+
+// How many cases of each family make about so many calls.
+fn cases_of(family: Family, calls: u64) -> u64 {
+    match family {
+        Family::Stacks => calls / 16,
+        Family::Calls => calls / 36,
+        Family::Tables => calls / 150,
+        Family::Lists => calls / 2_000,
+        Family::Large => calls / 4_000,
+    }
+    .max(1)
+}
+
+// Prints what a part of the tests did and how long it took; false where it failed.
+fn report(part: &str, run: impl FnOnce() -> Result<String, String>) -> bool {
+    let start = Instant::now();
+    let outcome = run();
+    let seconds = start.elapsed().as_secs_f64();
+    match &outcome {
+        Ok(done) => println!("ok      {part}: {done} ({seconds:.1} s)"),
+        Err(wrong) => println!("FAILED  {part}: {wrong}"),
+    }
+    outcome.is_ok()
+}
+
+// Each fault must be caught by the cases of the families that a run compares.
+fn faults_are_caught(seed: u64) -> Result<String, String> {
+    let mut most = 0;
+    for family in FAMILIES {
+        let numbers = 0..cases_of(family, 20_000);
+        compare(&Paper, &Faulty(Fault::Nothing), family, seed, numbers, &mut Tally::default())?;
+    }
+    for &fault in FAULTS {
+        let caught = (0..4_000).find(|&number| {
+            let families = [Family::Stacks, Family::Calls, Family::Tables];
+            let differs = |family| {
+                compare(&Paper, &Faulty(fault), family, seed, number..number + 1, &mut Tally::default()).is_err()
+            };
+            families.into_iter().any(differs)
+        });
+        most = most.max(caught.ok_or(format!("{fault:?} was not caught"))? + 1);
+    }
+    Ok(format!("{} faults caught, the last one by case {most}", FAULTS.len()))
+}
+
+// Compares in each family, and sees that every refusal of every operation was met.
+fn comparison(options: &Options, other: &dyn System) -> bool {
+    let mut tally = Tally::default();
+    let mut fine = true;
+    for family in FAMILIES {
+        if options.family.is_some_and(|only| only != family) {
+            continue;
+        }
+        let numbers = match options.case {
+            Some(number) => number..number + 1,
+            None => 0..cases_of(family, options.cases),
+        };
+        let before = tally.calls();
+        fine &= report(&format!("compared {family:?}"), || {
+            compare(&Paper, other, family, options.seed, numbers.clone(), &mut tally)?;
+            Ok(format!("{} cases, {} calls", numbers.end - numbers.start, tally.calls() - before))
+        });
+    }
+    println!("{tally}");
+    if fine && options.family.is_none() && options.cases >= 100_000 {
+        fine &= report("coverage", || match tally.unmet() {
+            unmet if unmet.is_empty() => Ok("every refusal of every operation was met".to_string()),
+            unmet => Err(unmet.join("; ")),
+        });
+    }
+    fine
+}
+
+fn main() -> ExitCode {
+    let options = match options() {
+        Ok(options) => options,
+        Err(wrong) => {
+            eprintln!("{wrong}");
+            return ExitCode::FAILURE;
+        }
+    };
+    let start = Instant::now();
+    println!("outside tests, seed {}, about {} calls", options.seed, options.cases);
+    let mut fine = true;
+    if options.family.is_none() {
+        // The library's builds reach further than the paper's, which stop where its seconds do.
+        let systems: [(&str, &dyn System, u8, u8); 2] = [("paper", &Paper, 9, 6), ("library", &Library, 10, 8)];
+        for (name, system, plain_to, coated_to) in systems {
+            fine &= report(&format!("{name}, examples"), || checks::examples(system));
+            fine &= report(&format!("{name}, numbering"), || checks::numbering(system));
+            fine &= report(&format!("{name}, builds"), || checks::builds(system, options.seed));
+            fine &= report(&format!("{name}, diameters"), || checks::diameters(system, plain_to, coated_to));
+        }
+        fine &= report("comparison", || faults_are_caught(options.seed));
+    }
+    fine &= comparison(&options, &Library);
+    println!("{} in {:.1} s", if fine { "all passed" } else { "FAILED" }, start.elapsed().as_secs_f64());
+    if fine {
+        ExitCode::SUCCESS
+    } else {
+        ExitCode::FAILURE
+    }
+}

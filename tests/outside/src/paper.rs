@@ -1,0 +1,473 @@
+// Document 01's operations, written from the paper alone: clear rather than fast, total on any arguments.
+
+use crate::system::*;
+
+pub const PLAIN: u8 = 0;
+pub const COATED: u8 = 1;
+pub const UNSEEN: u8 = 3;
+
+const LEAST_SIZE: u32 = 4;
+const MOST_SIZE: u32 = 67_108_864;
+const MOST_SEGMENTS: u64 = 64;
+const LEAST_ROOM: u32 = 16;
+const MOST_ROOM: u32 = 1_048_576;
+const LAST_LEVEL: u8 = 31;
+const MOST_TURNS: usize = 30;
+const MOST_COUNT: u64 = 1 << 60;
+
+// Goes on, or gives the refusal's number when the condition holds.
+fn refuse(number: u8, when: bool) -> Result<(), u8> {
+    if when {
+        Err(number)
+    } else {
+        Ok(())
+    }
+}
+
+// ---- Stacks and turns
+
+fn most_panes(kind: u8) -> u8 {
+    if kind == PLAIN {
+        12
+    } else {
+        10
+    }
+}
+
+fn right_kind_and_n(kind: u8, n: u8) -> Result<(), u8> {
+    refuse(1, kind != PLAIN && kind != COATED)?;
+    refuse(2, n < 1 || n > most_panes(kind))
+}
+
+// Panes 1 to n each once, no coat down if plain, unused places zero.
+pub fn is_stack(kind: u8, n: u8, stack: &Stack) -> bool {
+    let (used, unused) = stack.split_at(n as usize);
+    let each_once = (1..=n).all(|pane| used.iter().filter(|place| place.unsigned_abs() == pane).count() == 1);
+    let coats_up = used.iter().all(|&place| place > 0);
+    each_once && (kind == COATED || coats_up) && unused.iter().all(|&place| place == 0)
+}
+
+// The turns of a kind and n, rising.
+pub fn turns(kind: u8, n: u8) -> impl Iterator<Item = u8> {
+    let first = if kind == PLAIN { 2 } else { 1 };
+    first..=n
+}
+
+// The stack after turn k.
+pub fn turned(kind: u8, stack: &Stack, k: u8) -> Stack {
+    let mut after = *stack;
+    for place in 0..k as usize {
+        let pane = stack[k as usize - 1 - place];
+        after[place] = if kind == COATED { -pane } else { pane };
+    }
+    after
+}
+
+// ---- Index
+
+fn factorial(n: u64) -> u64 {
+    (1..=n).product()
+}
+
+// N, the count of stacks.
+pub fn count_of_stacks(kind: u8, n: u8) -> u64 {
+    let orders = factorial(u64::from(n));
+    if kind == PLAIN {
+        orders
+    } else {
+        orders << n
+    }
+}
+
+// The index of a right stack.
+pub fn index(kind: u8, n: u8, stack: &Stack) -> u32 {
+    let used = &stack[..n as usize];
+    let mut order = 0;
+    let mut coats = 0;
+    for (place, &pane) in used.iter().enumerate() {
+        let pane_number = u64::from(pane.unsigned_abs());
+        let smaller_met = used[..place].iter().filter(|met| u64::from(met.unsigned_abs()) < pane_number).count() as u64;
+        let weight = n as usize - 1 - place;
+        order += (pane_number - 1 - smaller_met) * factorial(weight as u64);
+        if pane < 0 {
+            coats += 1 << weight;
+        }
+    }
+    let whole: u64 = if kind == PLAIN { order } else { (order << n) + coats };
+    whole as u32
+}
+
+// The stack at an index below N.
+pub fn stack_at(kind: u8, n: u8, index: u32) -> Stack {
+    let signs = if kind == PLAIN { 0 } else { u32::from(n) };
+    let mut order = u64::from(index) >> signs;
+    let coats = index & ((1 << signs) - 1);
+    let mut left: Vec<i8> = (1..=n as i8).collect();
+    let mut stack = NO_STACK;
+    for (place, pane_here) in stack[..n as usize].iter_mut().enumerate() {
+        let weight = n as usize - 1 - place;
+        let pane = left.remove((order / factorial(weight as u64)) as usize);
+        order %= factorial(weight as u64);
+        let down = kind == COATED && coats >> weight & 1 == 1;
+        *pane_here = if down { -pane } else { pane };
+    }
+    stack
+}
+
+// ---- Segments and entries
+
+// G, the number of segments.
+pub fn count_of_segments(stacks: u64, size: u32) -> u64 {
+    stacks.div_ceil(u64::from(size))
+}
+
+// m, the stacks of segment j, which is below G.
+pub fn stacks_of_segment(stacks: u64, size: u32, j: u64) -> u64 {
+    let size = u64::from(size);
+    ((j + 1) * size).min(stacks) - j * size
+}
+
+// The bytes that hold so many entries.
+pub fn bytes_of(stacks: u64) -> usize {
+    stacks.div_ceil(4) as usize
+}
+
+pub fn entry_at(entries: &[u8], i: u64) -> u8 {
+    entries[(i / 4) as usize] >> (2 * (i % 4)) & 3
+}
+
+pub fn set_entry(entries: &mut [u8], i: u64, value: u8) {
+    let byte = &mut entries[(i / 4) as usize];
+    let shift = 2 * (i % 4);
+    *byte = *byte & !(3 << shift) | value << shift;
+}
+
+// Gives an unseen entry the label of level d, one more in count d; a seen one stays.
+pub fn mark(segment: &mut [u8], i: u64, d: u8, counts: &mut [u64; 32]) {
+    if entry_at(segment, i) == UNSEEN {
+        set_entry(segment, i, d % 3);
+        counts[d as usize] += 1;
+    }
+}
+
+// ---- The job
+
+// The measures of a job that Begin would accept.
+#[derive(Clone, Copy)]
+pub struct Measures {
+    pub stacks: u64,
+    pub segments: u64,
+    pub size: u32,
+    pub room: u64,
+}
+
+impl Measures {
+    pub fn stacks_of(&self, j: u64) -> u64 {
+        stacks_of_segment(self.stacks, self.size, j)
+    }
+
+    pub fn bytes_of(&self, j: u64) -> usize {
+        bytes_of(self.stacks_of(j))
+    }
+
+    pub fn log_numbers(&self) -> usize {
+        (self.segments * self.room) as usize
+    }
+
+    pub fn log_start(&self, j: u64) -> usize {
+        (j * self.room) as usize
+    }
+}
+
+// The refusals of Begin, and what its fields measure.
+pub fn measures(kind: u8, n: u8, wanted: &Stack, size: u32, room: u32) -> Result<Measures, u8> {
+    right_kind_and_n(kind, n)?;
+    refuse(3, !is_stack(kind, n, wanted))?;
+    let stacks = count_of_stacks(kind, n);
+    refuse(5, !size.is_multiple_of(4) || !(LEAST_SIZE..=MOST_SIZE).contains(&size))?;
+    let segments = count_of_segments(stacks, size);
+    refuse(5, segments > MOST_SEGMENTS)?;
+    refuse(6, !(LEAST_ROOM..=MOST_ROOM).contains(&room))?;
+    Ok(Measures { stacks, segments, size, room: u64::from(room) })
+}
+
+// The measures of a coherent job; 7 for any other.
+pub fn coherent(job: &Job) -> Result<Measures, u8> {
+    let measures = measures(job.kind, job.n, &job.wanted, job.size, job.room).map_err(|_| 7)?;
+    let right_phase = match job.phase {
+        Phase::Blanking => true,
+        Phase::Level(d) => (1..=LAST_LEVEL).contains(&d),
+        Phase::Finished(deepest) => deepest < LAST_LEVEL,
+    };
+    refuse(7, !right_phase)?;
+    for j in 0..MOST_SEGMENTS {
+        let (passed, waiting) = (u64::from(job.passed[j as usize]), u64::from(job.waiting[j as usize]));
+        let (most_passed, most_waiting) =
+            if j < measures.segments { (measures.stacks_of(j), measures.room) } else { (0, 0) };
+        refuse(7, passed > most_passed || waiting > most_waiting)?;
+    }
+    refuse(7, job.counts.iter().any(|&count| count > MOST_COUNT))?;
+    Ok(measures)
+}
+
+fn level_of(job: &Job) -> Result<u8, u8> {
+    match job.phase {
+        Phase::Level(d) => Ok(d),
+        _ => Err(8),
+    }
+}
+
+// ---- Operations, each with its refusals in order
+
+fn try_index(kind: u8, n: u8, stack: &Stack) -> Result<u32, u8> {
+    right_kind_and_n(kind, n)?;
+    refuse(3, !is_stack(kind, n, stack))?;
+    Ok(index(kind, n, stack))
+}
+
+fn try_stack(kind: u8, n: u8, index: u32) -> Result<Stack, u8> {
+    right_kind_and_n(kind, n)?;
+    refuse(4, u64::from(index) >= count_of_stacks(kind, n))?;
+    Ok(stack_at(kind, n, index))
+}
+
+fn try_turn(kind: u8, n: u8, stack: &Stack, k: u8) -> Result<Stack, u8> {
+    right_kind_and_n(kind, n)?;
+    refuse(3, !is_stack(kind, n, stack))?;
+    refuse(4, !turns(kind, n).any(|turn| turn == k))?;
+    Ok(turned(kind, stack, k))
+}
+
+fn try_begin(kind: u8, n: u8, wanted: Stack, size: u32, room: u32) -> Result<Job, u8> {
+    measures(kind, n, &wanted, size, room)?;
+    Ok(Job { kind, n, wanted, size, room, ..NO_JOB })
+}
+
+fn try_blank(job: &Job, j: u32, segment: &mut [u8]) -> Result<Job, u8> {
+    let measures = coherent(job)?;
+    refuse(8, job.phase != Phase::Blanking)?;
+    let here = u64::from(j);
+    refuse(9, here >= measures.segments)?;
+    refuse(10, segment.len() != measures.bytes_of(here))?;
+    let stacks = measures.stacks_of(here);
+    refuse(11, u64::from(job.passed[j as usize]) == stacks)?;
+
+    segment.fill(0xff);
+    let wanted = u64::from(index(job.kind, job.n, &job.wanted));
+    if wanted / u64::from(job.size) == here {
+        set_entry(segment, wanted % u64::from(job.size), 0);
+    }
+    let mut after = *job;
+    after.passed[j as usize] = stacks as u32;
+    Ok(after)
+}
+
+// The job after the call, and the segment waited on.
+fn try_expand(job: &Job, j: u32, segment: &mut [u8], logs: &mut [u32]) -> Result<(Job, Option<u32>), u8> {
+    let measures = coherent(job)?;
+    let d = level_of(job)?;
+    let here = u64::from(j);
+    refuse(9, here >= measures.segments)?;
+    refuse(10, segment.len() != measures.bytes_of(here))?;
+    refuse(10, logs.len() != measures.log_numbers())?;
+    let stacks = measures.stacks_of(here);
+    refuse(11, u64::from(job.passed[j as usize]) == stacks)?;
+
+    let mut after = *job;
+    for i in u64::from(job.passed[j as usize])..stacks {
+        if entry_at(segment, i) == (d - 1) % 3 {
+            let children = children(job, here * u64::from(job.size) + i);
+            let full = (0..measures.segments).find(|&t| {
+                let falling = children.iter().filter(|child| child.segment == t).count() as u64;
+                t != here && falling > measures.room - u64::from(after.waiting[t as usize])
+            });
+            if let Some(t) = full {
+                return Ok((after, Some(t as u32)));
+            }
+            for child in children {
+                if child.segment == here {
+                    mark(segment, child.offset, d, &mut after.counts);
+                } else {
+                    let waiting = &mut after.waiting[child.segment as usize];
+                    logs[measures.log_start(child.segment) + *waiting as usize] = child.offset as u32;
+                    *waiting += 1;
+                }
+            }
+        }
+        after.passed[j as usize] += 1;
+    }
+    Ok((after, None))
+}
+
+// Where a child falls.
+pub struct Child {
+    pub segment: u64,
+    pub offset: u64,
+}
+
+// The children of the stack at an index, by rising turn.
+pub fn children(job: &Job, parent: u64) -> Vec<Child> {
+    let stack = stack_at(job.kind, job.n, parent as u32);
+    turns(job.kind, job.n)
+        .map(|k| {
+            let child = u64::from(index(job.kind, job.n, &turned(job.kind, &stack, k)));
+            Child { segment: child / u64::from(job.size), offset: child % u64::from(job.size) }
+        })
+        .collect()
+}
+
+fn try_settle(job: &Job, j: u32, segment: &mut [u8], logs: &[u32]) -> Result<Job, u8> {
+    let measures = coherent(job)?;
+    let d = level_of(job)?;
+    let here = u64::from(j);
+    refuse(9, here >= measures.segments)?;
+    refuse(10, segment.len() != measures.bytes_of(here))?;
+    refuse(10, logs.len() != measures.log_numbers())?;
+    let waiting = &logs[measures.log_start(here)..][..job.waiting[j as usize] as usize];
+    refuse(12, waiting.iter().any(|&offset| u64::from(offset) >= measures.stacks_of(here)))?;
+
+    let mut after = *job;
+    for &offset in waiting {
+        mark(segment, u64::from(offset), d, &mut after.counts);
+    }
+    after.waiting[j as usize] = 0;
+    Ok(after)
+}
+
+// Start and length of the waiting part.
+fn try_look(job: &Job, j: u32, logs: &[u32]) -> Result<(usize, usize), u8> {
+    let measures = coherent(job)?;
+    refuse(9, u64::from(j) >= measures.segments)?;
+    refuse(10, logs.len() != measures.log_numbers())?;
+    Ok((measures.log_start(u64::from(j)), job.waiting[j as usize] as usize))
+}
+
+fn try_close(job: &Job) -> Result<Job, u8> {
+    let measures = coherent(job)?;
+    refuse(8, matches!(job.phase, Phase::Finished(_)))?;
+    for j in 0..measures.segments {
+        let all_passed = u64::from(job.passed[j as usize]) == measures.stacks_of(j);
+        refuse(13, !all_passed || job.waiting[j as usize] != 0)?;
+    }
+    refuse(14, job.phase == Phase::Level(LAST_LEVEL) && job.counts[LAST_LEVEL as usize] != 0)?;
+
+    let mut after = *job;
+    after.passed = [0; 64];
+    after.phase = match job.phase {
+        Phase::Level(d) if job.counts[d as usize] == 0 => Phase::Finished(d - 1),
+        Phase::Level(d) => Phase::Level(d + 1),
+        _ => {
+            after.counts[0] = 1;
+            Phase::Level(1)
+        }
+    };
+    Ok(after)
+}
+
+fn try_read_entry(kind: u8, n: u8, table: &[u8], index: u32) -> Result<u8, u8> {
+    right_kind_and_n(kind, n)?;
+    let stacks = count_of_stacks(kind, n);
+    refuse(10, table.len() != bytes_of(stacks))?;
+    refuse(4, u64::from(index) >= stacks)?;
+    Ok(entry_at(table, u64::from(index)))
+}
+
+fn try_plan(kind: u8, n: u8, wanted: &Stack, given: &Stack, table: &[u8], list: &mut [u8]) -> Result<u32, u8> {
+    right_kind_and_n(kind, n)?;
+    refuse(3, !is_stack(kind, n, wanted))?;
+    refuse(3, !is_stack(kind, n, given))?;
+    refuse(10, table.len() != bytes_of(count_of_stacks(kind, n)) || list.len() < MOST_TURNS)?;
+    let entry_of = |stack: &Stack| entry_at(table, u64::from(index(kind, n, stack)));
+    refuse(15, entry_of(given) == UNSEEN)?;
+    refuse(15, entry_of(wanted) != 0)?;
+
+    let mut at = *given;
+    let mut plan = Vec::new();
+    while at != *wanted {
+        refuse(15, plan.len() == MOST_TURNS)?;
+        let nearer = (entry_of(&at) + 2) % 3;
+        let k = turns(kind, n).find(|&k| entry_of(&turned(kind, &at, k)) == nearer).ok_or(15)?;
+        plan.push(k);
+        at = turned(kind, &at, k);
+    }
+    list[..plan.len()].copy_from_slice(&plan);
+    Ok(plan.len() as u32)
+}
+
+// The paper as a system.
+pub struct Paper;
+
+fn answer(outcome: Result<Job, u8>, job: &Job) -> Answer {
+    match outcome {
+        Ok(job) => Answer { refusal: 0, job },
+        Err(refusal) => Answer { refusal, job: *job },
+    }
+}
+
+fn stacked(outcome: Result<Stack, u8>) -> Stacked {
+    match outcome {
+        Ok(stack) => Stacked { refusal: 0, stack },
+        Err(refusal) => Stacked { refusal, stack: NO_STACK },
+    }
+}
+
+impl System for Paper {
+    fn index_of_stack(&self, kind: u8, n: u8, stack: Stack) -> Indexed {
+        match try_index(kind, n, &stack) {
+            Ok(index) => Indexed { refusal: 0, index },
+            Err(refusal) => Indexed { refusal, index: 0 },
+        }
+    }
+
+    fn stack_at_index(&self, kind: u8, n: u8, index: u32) -> Stacked {
+        stacked(try_stack(kind, n, index))
+    }
+
+    fn turn(&self, kind: u8, n: u8, stack: Stack, k: u8) -> Stacked {
+        stacked(try_turn(kind, n, &stack, k))
+    }
+
+    fn begin(&self, kind: u8, n: u8, wanted: Stack, size: u32, room: u32) -> Answer {
+        answer(try_begin(kind, n, wanted, size, room), &NO_JOB)
+    }
+
+    fn blank(&self, job: &Job, j: u32, segment: &mut [u8]) -> Answer {
+        answer(try_blank(job, j, segment), job)
+    }
+
+    fn expand(&self, job: &Job, j: u32, segment: &mut [u8], logs: &mut [u32]) -> Expanded {
+        match try_expand(job, j, segment, logs) {
+            Ok((job, on)) => Expanded { refusal: 0, waits: on.is_some(), on: on.unwrap_or(0), job },
+            Err(refusal) => Expanded { refusal, waits: false, on: 0, job: *job },
+        }
+    }
+
+    fn settle(&self, job: &Job, j: u32, segment: &mut [u8], logs: &[u32]) -> Answer {
+        answer(try_settle(job, j, segment, logs), job)
+    }
+
+    fn look(&self, job: &Job, j: u32, logs: &[u32]) -> Looked {
+        match try_look(job, j, logs) {
+            Ok((start, len)) => Looked { start, len, number: 0 },
+            Err(number) => Looked { start: 0, len: 0, number },
+        }
+    }
+
+    fn close(&self, job: &Job) -> Answer {
+        answer(try_close(job), job)
+    }
+
+    fn read_entry(&self, kind: u8, n: u8, table: &[u8], index: u32) -> Entry {
+        match try_read_entry(kind, n, table, index) {
+            Ok(entry) => Entry { refusal: 0, entry },
+            Err(refusal) => Entry { refusal, entry: 0 },
+        }
+    }
+
+    fn plan(&self, kind: u8, n: u8, wanted: Stack, given: Stack, table: &[u8], list: &mut [u8]) -> Planned {
+        match try_plan(kind, n, &wanted, &given, table, list) {
+            Ok(turns) => Planned { refusal: 0, turns },
+            Err(refusal) => Planned { refusal, turns: 0 },
+        }
+    }
+}

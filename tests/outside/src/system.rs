@@ -1,0 +1,104 @@
+// The job and the answers as types, and the trait that each implementation of document 01's operations fills.
+
+// A stack travels as twelve signed places, top first, unused places zero.
+pub type Stack = [i8; 12];
+
+pub const NO_STACK: Stack = [0; 12];
+
+#[derive(Clone, Copy, PartialEq, Eq, Debug)]
+pub enum Phase {
+    Blanking,
+    Level(u8),
+    Finished(u8),
+}
+
+// A build: size is document 01's S, room its C.
+#[derive(Clone, Copy, PartialEq, Eq, Debug)]
+pub struct Job {
+    pub kind: u8,
+    pub n: u8,
+    pub wanted: Stack,
+    pub size: u32,
+    pub room: u32,
+    pub phase: Phase,
+    pub passed: [u32; 64],
+    pub waiting: [u32; 64],
+    pub counts: [u64; 32],
+}
+
+// What stands beside a refusal of Begin.
+pub const NO_JOB: Job = Job {
+    kind: 0,
+    n: 0,
+    wanted: NO_STACK,
+    size: 0,
+    room: 0,
+    phase: Phase::Blanking,
+    passed: [0; 64],
+    waiting: [0; 64],
+    counts: [0; 32],
+};
+
+// In each answer, refusal is the refusal's number, and 0 where the call did its work.
+// What stands beside a refusal: index 0, NO_STACK, the job as given (NO_JOB from Begin), false and 0, entry 0, no turns.
+#[derive(Clone, Copy, PartialEq, Eq, Debug)]
+pub struct Indexed {
+    pub refusal: u8,
+    pub index: u32,
+}
+
+#[derive(Clone, Copy, PartialEq, Eq, Debug)]
+pub struct Stacked {
+    pub refusal: u8,
+    pub stack: Stack,
+}
+
+#[derive(Clone, Copy, PartialEq, Eq, Debug)]
+pub struct Answer {
+    pub refusal: u8,
+    pub job: Job,
+}
+
+// Passed where waits is false (on is 0 then), else Waiting with segment on.
+#[derive(Clone, Copy, PartialEq, Eq, Debug)]
+pub struct Expanded {
+    pub refusal: u8,
+    pub waits: bool,
+    pub on: u32,
+    pub job: Job,
+}
+
+// The part of the log area handed back, as its start and length, and the lent number. Refused: start 0, length 0.
+#[derive(Clone, Copy, PartialEq, Eq, Debug)]
+pub struct Looked {
+    pub start: usize,
+    pub len: usize,
+    pub number: u8,
+}
+
+#[derive(Clone, Copy, PartialEq, Eq, Debug)]
+pub struct Entry {
+    pub refusal: u8,
+    pub entry: u8,
+}
+
+#[derive(Clone, Copy, PartialEq, Eq, Debug)]
+pub struct Planned {
+    pub refusal: u8,
+    pub turns: u32,
+}
+
+// Document 01's operations. Every argument may hold any value.
+pub trait System {
+    fn index_of_stack(&self, kind: u8, n: u8, stack: Stack) -> Indexed;
+    fn stack_at_index(&self, kind: u8, n: u8, index: u32) -> Stacked;
+    fn turn(&self, kind: u8, n: u8, stack: Stack, k: u8) -> Stacked;
+    fn begin(&self, kind: u8, n: u8, wanted: Stack, size: u32, room: u32) -> Answer;
+    fn blank(&self, job: &Job, j: u32, segment: &mut [u8]) -> Answer;
+    fn expand(&self, job: &Job, j: u32, segment: &mut [u8], logs: &mut [u32]) -> Expanded;
+    fn settle(&self, job: &Job, j: u32, segment: &mut [u8], logs: &[u32]) -> Answer;
+    fn look(&self, job: &Job, j: u32, logs: &[u32]) -> Looked;
+    fn close(&self, job: &Job) -> Answer;
+    fn read_entry(&self, kind: u8, n: u8, table: &[u8], index: u32) -> Entry;
+    fn plan(&self, kind: u8, n: u8, wanted: Stack, given: Stack, table: &[u8], list: &mut [u8]) -> Planned;
+}
