@@ -1,0 +1,6 @@
+-- Laws beside the proofs of the driver's functions.
+pub mod Choosing
+pub mod Parts
+pub mod Refusing
+pub mod Advances
+pub mod Building

@@ -1,0 +1,75 @@
+-- A segment's part of the whole table: where it lies, and what a call that is lent it leaves.
+use mathlib.Core.Path.{_≡_, sym, ap, _∙_}
+use mathlib.Core.Bool.{true}
+use mathlib.Core.List.{List, _++_}
+use Prim.Native.Nat.{ℕ, _+_, _-_, _*_, _/_, _≤_, _<_}
+use native.Mathlib.Nat.{mul-le-mul}
+use native.Mathlib.Omega.{arith}
+use borrow.Rule.Slice.PartMut.{midOf, putMid, post-is}
+use lib.ListN.{length, take, drop}
+use Rattle.search.specs.Entries.{bytesFor}
+use Rattle.search.specs.JobState.{stacksAll, segmentsOf, stacksOf, isCoherent}
+use Rattle.search.specs.declared.Answer.{Answer}
+use Rattle.search.specs.declared.Expanded.{Expanded}
+use Rattle.search.specs.declared.Job.{Job}
+use Rattle.search.specs.Expand.{expandOf}
+use Rattle.search.proofs.Coherence.{begin-given, coherent-facts}
+use Rattle.search.proofs.CutLaws.{segment-within, cut-at, joined-replaced}
+use Rattle.search.proofs.SegmentLaws.{SegmentSizeFacts, segment-size-facts}
+use Rattle.build.specs.Part.{partOf, withPart, expandedIn}
+
+pub sizes : (job : Job) → isCoherent job ≡ true → SegmentSizeFacts (stacksAll job) (job .size)
+unfolding stacksAll
+sizes job coherent =
+    segment-size-facts (stacksAll job) (job .size)
+    (begin-given (job .kind) (job .n) (job .wanted) (job .size) (job .room) (coherent-facts job coherent .begins) .segments)
+
+module _ (job : Job) (j : ℕ) (coherent : isCoherent job ≡ true) (inside : j < segmentsOf job) where
+  -- at most 64 segments of 2^24 bytes
+  pub start-small : j * (job .size / 4) ≤ 1073741824
+  unfolding segmentsOf
+  start-small =
+      let a : j ≤ 64 = omega (arith, sizes job coherent .few) in
+      let b : job .size / 4 ≤ 16777216 = omega (arith, sizes job coherent .most) in
+      omega (arith, mul-le-mul a b)
+
+  module _ (start end : ℕ) (table : List ℕ) (long : length table ≡ bytesFor (stacksAll job)) (starts : start ≡ j * (job .size / 4))
+      (ends : end ≡ j * (job .size / 4) + bytesFor (stacksOf job j)) where
+    some : 0 < job .size
+    some = omega (arith, sizes job coherent .least)
+
+    pub part-within : end ≤ length table
+    unfolding segmentsOf stacksOf
+    part-within = omega (arith, segment-within (stacksAll job) (job .size) some (sizes job coherent .four) j inside)
+
+    part-is : midOf start (end - start) table ≡ partOf job j table
+    unfolding partOf segmentsOf stacksOf
+    part-is =
+        ap (λ (k : ℕ). take k (drop start table)) (let e : end - start ≡ bytesFor (stacksOf job j) = omega arith in e)
+        ∙ ap (λ (a : ℕ). take (bytesFor (stacksOf job j)) (drop a table)) starts
+        ∙ sym (cut-at (stacksAll job) (job .size) some (sizes job coherent .four) table j inside)
+
+    put-is : (new : List ℕ) → putMid start (end - start) table new ≡ withPart job j table new
+    unfolding withPart segmentsOf stacksOf
+    put-is new =
+        ap (λ (l : List ℕ). take start table ++ (new ++ l)) (post-is start end table (omega arith))
+        ∙ ap (λ (a : ℕ). take a table ++ (new ++ drop end table)) starts
+        ∙ ap (λ (b : ℕ). take (j * (job .size / 4)) table ++ (new ++ drop b table)) ends
+        ∙ sym (joined-replaced (stacksAll job) (job .size) some (sizes job coherent .four) table long j new inside)
+
+    -- Blank or Settle on the part
+    pub answered-in : (call : List ℕ → List ℕ × Answer) (after : List ℕ) (answer : Answer)
+        → (after, answer) ≡ call (midOf start (end - start) table)
+        → _≡_ {A = List ℕ × Job} (putMid start (end - start) table after, answer .job) (withPart job j table (call (partOf job j table) .0), call (partOf job j table) .1 .job)
+    answered-in call after answer e =
+        ap (λ (o : List ℕ × Answer). (putMid start (end - start) table (o .0), o .1 .job)) (e ∙ ap call part-is)
+        ∙ ap (λ (l : List ℕ). (l, call (partOf job j table) .1 .job)) (put-is (call (partOf job j table) .0))
+
+    pub expanded-in : (log after log′ : List ℕ) (answer : Expanded) → (after, log′, answer) ≡ expandOf job j (midOf start (end - start) table) log
+        → (putMid start (end - start) table after, log′, answer .job) ≡ expandedIn job j table log
+    unfolding expandedIn
+    expanded-in log after log′ answer e =
+        let out = expandOf job j (partOf job j table) log in
+        ap (λ (o : List ℕ × List ℕ × Expanded). (putMid start (end - start) table (o .0), o .1, o .2 .job))
+        (e ∙ ap (λ (l : List ℕ). expandOf job j l log) part-is)
+        ∙ ap (λ (l : List ℕ). (l, out .1, out .2 .job)) (put-is (out .0))

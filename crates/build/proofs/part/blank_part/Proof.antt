@@ -1,0 +1,56 @@
+-- `build::part::blank_part` meets its contract: the part lies in the table, and what Blank leaves in it, it leaves in the table.
+use borrow.Author.Needs.{needs}
+use Rattle.search.specs.Blank.{blankOf}
+use Rattle.build.specs.Part.{blankedIn}
+use Rattle.build.proofs.Parts.{part-within, answered-in}
+use Rattle.build.proofs.part.blank_part.Statement.{statement}
+use Rattle.build.proofs.part.blank_part.Tie as tie
+
+part-start-requires : tie.Need-part-start-requires
+part-start-requires c κs = search needs
+
+part-end-requires : tie.Need-part-end-requires
+part-end-requires c κs = search needs
+
+sub-blank : tie.Need-sub-blank
+sub-blank c = search needs
+
+part-blank-start : tie.Need-part-blank-start
+part-blank-start c = search needs
+
+part-blank-end : tie.Need-part-blank-end
+part-blank-end c =
+    let s = c .before .before .before in
+    part-within (s .args .job) (s .args .j) (s .pre .0) (s .pre .1) (c .before .part-start .result) (c .part-end .result) (s .args .table .now) (s .pre .2)
+    (c .before .part-start .ensures)
+    (c .part-end .ensures)
+
+blank-requires : tie.Need-blank-requires
+blank-requires c κs = search needs
+
+same-length : tie.Need-same-length
+same-length c = search needs
+
+returns : tie.Need-returns
+unfolding blankedIn
+returns c =
+    let s = c .before .before .before .before .before .before .before .before in
+    let a = s .args in
+    let start = c .before .before .before .before .before .before .part-start in
+    let end = c .before .before .before .before .before .part-end in
+    let f = c .before .before .before .blank in
+    answered-in (a .job) (a .j) (s .pre .0) (s .pre .1) (start .result) (end .result) (a .table .now) (s .pre .2) (start .ensures) (end .ensures)
+    (blankOf (a .job) (a .j)) (f .last .1 .1 .0) (f .result) (f .ensures)
+
+pub blank-part-spec : {M : Type 1} → statement M
+blank-part-spec =
+    tie.close
+    (tie.spec
+    part-start-requires
+    part-end-requires
+    sub-blank
+    part-blank-start
+    part-blank-end
+    blank-requires
+    same-length
+    returns)

@@ -1,0 +1,2 @@
+-- What a call on one segment leaves in the whole table.
+pub mod Part

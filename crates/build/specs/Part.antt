@@ -1,0 +1,29 @@
+-- A call on segment j of a job, made in the whole table.
+use mathlib.Core.List.{List, []}
+use Prim.Native.Nat.{ℕ}
+use lib.ListN.{getD, set}
+use Rattle.search.specs.Blank.{blankOf}
+use Rattle.search.specs.Drive.{cut}
+use Rattle.search.specs.Expand.{expandOf}
+use Rattle.search.specs.JobState.{stacksAll}
+use Rattle.search.specs.Segments.{joined}
+use Rattle.search.specs.Settle.{settleOf}
+use Rattle.search.specs.declared.Job.{Job}
+
+module _ (job : Job) (j : ℕ) (table : List ℕ) where
+  -- segment j, and the table with another one
+  unfoldable pub partOf : List ℕ
+  partOf = getD (cut (stacksAll job) (job .size) table) j []
+
+  unfoldable pub withPart : List ℕ → List ℕ
+  withPart segment = joined (set (cut (stacksAll job) (job .size) table) j segment)
+
+  -- the table and the job after the call; after Expand, the log area too
+  unfoldable pub blankedIn : List ℕ × Job
+  blankedIn = let out = blankOf job j partOf in (withPart (out .0), out .1 .job)
+
+  unfoldable pub settledIn : List ℕ → List ℕ × Job
+  settledIn log = let out = settleOf job j partOf log in (withPart (out .0), out .1 .job)
+
+  unfoldable pub expandedIn : List ℕ → List ℕ × List ℕ × Job
+  expandedIn log = let out = expandOf job j partOf log in (withPart (out .0), out .1, out .2 .job)

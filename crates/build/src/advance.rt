@@ -1,0 +1,39 @@
+// The driver's step: the call that comes next.
+ghost use mathlib.Core.Bool.{true};
+ghost use mathlib.Core.Path.{_≡_};
+ghost use lib.ListN.{length};
+ghost use Rattle.search.specs.Drive.{advanced, held, laid};
+ghost use Rattle.search.specs.Entries.{bytesFor};
+ghost use Rattle.search.specs.JobState.{isCoherent, stacksAll};
+use crate::choose;
+use crate::part;
+use calls::close;
+use job::coherence;
+use job::phase;
+use search::Job;
+
+// In Blanking a segment is blanked; in a level a log is settled, or else a segment expanded; with nothing left the phase is closed.
+pub fn advance(job: Job, table: &mut [u8], log: &mut [u32]) -> Job
+    requires { ⌜ (isCoherent job ≡ true) × (length (now table) ≡ bytesFor (stacksAll job)) ⌝ }
+    ensures { λ r. ⌜ (now (table .exit), now (log .exit), r) ≡ laid (advanced (held job (now (table .entry)) (now (log .entry)))) ⌝ }
+{
+    let segments = coherence::segments_of(job);
+    let first = choose::first_open(job);
+    let phase = job.phase;
+    if phase::is_blanking(phase) {
+        if first < segments {
+            return part::blank_part(job, first, table);
+        }
+        let opened = close::close(job);
+        return opened.job;
+    }
+    let pending = choose::first_pending(job);
+    if pending < segments {
+        return part::settle_part(job, pending, table, log);
+    }
+    if first < segments {
+        return part::expand_part(job, first, table, log);
+    }
+    let closed = close::close(job);
+    closed.job
+}

@@ -1,0 +1,78 @@
+// Build the whole table.
+ghost use mathlib.Core.Path.{_≡_};
+ghost use Rattle.search.specs.Begin.{beginOf};
+ghost use Rattle.search.specs.Drive.{buildRefusal, buildOf};
+ghost use Rattle.search.specs.JobState.{isFinished};
+use crate::advance;
+use job::begin;
+use job::coherence;
+use job::phase;
+use perm::kind;
+use search::Answer;
+use search::Job;
+use twobit::segment;
+
+pub fn build_refusal(
+    kind: u8,
+    n: u8,
+    wanted: [i8; 12],
+    size: u32,
+    room: u32,
+    bytes: usize,
+    words: usize,
+) -> u8
+    ensures { λ r. ⌜ r ≡ buildRefusal kind n wanted size room bytes words ⌝ }
+{
+    let refusal = coherence::begin_refusal(kind, n, wanted, size, room);
+    if refusal != 0 {
+        return refusal;
+    }
+    let count = kind::stack_count(kind, n);
+    if bytes != segment::bytes_for(count) as usize {
+        return 10;
+    }
+    let segments = segment::segment_count(count, size);
+    if words != (segments as usize) * (room as usize) {
+        return 10;
+    }
+    0
+}
+
+// The job that Begin answers: a new one, or one of zeros where it refuses.
+fn begun_job(kind: u8, n: u8, wanted: [i8; 12], size: u32, room: u32) -> Job
+    ensures { λ r. ⌜ r ≡ (beginOf kind n wanted size room) .job ⌝ }
+{
+    let begun = begin::begin(kind, n, wanted, size, room);
+    begun.job
+}
+
+fn has_finished(job: Job) -> bool
+    ensures { λ r. ⌜ r ≡ isFinished (job .phase) ⌝ }
+{
+    let phase = job.phase;
+    phase::is_finished(phase)
+}
+
+// A build from Begin to its end, in a table and a log area of the right lengths. Refused, both are as they were, and the job is one of zeros.
+pub fn build_table(
+    kind: u8,
+    n: u8,
+    wanted: [i8; 12],
+    size: u32,
+    room: u32,
+    table: &mut [u8],
+    log: &mut [u32],
+) -> Answer
+    ensures { λ r. ⌜ (now (table .exit), now (log .exit), r) ≡ buildOf kind n wanted size room (now (table .entry)) (now (log .entry)) ⌝ }
+{
+    let refusal = build_refusal(kind, n, wanted, size, room, table.len(), log.len());
+    if refusal != 0 {
+        let none = begun_job(0, 0, [0i8; 12], 0, 0);
+        return Answer { refusal, job: none };
+    }
+    let mut job = begun_job(kind, n, wanted, size, room);
+    while !has_finished(job) {
+        job = advance::advance(job, table, log);
+    }
+    Answer { refusal: 0, job }
+}

@@ -1,0 +1,67 @@
+-- `bytewise::breadth::spread` is safe and ends: the turns left fall from n, and no length changes.
+use lib.ListN.{length}
+use mathlib.Core.Path.{_≡_}
+use borrow.Author.Needs.{needs}
+use Rattle.bytewise.proofs.breadth.spread.Statement.{statement}
+use Rattle.bytewise.proofs.breadth.spread.Tie as tie
+
+abbrev Inv-loop : tie.InvT-loop
+Inv-loop kind n bytes₀ i mark parent found₀ least k₀ bytes found k = length bytes ≡ length bytes₀
+
+abbrev μ-loop : tie.MeasureT-loop
+μ-loop kind n bytes₀ i mark parent found₀ least k₀ bytes found k = k
+
+unrank-requires : tie.Need-unrank-requires Inv-loop μ-loop
+unrank-requires c κs = search needs
+
+no-turn-requires : tie.Need-no-turn-requires Inv-loop μ-loop
+no-turn-requires c κs = search needs
+
+loop-holds : tie.Need-loop-holds Inv-loop μ-loop
+loop-holds c = search needs
+
+turned-requires : tie.Need-turned-requires Inv-loop μ-loop
+turned-requires c κs = search needs
+
+rank-requires : tie.Need-rank-requires Inv-loop μ-loop
+rank-requires c κs = search needs
+
+reach-requires : tie.Need-reach-requires Inv-loop μ-loop
+reach-requires c κs = search needs
+
+wrapping-add-u64-requires : tie.Need-wrapping-add-u64-requires Inv-loop μ-loop
+wrapping-add-u64-requires c κs = search needs
+
+sub-k : tie.Need-sub-k Inv-loop μ-loop
+sub-k c = search needs
+
+loop-less : tie.Need-loop-less Inv-loop μ-loop
+loop-less c = search needs
+
+loop-again : tie.Need-loop-again Inv-loop μ-loop
+loop-again c = search needs
+
+same-length : tie.Need-same-length Inv-loop μ-loop
+same-length c = search needs
+
+returns : tie.Need-returns Inv-loop μ-loop
+returns c = search needs
+
+pub spread-spec : {M : Type 1} → statement M
+spread-spec =
+    tie.close
+    (tie.spec
+    Inv-loop
+    μ-loop
+    unrank-requires
+    no-turn-requires
+    loop-holds
+    turned-requires
+    rank-requires
+    reach-requires
+    wrapping-add-u64-requires
+    sub-k
+    loop-less
+    loop-again
+    same-length
+    returns)

@@ -1,0 +1,7 @@
+-- Laws of hexadecimal text, lines and frames.
+pub mod HexLaws
+pub mod Writing
+pub mod LineLaws
+pub mod FrameLaws
+pub mod FrameRefusals
+pub mod Worked

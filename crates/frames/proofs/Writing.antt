@@ -1,0 +1,107 @@
+-- Writing digits into a buffer: what stands before them and after them stays.
+use mathlib.Core.Path.{_≡_, refl, sym, ap, ap₂, _∙_}
+use mathlib.Core.List.{List, [], _∷_, _++_, append-assoc, append-nil}
+use Prim.Native.Nat.{ℕ, suc, _+_, _-_, _*_, _/_, _%_, _≤_, _<_}
+use native.Mathlib.Numerals.{add-one}
+use native.Mathlib.Omega.{arith}
+use native.Mathlib.Nat.{add-zero}
+use lib.ListN.{length, getD, set, take, drop, length-append, take-append-drop}
+use lib.Seq.{take-suc, take-length, drop-cons, length-take-le, drop-drop, take-append-seam, drop-append-add, set-append-seam, append-snoc}
+use Rattle.frames.specs.Hex.{digitChar, hexOf}
+use Rattle.frames.specs.Report.{over, Wrote}
+
+pub hex-length : (bs : List ℕ) → length (hexOf bs) ≡ 2 * length bs
+unfolding hexOf
+hex-length [] = refl
+hex-length (b ∷ bs) = omega (arith, hex-length bs)
+
+pub hex-append : (xs ys : List ℕ) → hexOf (xs ++ ys) ≡ hexOf xs ++ hexOf ys
+unfolding hexOf
+hex-append [] ys = refl
+hex-append (x ∷ xs) ys = ap (λ (l : List ℕ). digitChar (x / 16) ∷ digitChar (x % 16) ∷ l) (hex-append xs ys)
+
+-- what the buffer holds when i of the bytes are written from place at on
+unfoldable pub putTo : List ℕ → ℕ → List ℕ → ℕ → List ℕ
+putTo out at bytes i = take at out ++ hexOf (take i bytes) ++ drop (at + 2 * i) out
+
+set-two : (p : List ℕ) (a b x y : ℕ) (rest : List ℕ) (k : ℕ) → length p ≡ k
+    → set (set (p ++ (a ∷ b ∷ rest)) k x) (k + 1) y ≡ p ++ (x ∷ y ∷ rest)
+set-two p a b x y rest k e = rw (add-one k, ← e) (go p)
+  where
+    go : (q : List ℕ) → set (set (q ++ (a ∷ b ∷ rest)) (length q) x) (suc (length q)) y ≡ q ++ (x ∷ y ∷ rest)
+    go [] = refl
+    go (z ∷ q) = ap (λ (l : List ℕ). z ∷ l) (go q)
+
+pub put-none : (out : List ℕ) (at : ℕ) (bytes : List ℕ) → out ≡ putTo out at bytes 0
+unfolding putTo hexOf
+put-none out at bytes = rw (append-nil (take at out), add-zero at) (sym (take-append-drop at out))
+
+module _ (out : List ℕ) (at : ℕ) (bytes : List ℕ) (i : ℕ) (h : i < length bytes) (l : at + 2 * i + 1 < length out) where
+  -- the digits before byte i, with what stands before them
+  abbrev head : List ℕ
+  head = take at out ++ hexOf (take i bytes)
+
+  head-length : length head ≡ at + 2 * i
+  head-length =
+      length-append (take at out) (hexOf (take i bytes))
+      ∙ omega (arith, length-take-le at out (omega arith), hex-length (take i bytes), length-take-le i bytes (omega arith))
+
+  -- two digits more
+  head-more : hexOf (take (i + 1) bytes) ≡ hexOf (take i bytes) ++ (digitChar (getD bytes i 0 / 16) ∷ digitChar (getD bytes i 0 % 16) ∷ [])
+  unfolding hexOf
+  head-more = rw (add-one i, take-suc bytes i 0 h) (hex-append (take i bytes) (getD bytes i 0 ∷ []))
+
+  pub put-more : (x y : ℕ) (now : List ℕ) → now ≡ putTo out at bytes i → x ≡ digitChar (getD bytes i 0 / 16) → y ≡ digitChar (getD bytes i 0 % 16)
+      → set (set now (at + 2 * i) x) (at + 2 * i + 1) y ≡ putTo out at bytes (i + 1)
+  unfolding putTo
+  put-more x y now e f g =
+      let k : ℕ = at + 2 * i in
+      let cut : drop k out ≡ getD out k 0 ∷ getD out (suc k) 0 ∷ drop (suc (suc k)) out =
+      drop-cons out k 0 (omega arith) ∙ ap (λ (r : List ℕ). getD out k 0 ∷ r) (drop-cons out (suc k) 0 (omega arith)) in
+      ap (λ (o : List ℕ). set (set o k x) (k + 1) y) (e ∙ ap (λ (r : List ℕ). head ++ r) cut)
+      ∙ set-two head (getD out k 0) (getD out (suc k) 0) x y (drop (suc (suc k)) out) k head-length
+      ∙ sym (append-assoc head (x ∷ y ∷ []) (drop (suc (suc k)) out))
+      ∙ ap (λ (r : List ℕ). r ++ drop (suc (suc k)) out) (append-assoc (take at out) (hexOf (take i bytes)) (x ∷ y ∷ []))
+      ∙ ap₂ (λ (r : List ℕ) (j : ℕ). take at out ++ r ++ drop j out)
+      (ap₂ (λ (a b : ℕ). hexOf (take i bytes) ++ (a ∷ b ∷ [])) f g ∙ sym head-more)
+      (let j : suc (suc (at + 2 * i)) ≡ at + 2 * (i + 1) = omega arith in j)
+
+-- all the bytes are written
+pub put-end : (out : List ℕ) (at : ℕ) (bytes : List ℕ) (i : ℕ) (now : List ℕ) → i ≡ length bytes → now ≡ putTo out at bytes i
+    → now ≡ take at out ++ hexOf bytes ++ drop (at + 2 * length bytes) out
+unfolding putTo
+put-end out at bytes i now h e = e ∙ rw (h, take-length bytes)
+
+-- ---- a line at the front of a buffer
+
+-- bytes more after a text
+pub over-put : (text out bytes before now : List ℕ) (at : ℕ) → at ≡ length text → before ≡ over text out
+    → now ≡ take at before ++ hexOf bytes ++ drop (at + 2 * length bytes) before → now ≡ over (text ++ hexOf bytes) out
+unfolding over
+over-put text out bytes before now at e f g =
+    g
+    ∙ rw (
+      f,
+      e,
+      take-append-seam text (drop (length text) out),
+      drop-append-add text (drop (length text) out) (2 * length bytes),
+      drop-drop (2 * length bytes) (length text) out,
+      length-append text (hexOf bytes),
+      hex-length bytes,
+    )
+
+wrote : (text before after : List ℕ) (r : ℕ) → after ≡ over text before → r ≡ length text → Wrote text before after r
+unfolding over
+wrote text before after r e f =
+    let within : r ≤ length after = omega (arith, ap length e, length-append text (drop (length text) before)) in
+    record { front = e; count = f; within = within; part = sym (length-take-le r after within) }
+
+-- the line's end
+pub over-end : (text out before : List ℕ) (at : ℕ) → at ≡ length text → length text < length out → before ≡ over text out
+    → Wrote (text ++ (10 ∷ [])) out (set before at 10) (at + 1)
+unfolding over
+over-end text out before at e h f =
+    wrote (text ++ (10 ∷ [])) out (set before at 10) (at + 1)
+    (rw (f, e, drop-cons out (length text) 0 h, length-append text (10 ∷ []), add-one (length text))
+    (set-append-seam text (getD out (length text) 0) (drop (suc (length text)) out) 10 ∙ sym (append-snoc text 10 (drop (suc (length text)) out))))
+    (ap (λ (k : ℕ). k + 1) e ∙ sym (length-append text (10 ∷ [])))

@@ -1,0 +1,1 @@
+-- The program's loops, and what it lends.

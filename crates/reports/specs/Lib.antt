@@ -1,0 +1,2 @@
+-- What a report says.
+pub mod Text

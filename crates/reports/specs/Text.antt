@@ -1,0 +1,50 @@
+-- What a report says (document 01, "The report").
+--   isReported kind n               the kinds and sizes that a report is made of
+--   tableBytes, logWords            how much of its table and log area the build of a first frame is lent
+--   laterText kind n wanted table cs  what a later frame of characters cs is answered
+--   Answers                         what we promise of it
+use mathlib.Core.Path.{_≡_}
+use mathlib.Core.Bool.{Bool, _&&_, cond}
+use mathlib.Core.List.{List}
+use Prim.Native.Nat.{ℕ, _*_}
+use lib.Dec.{leb, ltb, eqb}
+use lib.IntN.{ℤ}
+use lib.ListN.{length, take, replicate}
+use Rattle.stacks.specs.Stack.{isSize, stackCount}
+use Rattle.stacks.specs.Turn.{Road, Fewest}
+use Rattle.search.specs.Entries.{bytesFor}
+use Rattle.search.specs.Plan.{planOf, planLimit}
+use Rattle.search.specs.Segments.{segmentCount}
+use Rattle.frames.specs.Frame.{stackLimit, reportRoom, placesOf, laterOf}
+use Rattle.frames.specs.Hex.{bytesOf}
+use Rattle.frames.specs.Report.{planLine, refusalLine}
+
+unfoldable pub isReported : ℕ → ℕ → Bool
+isReported kind n = isSize kind n && leb (stackCount kind n) stackLimit
+
+unfoldable pub tableBytes : ℕ → ℕ → ℕ
+tableBytes kind n = cond (isReported kind n) (bytesFor (stackCount kind n)) 0
+
+unfoldable pub logWords : ℕ → ℕ → ℕ → ℕ
+logWords kind n S =
+    let segments = segmentCount (stackCount kind n) S in
+    cond (isReported kind n && ltb 0 S && leb segments 64) (segments * reportRoom) 0
+
+-- the plan of a stack, or Plan's refusal
+unfoldable pub planText : ℕ → ℕ → List ℤ → List ℕ → List ℤ → List ℕ
+planText kind n wanted table given =
+    let out = planOf kind n wanted given table (replicate planLimit 0) in
+    cond (eqb (out .1 .refusal) 0) (planLine (take (out .1 .turns) (out .0))) (refusalLine (out .1 .refusal))
+
+-- the frame's refusal, or the plan of its stack
+unfoldable pub laterText : ℕ → ℕ → List ℤ → List ℕ → List ℕ → List ℕ
+laterText kind n wanted table cs =
+    let frame = laterOf kind n cs in
+    cond (eqb (frame .refusal) 0) (planText kind n wanted table (frame .stack)) (refusalLine (frame .refusal))
+
+-- the answer to a later frame is the line of a road to the wanted stack, and no road has fewer turns
+pub record Answers (kind n : ℕ) (wanted : List ℤ) (table cs : List ℕ) : Type 0 where
+  pub turns : List ℕ
+  pub text : laterText kind n wanted table cs ≡ planLine turns
+  pub arrives : Road kind n turns (placesOf (bytesOf cs)) wanted
+  pub shortest : Fewest kind n (placesOf (bytesOf cs)) wanted (length turns)

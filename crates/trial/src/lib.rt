@@ -1,0 +1,5 @@
+// Code of the executed checks: builds run call by call with the segments in a chosen order, and printing.
+pub mod build;
+pub mod part;
+pub mod print;
+pub mod step;
