@@ -1,5 +1,5 @@
 -- Laws of `tally`, the count of the elements that pass a test, of `all`, and of a list with one element taken out.
-use mathlib.Core.Path.{_≡_, refl, sym, ap}
+use mathlib.Core.Path.{_≡_, refl, sym, ap, _∙_, subst}
 use mathlib.Core.Bool.{Bool, true, false, _&&_, cond, and-true, and-assoc, and-comm}
 use mathlib.Core.List.{List, [], _∷_, _++_, map, reverse, reverse-cons}
 use Prim.Native.Nat.{ℕ, zero, suc, _+_, _≤_, _<_}
@@ -8,7 +8,8 @@ use native.Mathlib.Numerals.{one-add}
 use native.Mathlib.Omega.{arith}
 use lib.ListN.{length, getD, take, replicate}
 use Rattle.base.proofs.Tests.{and-left, and-right, and-both}
-use Rattle.base.specs.Words.{all, tally, without}
+use Rattle.base.proofs.Lists.{from-length, getD-from}
+use Rattle.base.specs.Words.{all, tally, from, without}
 
 module _ {A : Type 0} (p : A → Bool) where
   pub tally-append : (xs ys : List A) → tally p (xs ++ ys) ≡ tally p xs + tally p ys
@@ -105,3 +106,27 @@ unfolding without
 length-without [] i h = absurd (not-suc-le-zero h)
 length-without (x ∷ xs) zero h = refl
 length-without (x ∷ xs) (suc i) h = ap suc (length-without xs i (le-of-suc-le-suc h))
+
+-- ---- a test of each element
+
+module _ {A : Type 0} (p : A → Bool) where
+  pub all-at : (xs : List A) (i : ℕ) (a : A) → all p xs ≡ true → i < length xs → p (getD xs i a) ≡ true
+  unfolding all
+  all-at [] i a h l = absurd (not-suc-le-zero l)
+  all-at (x ∷ xs) zero a h l = and-left (p x) (all p xs) h
+  all-at (x ∷ xs) (suc i) a h l = all-at xs i a (and-right (p x) (all p xs) h) (le-of-suc-le-suc l)
+
+  pub at-all : (xs : List A) (a : A) → ((i : ℕ) → i < length xs → p (getD xs i a) ≡ true) → all p xs ≡ true
+  unfolding all
+  at-all [] a h = refl
+  at-all (x ∷ xs) a h = and-both (p x) (all p xs) (h 0 (omega arith)) (at-all xs a (λ i l. h (suc i) (omega arith)))
+
+pub all-below : (p : ℕ → Bool) (n i : ℕ) → all p (from 0 n) ≡ true → i < n → p i ≡ true
+all-below p n i h l =
+    subst (λ (x : ℕ). p x ≡ true) (getD-from 0 n i 0 l ∙ zero-add i) (all-at p (from 0 n) i 0 h (rw from-length l))
+
+pub below-all : (p : ℕ → Bool) (n : ℕ) → ((i : ℕ) → i < n → p i ≡ true) → all p (from 0 n) ≡ true
+below-all p n h = at-all p (from 0 n) 0 (λ i l. go i (rw from-length at l))
+  where
+    go : (i : ℕ) → i < n → p (getD (from 0 n) i 0) ≡ true
+    go i l = subst (λ (x : ℕ). p x ≡ true) (sym (getD-from 0 n i 0 l ∙ zero-add i)) (h i l)

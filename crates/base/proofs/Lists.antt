@@ -1,13 +1,12 @@
--- Laws on lists: reversal, mapping, cutting, and the list of numbers from a on.
+-- Laws on lists: reversal, mapping, cutting, the list of numbers from a on, and a list of one element, many times.
 use mathlib.Core.Path.{_≡_, refl, sym, ap, _∙_}
-use mathlib.Core.List.{List, [], _∷_, _++_, map, reverse, reverseAux, append-nil, append-assoc, reverse-cons, reverse-append}
-use Prim.Native.Nat.{ℕ, zero, suc, pred, _+_, _-_, _<_, _≤_}
-use native.Mathlib.Nat.{add-suc, add-zero, zero-add, le-of-suc-le-suc, not-suc-le-zero}
-use native.Mathlib.Numerals.{add-one}
+use mathlib.Core.List.{List, [], _∷_, _++_, map, reverse, reverse-cons}
+use Prim.Native.Nat.{ℕ, zero, suc, _+_, _-_, _<_, _≤_}
+use native.Mathlib.Nat.{add-zero, le-of-suc-le-suc, not-suc-le-zero}
 use native.Mathlib.Omega.{arith}
-use lib.ListN.{length, getD, take, drop, length-append, length-reverse, List·getD-append}
+use lib.ListN.{length, getD, take, drop, replicate, length-reverse, length-replicate, getD-replicate, replicate-append-replicate, List·getD-append, List·getD-eq-default}
 use mathlib.Core.Logic.{_⊎_, inl, inr}
-use lib.Seq.{getD-at}
+use lib.Seq.{getD-at, take-at}
 use Rattle.base.proofs.Tests.{lt-or-ge}
 use Rattle.base.specs.Words.{from}
 
@@ -70,3 +69,23 @@ unfolding from
 getD-from a zero i d h = absurd (not-suc-le-zero h)
 getD-from a (suc n) zero d h = sym (add-zero a)
 getD-from a (suc n) (suc i) d h = getD-from (suc a) n i d (le-of-suc-le-suc h) ∙ omega arith
+
+pub getD-map : {A B : Type 0} (f : A → B) (xs : List A) (i : ℕ) (a : A) (b : B) → i < length xs → getD (map f xs) i b ≡ f (getD xs i a)
+getD-map f [] i a b h = absurd (not-suc-le-zero h)
+getD-map f (x ∷ xs) zero a b h = refl
+getD-map f (x ∷ xs) (suc i) a b h = getD-map f xs i a b (le-of-suc-le-suc h)
+
+-- ---- a list of one element, many times
+
+pub replicate-zero : (n i : ℕ) → getD {A = ℕ} (replicate n 0) i 0 ≡ 0
+replicate-zero n i = go (lt-or-ge i n)
+  where
+    go : (i < n) ⊎ (n ≤ i) → getD {A = ℕ} (replicate n 0) i 0 ≡ 0
+    go (inl h) = getD-replicate n i 0 0 h
+    go (inr h) = List·getD-eq-default (replicate n 0) 0 (rw length-replicate h)
+
+pub take-replicate : {A : Type 0} (w n : ℕ) (a : A) → w ≤ n → take w (replicate n a) ≡ replicate w a
+take-replicate w n a h =
+    ap (λ (k : ℕ). take w (replicate k a)) (let e : n ≡ w + (n - w) = omega arith in e)
+    ∙ ap (take w) (sym (replicate-append-replicate w (n - w) a))
+    ∙ take-at (replicate w a) (replicate (n - w) a) w (length-replicate w a)

@@ -1,5 +1,5 @@
 -- Laws on numbers: factorials, and a number written as a quotient and a remainder.
-use mathlib.Core.Path.{_≡_, refl, sym, ap, _∙_}
+use mathlib.Core.Path.{_≡_, refl}
 use Prim.Native.Nat.{ℕ, zero, suc, _+_, _*_, _<_, _≤_}
 use native.Mathlib.Nat.{mul-pos, zero-lt-suc, suc-mul, mul-le-mul-right, le-refl, le-trans}
 use native.Mathlib.Decide.{le-ind}

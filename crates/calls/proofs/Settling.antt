@@ -10,7 +10,7 @@ use borrow.Author.Tests.{ltb-true}
 use lib.Dec.{ltb, eqb}
 use lib.ListN.{length, getD, set, drop, drop-of-length-le}
 use lib.Seq.{drop-cons}
-use Rattle.base.specs.Words.{all}
+use Rattle.base.proofs.Counting.{all-at}
 use Rattle.search.specs.Entries.{entryAt, setEntry, unseen, nextEntry}
 use Rattle.search.specs.Expand.{Marks, markOne}
 use Rattle.search.specs.JobState.{countLimit, levelOf, stacksOf, waitingOf, countOf, progressed}
@@ -18,7 +18,7 @@ use Rattle.search.specs.Settle.{pending, settleRefusal, markAll, settleOf}
 use Rattle.search.specs.declared.Answer.{Answer}
 use Rattle.search.specs.declared.Job.{Job}
 use Rattle.search.proofs.Accepted.{LevelFacts, settle-facts, settle-accepted}
-use Rattle.search.proofs.Coherence.{all-at, coherent-facts}
+use Rattle.search.proofs.Coherence.{coherent-facts}
 use Rattle.search.proofs.EntryLaws.{byte-inside, next-level}
 use Rattle.search.proofs.SegmentLaws.{log-length}
 use Rattle.twobit.specs.Mark.{Marked}

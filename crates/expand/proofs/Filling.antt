@@ -7,14 +7,13 @@ use native.Mathlib.Numerals.{add-one}
 use native.Mathlib.Omega.{arith}
 use lib.ListN.{length, getD, set, take, replicate}
 use lib.Seq.{take-suc, take-all, set-at, append-snoc, length-take-le}
-use Rattle.base.proofs.Lists.{getD-from}
+use Rattle.base.proofs.Lists.{getD-from, getD-map}
 use Rattle.stacks.specs.Index.{rankOf, stackAt}
 use Rattle.stacks.specs.Stack.{isSize, isCoated}
 use Rattle.stacks.specs.Turn.{firstTurn, lastTurn, turnsOf, turnOf}
 use Rattle.stacks.proofs.Sizes.{size-least, size-twelve}
 use Rattle.stacks.proofs.TurnLaws.{turns-length, turns-count}
 use Rattle.search.specs.Expand.{childrenOf}
-use Rattle.search.proofs.AllStacks.{getD-map}
 use Rattle.search.proofs.Children.{children-length}
 
 -- zeros after the first i children

@@ -1,5 +1,5 @@
 -- Rows of a frame's refusals as code goes through them, over the bytes of the line's characters; and what holds where nothing is refused.
-use mathlib.Core.Path.{_≡_, refl, sym, ap, ap₂, _∙_}
+use mathlib.Core.Path.{_≡_, sym, ap, ap₂, _∙_}
 use mathlib.Core.Bool.{Bool, true, false}
 use mathlib.Core.List.{List, [], _∷_, map}
 use Prim.Native.Nat.{ℕ, zero, suc, _+_, _-_, _/_, _≤_, _<_}
@@ -11,6 +11,7 @@ use lib.ListN.{length, getD, take, drop, replicate, length-append, length-map, l
 use lib.Seq.{take-nil, take-take, length-take-le, getD-take}
 use borrow.Author.Tests.{le-leb, lt-leb, leb-true, eq-eqb, ne-eqb, eqb-true}
 use Rattle.base.specs.Words.{unless}
+use Rattle.base.proofs.Tests.{unless-zero}
 use Rattle.stacks.specs.Operations.{sizeRefusal, stacked}
 use Rattle.stacks.specs.Stack.{isSize, isStack, stackCount}
 use Rattle.stacks.proofs.Panes.{stack-facts}
@@ -25,10 +26,6 @@ use Rattle.frames.specs.declared.Line.{Line}
 use Rattle.frames.proofs.FrameLaws.{frame-count, frame-bytes}
 use Rattle.frames.proofs.HexLaws.{chars-bytes}
 use Rattle.frames.proofs.LineLaws.{kept-says}
-
-unless-passes : (t : Bool) (r rest : ℕ) → unless t (suc r) rest ≡ 0 → (t ≡ true) × (rest ≡ 0)
-unless-passes true r rest h = (refl, h)
-unless-passes false r rest h = absurd (omega arith)
 
 drop-take : (i k : ℕ) (xs : List ℕ) → drop i (take (i + k) xs) ≡ take k (drop i xs)
 drop-take zero k xs = rw (zero-add k)
@@ -114,10 +111,10 @@ first-passes cs h =
     let bs = bytesOf cs in
     let kind = kindIn bs in
     let n = panesIn bs in
-    let a = unless-passes (isFrame cs) 15 (bytesRefusal bs) h in
-    let b = unless-passes (leb 2 (length bs)) 15 (sizeRefusal kind n (fieldsRefusal kind n bs)) (a .1) in
+    let a = unless-zero (isFrame cs) 15 (bytesRefusal bs) h in
+    let b = unless-zero (leb 2 (length bs)) 15 (sizeRefusal kind n (fieldsRefusal kind n bs)) (a .1) in
     let c = size-passes kind n (fieldsRefusal kind n bs) (b .1) in
-    let d = unless-passes (eqb (length bs) (n + 6)) 15
+    let d = unless-zero (eqb (length bs) (n + 6)) 15
     (unless (leb (stackCount kind n) stackLimit) 16
     (unless (isStack kind n (wantedIn n bs)) 3 (unless (isSegmentSize (stackCount kind n) (sizeIn n bs)) 5 0))) (c .1) in
     record { frame = a .0; two = leb-true 2 (length bs) (b .0); size = c .0; long = eqb-true (length bs) (n + 6) (d .0) }
@@ -213,9 +210,9 @@ pub later-passes : (kind n : ℕ) (cs : List ℕ) → laterRefusal kind n cs ≡
 unfolding laterRefusal
 later-passes kind n cs h =
     let bs = bytesOf cs in
-    let a = unless-passes (isFrame cs) 15 (unless (eqb (length bs) n) 16 (unless (isStack kind n (placesOf bs)) 3 0)) h in
-    let b = unless-passes (eqb (length bs) n) 15 (unless (isStack kind n (placesOf bs)) 3 0) (a .1) in
-    let c = unless-passes (isStack kind n (placesOf bs)) 2 0 (b .1) in
+    let a = unless-zero (isFrame cs) 15 (unless (eqb (length bs) n) 16 (unless (isStack kind n (placesOf bs)) 3 0)) h in
+    let b = unless-zero (eqb (length bs) n) 15 (unless (isStack kind n (placesOf bs)) 3 0) (a .1) in
+    let c = unless-zero (isStack kind n (placesOf bs)) 2 0 (b .1) in
     let long = eqb-true (length bs) n (b .0) in
     (a .0, long, omega (arith, places-length bs, stack-facts kind n (placesOf bs) (c .0) .twelve))
 

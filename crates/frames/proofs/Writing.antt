@@ -1,14 +1,15 @@
 -- Writing digits into a buffer: what stands before them and after them stays.
 use mathlib.Core.Path.{_≡_, refl, sym, ap, ap₂, _∙_}
+use mathlib.Core.Logic.{_⊎_, inl, inr}
 use mathlib.Core.List.{List, [], _∷_, _++_, append-assoc, append-nil}
 use Prim.Native.Nat.{ℕ, suc, _+_, _-_, _*_, _/_, _%_, _≤_, _<_}
 use native.Mathlib.Numerals.{add-one}
 use native.Mathlib.Omega.{arith}
-use native.Mathlib.Nat.{add-zero}
-use lib.ListN.{length, getD, set, take, drop, length-append, take-append-drop}
-use lib.Seq.{take-suc, take-length, drop-cons, length-take-le, drop-drop, take-append-seam, drop-append-add, set-append-seam, append-snoc}
-use Rattle.frames.specs.Hex.{digitChar, hexOf}
-use Rattle.frames.specs.Report.{over, Wrote}
+use native.Mathlib.Nat.{add-zero, zero-add}
+use lib.ListN.{length, getD, set, take, drop, length-append, length-take, take-append-drop}
+use lib.Seq.{take-suc, take-all, take-length, drop-cons, length-take-le, drop-drop, take-append-seam, drop-append-add, set-append-seam, append-snoc}
+use Rattle.frames.specs.Hex.{digitChar, hexOf, lineOf, fourBytes}
+use Rattle.frames.specs.Report.{levelLine, levelsFrom, levelLines, over, Put, Wrote}
 
 pub hex-length : (bs : List ℕ) → length (hexOf bs) ≡ 2 * length bs
 unfolding hexOf
@@ -74,23 +75,29 @@ put-end out at bytes i now h e = e ∙ rw (h, take-length bytes)
 
 -- ---- a line at the front of a buffer
 
--- bytes more after a text
-pub over-put : (text out bytes before now : List ℕ) (at : ℕ) → at ≡ length text → before ≡ over text out
-    → now ≡ take at before ++ hexOf bytes ++ drop (at + 2 * length bytes) before → now ≡ over (text ++ hexOf bytes) out
+-- a piece more after a text
+pub over-more : (text piece out before now : List ℕ) (at : ℕ) → at ≡ length text → before ≡ over text out
+    → now ≡ take at before ++ piece ++ drop (at + length piece) before → now ≡ over (text ++ piece) out
 unfolding over
-over-put text out bytes before now at e f g =
+over-more text piece out before now at e f g =
     g
     ∙ rw (
       f,
       e,
       take-append-seam text (drop (length text) out),
-      drop-append-add text (drop (length text) out) (2 * length bytes),
-      drop-drop (2 * length bytes) (length text) out,
-      length-append text (hexOf bytes),
-      hex-length bytes,
+      drop-append-add text (drop (length text) out) (length piece),
+      drop-drop (length piece) (length text) out,
+      length-append text piece,
     )
 
-wrote : (text before after : List ℕ) (r : ℕ) → after ≡ over text before → r ≡ length text → Wrote text before after r
+-- bytes more after a text
+pub over-put : (text out bytes before now : List ℕ) (at : ℕ) → at ≡ length text → before ≡ over text out
+    → now ≡ take at before ++ hexOf bytes ++ drop (at + 2 * length bytes) before → now ≡ over (text ++ hexOf bytes) out
+over-put text out bytes before now at e f g =
+    over-more text (hexOf bytes) out before now at e f
+    (g ∙ ap (λ (k : ℕ). take at before ++ hexOf bytes ++ drop (at + k) before) (sym (hex-length bytes)))
+
+pub wrote : (text before after : List ℕ) (r : ℕ) → after ≡ over text before → r ≡ length text → Wrote text before after r
 unfolding over
 wrote text before after r e f =
     let within : r ≤ length after = omega (arith, ap length e, length-append text (drop (length text) before)) in
@@ -105,3 +112,74 @@ over-end text out before at e h f =
     (rw (f, e, drop-cons out (length text) 0 h, length-append text (10 ∷ []), add-one (length text))
     (set-append-seam text (getD out (length text) 0) (drop (suc (length text)) out) 10 ∙ sym (append-snoc text 10 (drop (suc (length text)) out))))
     (ap (λ (k : ℕ). k + 1) e ∙ sym (length-append text (10 ∷ [])))
+
+-- ---- a line from some place on
+
+-- the digits of a line's bytes, and its end
+pub put-end-line : (bytes out before : List ℕ) (at r : ℕ) → at + 2 * length bytes < length out → r ≡ at + 2 * length bytes
+    → before ≡ take at out ++ hexOf bytes ++ drop (at + 2 * length bytes) out → Put (lineOf bytes) at out (set before r 10) (r + 1)
+unfolding lineOf
+put-end-line bytes out before at r h e f =
+    let head : List ℕ = take at out ++ hexOf bytes in
+    let long : length head ≡ r =
+    length-append (take at out) (hexOf bytes) ∙ omega (arith, length-take-le at out (omega arith), hex-length bytes) in
+    let size : length (hexOf bytes ++ (10 ∷ [])) ≡ suc (2 * length bytes) =
+    length-append (hexOf bytes) (10 ∷ []) ∙ omega (arith, hex-length bytes) in
+    let next : at + length (hexOf bytes ++ (10 ∷ [])) ≡ suc r = omega arith in
+    record {
+      front = ap (λ (l : List ℕ). set l r 10)
+          (f ∙ ap (λ (k : ℕ). head ++ drop k out) (sym e) ∙ ap (λ (l : List ℕ). head ++ l) (drop-cons out r 0 (omega arith)))
+          ∙ rw (← long) (set-append-seam head (getD out (length head) 0) (drop (suc (length head)) out) 10)
+          ∙ ap (λ (k : ℕ). head ++ (10 ∷ drop (suc k) out)) long
+          ∙ sym (append-snoc head 10 (drop (suc r) out))
+          ∙ ap₂ (λ (l : List ℕ) (k : ℕ). l ++ drop k out) (append-assoc (take at out) (hexOf bytes) (10 ∷ [])) (sym next);
+      end = omega arith;
+    }
+
+-- a text put after a text is one text
+pub put-after : (text piece out before now : List ℕ) (at r : ℕ) → at ≡ length text → before ≡ over text out → Put piece at before now r
+    → Wrote (text ++ piece) out now r
+put-after text piece out before now at r e f p =
+    wrote (text ++ piece) out now r (over-more text piece out before now at e f (p .front))
+    (p .end ∙ ap (λ (k : ℕ). k + length piece) e ∙ sym (length-append text piece))
+
+-- ---- the levels, one after the other
+
+pub levels-append : (d : ℕ) (xs ys : List ℕ) → levelsFrom d (xs ++ ys) ≡ levelsFrom d xs ++ levelsFrom (d + length xs) ys
+unfolding levelsFrom
+levels-append d [] ys = ap (λ (k : ℕ). levelsFrom k ys) (sym (add-zero d))
+levels-append d (x ∷ xs) ys =
+    ap (λ (l : List ℕ). levelLine d x ++ l)
+    (levels-append (suc d) xs ys ∙ ap (λ (k : ℕ). levelsFrom (suc d) xs ++ levelsFrom k ys) (let e : suc d + length xs ≡ d + suc (length xs) = omega arith in e))
+    ∙ sym (append-assoc (levelLine d x) (levelsFrom (suc d) xs) (levelsFrom (d + suc (length xs)) ys))
+
+-- one level more
+pub levels-more : (counts : List ℕ) (d : ℕ) → d < length counts
+    → levelsFrom 0 (take (suc d) counts) ≡ levelsFrom 0 (take d counts) ++ levelLine d (getD counts d 0)
+unfolding levelsFrom
+levels-more counts d h =
+    ap (levelsFrom 0) (take-suc counts d 0 h)
+    ∙ levels-append 0 (take d counts) (getD counts d 0 ∷ [])
+    ∙ ap (λ (l : List ℕ). levelsFrom 0 (take d counts) ++ l) (append-nil (levelLine (0 + length (take d counts)) (getD counts d 0)))
+    ∙ ap (λ (k : ℕ). levelsFrom 0 (take d counts) ++ levelLine k (getD counts d 0))
+    (zero-add (length (take d counts)) ∙ length-take-le d counts (omega arith))
+
+-- a level's line has eleven characters
+pub levels-length : (d : ℕ) (counts : List ℕ) → length (levelsFrom d counts) ≡ 11 * length counts
+unfolding levelsFrom levelLine lineOf hexOf fourBytes
+levels-length d [] = refl
+levels-length d (x ∷ xs) = omega (arith, levels-length (suc d) xs)
+
+-- with none left there are all levels to the deepest
+pub levels-all : (counts : List ℕ) (deepest level : ℕ) → level ≤ deepest + 1 → (deepest < level) ⊎ (length counts ≤ level)
+    → levelsFrom 0 (take level counts) ≡ levelLines deepest counts
+unfolding levelLines
+levels-all counts deepest level l (inl h) =
+    ap (λ (k : ℕ). levelsFrom 0 (take k counts)) (let e : level ≡ suc deepest = omega arith in e)
+levels-all counts deepest level l (inr h) =
+    ap (levelsFrom 0) (take-all level counts h ∙ sym (take-all (suc deepest) counts (omega arith)))
+
+-- 32 levels of eleven characters
+pub levels-most : (counts : List ℕ) (deepest : ℕ) → length counts ≡ 32 → length (levelLines deepest counts) ≤ 352
+unfolding levelLines
+levels-most counts deepest w = omega (arith, levels-length 0 (take (suc deepest) counts), length-take (suc deepest) counts)

@@ -2,7 +2,7 @@
 --   over text before   what a buffer holds after text is written at its front
 use mathlib.Core.Path.{_≡_}
 use mathlib.Core.List.{List, [], _∷_, _++_}
-use Prim.Native.Nat.{ℕ, suc, _≤_}
+use Prim.Native.Nat.{ℕ, suc, _+_, _≤_}
 use lib.ListN.{length, take, drop}
 use Rattle.frames.specs.Hex.{lineOf, fourBytes}
 
@@ -33,6 +33,11 @@ refusalLine r = lineOf (238 ∷ r ∷ [])
 
 unfoldable pub over : List ℕ → List ℕ → List ℕ
 over text before = text ++ drop (length text) before
+
+-- text stands from place at on in what was before, and r is the place after it
+pub record Put (text : List ℕ) (at : ℕ) (before after : List ℕ) (r : ℕ) : Type 0 where
+  pub front : after ≡ take at before ++ text ++ drop (at + length text) before
+  pub end : r ≡ at + length text
 
 -- text stands at the front of what was before, and r is how long it is. The last two follow from these; with them a caller's part
 -- of the first r bytes needs no proof

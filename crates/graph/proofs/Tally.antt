@@ -1,15 +1,17 @@
 -- Counting the numbers below N that pass a test: laws of `tally p (from 0 N)`.
 use mathlib.Core.Path.{_≡_, refl, sym, ap, _∙_}
 use mathlib.Core.Logic.{_⊎_, inl, inr}
-use mathlib.Core.Bool.{Bool, true, false, cond}
+use mathlib.Core.Bool.{Bool, true, false, not, _&&_, and-true, cond}
+use lib.Dec.{eqb}
+use borrow.Author.Tests.{eq-eqb, ne-eqb}
 use mathlib.Core.List.{List, _∷_, _++_}
 use Prim.Native.Nat.{ℕ, zero, suc, _+_, _<_, _≤_}
 use native.Mathlib.Nat.{zero-add, add-zero, add-suc, suc-add}
 use native.Mathlib.Numerals.{add-one}
 use native.Mathlib.Omega.{arith}
 use Rattle.base.specs.Words.{tally, from}
-use Rattle.base.proofs.Tests.{test-cases, not-is-false, eq-or-ne}
-use Rattle.base.proofs.Counting.{tally-append}
+use Rattle.base.proofs.Tests.{and-both, and-fails-right, never, test-cases, not-is-false, eq-or-ne}
+use Rattle.base.proofs.Counting.{tally-append, tally-mono}
 
 pub from-split : (a m n : ℕ) → from a (m + n) ≡ from a m ++ from (a + m) n
 unfolding from
@@ -102,3 +104,20 @@ tally-change p q (suc n) v h same = go (λ k. tally-change p q n v k (λ u l. sa
 pub tally-one-more : (p q : ℕ → Bool) (n v : ℕ) → v < n → p v ≡ false → q v ≡ true → ((u : ℕ) → u < n → (u ≡ v → ⊥) → q u ≡ p u)
     → tally q (from 0 n) ≡ suc (tally p (from 0 n))
 tally-one-more p q n v h e i same = omega (arith, tally-change p q n v h same, cond-is e, cond-is i)
+
+-- what fails where a test holds once more counts less
+pub tally-falls : (p q : ℕ → Bool) (n v : ℕ) → v < n → p v ≡ false → q v ≡ true → ((u : ℕ) → p u ≡ true → q u ≡ true)
+    → tally p (from 0 n) < tally q (from 0 n)
+tally-falls p q n v h e i less =
+    let r : ℕ → Bool = λ u. q u && not (eqb u v) in
+    omega (
+      arith,
+      tally-one-more r q n v h
+          (and-fails-right (q v) (not (eqb v v)) (ap not (eq-eqb v v refl)))
+          i
+          (λ u l ne. sym (ap (λ (t : Bool). q u && not t) (ne-eqb u v ne) ∙ and-true (q u))),
+      tally-mono p r
+          (λ u t. and-both (q u) (not (eqb u v)) (less u t)
+          (ap not (ne-eqb u v (λ s. never t (ap p s ∙ e)))))
+          (from 0 n),
+    )

@@ -2,7 +2,7 @@
 use mathlib.Core.Path.{_≡_, refl, sym, ap, subst, _∙_}
 use mathlib.Core.Bool.{Bool, true, false, cond}
 use mathlib.Core.List.{List, _++_}
-use Prim.Native.Nat.{ℕ, _≤_}
+use Prim.Native.Nat.{ℕ}
 use native.Mathlib.Omega.{arith}
 use lib.Dec.{eqb}
 use lib.IntN.{ℤ}
@@ -19,8 +19,7 @@ use Rattle.search.specs.Segments.{joined}
 use Rattle.search.specs.declared.Planned.{Planned}
 use Rattle.frames.specs.Frame.{isFrame, placesOf, laterRefusal, laterOf}
 use Rattle.frames.specs.Hex.{bytesOf}
-use Rattle.frames.specs.Report.{planLine}
-use Rattle.reports.specs.Text.{planText, laterText, Answers}
+use Rattle.reports.specs.Text.{planText, Answers}
 use Rattle.reports.proofs.TextLaws.{plan-accepted, later-accepted}
 
 -- as many turns are answered as stand at the front of the list

@@ -1,2 +1,3 @@
--- What a report says.
+-- What a report says, and how it reads its input.
 pub mod Text
+pub mod Reader

@@ -5,19 +5,22 @@
 --   Answers                         what we promise of it
 use mathlib.Core.Path.{_≡_}
 use mathlib.Core.Bool.{Bool, _&&_, cond}
-use mathlib.Core.List.{List}
+use mathlib.Core.List.{List, _++_}
 use Prim.Native.Nat.{ℕ, _*_}
 use lib.Dec.{leb, ltb, eqb}
 use lib.IntN.{ℤ}
-use lib.ListN.{length, take, replicate}
+use lib.ListN.{length, take, drop, replicate}
 use Rattle.stacks.specs.Stack.{isSize, stackCount}
 use Rattle.stacks.specs.Turn.{Road, Fewest}
 use Rattle.search.specs.Entries.{bytesFor}
+use Rattle.search.specs.Drive.{buildOf}
+use Rattle.search.specs.JobState.{levelOf}
 use Rattle.search.specs.Plan.{planOf, planLimit}
 use Rattle.search.specs.Segments.{segmentCount}
+use Rattle.search.specs.declared.Job.{Job}
 use Rattle.frames.specs.Frame.{stackLimit, reportRoom, placesOf, laterOf}
 use Rattle.frames.specs.Hex.{bytesOf}
-use Rattle.frames.specs.Report.{planLine, refusalLine}
+use Rattle.frames.specs.Report.{levelLines, deepestLine, planLine, refusalLine}
 
 unfoldable pub isReported : ℕ → ℕ → Bool
 isReported kind n = isSize kind n && leb (stackCount kind n) stackLimit
@@ -29,6 +32,17 @@ unfoldable pub logWords : ℕ → ℕ → ℕ → ℕ
 logWords kind n S =
     let segments = segmentCount (stackCount kind n) S in
     cond (isReported kind n && ltb 0 S && leb segments 64) (segments * reportRoom) 0
+
+-- the build of a frame's table, with C 16: what it leaves in a table that held anything, and its job
+unfoldable pub builtIn : ℕ → ℕ → List ℤ → ℕ → List ℕ → List ℕ × Job
+builtIn kind n wanted S table =
+    let bytes = tableBytes kind n in
+    let end = buildOf kind n wanted S reportRoom (take bytes table) (replicate (logWords kind n S) 0) in
+    (end .0 ++ drop bytes table, end .2 .job)
+
+-- what a finished build found: its levels with their counts, and the deepest
+unfoldable pub headText : Job → List ℕ
+headText job = levelLines (levelOf (job .phase)) (job .counts) ++ deepestLine (levelOf (job .phase))
 
 -- the plan of a stack, or Plan's refusal
 unfoldable pub planText : ℕ → ℕ → List ℤ → List ℕ → List ℤ → List ℕ

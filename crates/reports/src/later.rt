@@ -14,7 +14,7 @@ pub fn plan_text(
     wanted: [i8; 12],
     table: &[u8],
     given: [i8; 12],
-    out: &mut [u8; 64],
+    out: &mut [u8; 512],
 ) -> usize
     ensures { λ r. ⌜ Wrote (planText kind n wanted (now (table .entry)) given) (now (out .entry)) (now (out .exit)) r ⌝ }
 {
@@ -33,7 +33,7 @@ pub fn later_text(
     wanted: [i8; 12],
     table: &[u8],
     line: Line,
-    out: &mut [u8; 64],
+    out: &mut [u8; 512],
 ) -> usize
     ensures { λ r. ⌜ Wrote (laterText kind n wanted (now (table .entry)) (textOf line)) (now (out .entry)) (now (out .exit)) r ⌝ }
 {

@@ -8,7 +8,7 @@ use lib.Dec.{ltb, eqb}
 use lib.ListN.{length, set}
 use borrow.Author.Tests.{ltb-true, lt-ltb, eqb-true, eq-eqb, ne-eqb, not-true}
 use Rattle.base.specs.Words.{unless, all}
-use Rattle.base.proofs.Tests.{eq-or-ne}
+use Rattle.base.proofs.Tests.{unless-zero, eq-or-ne}
 use Rattle.search.specs.Blank.{blankRefusal, blanked, blankOf}
 use Rattle.search.specs.Close.{isReady, isPastLast, closeRefusal, closed, closeOf}
 use Rattle.search.specs.Entries.{bytesFor}
@@ -17,7 +17,6 @@ use Rattle.search.specs.JobState.{isCoherent, isBlanking, isLevel, isFin
 use Rattle.search.specs.Look.{lookRefusal}
 use Rattle.search.specs.Settle.{pending, settleRefusal, markAll, settleOf}
 use Rattle.search.specs.declared.Job.{Job}
-use Rattle.search.proofs.Coherence.{unless-zero}
 
 pub record BlankFacts (job : Job) (j bytes : ℕ) : Type 0 where
   pub coherent : isCoherent job ≡ true

@@ -12,6 +12,7 @@ use lib.ListN.{length, getD, set}
 use lib.Seq.{getD-set-same, getD-set-other}
 use borrow.Author.Tests.{ltb-true, ltb-false, lt-ltb, eq-eqb}
 use Rattle.base.specs.Words.{all, tally, from}
+use Rattle.base.proofs.Counting.{at-all, below-all}
 use Rattle.base.proofs.Tests.{and-both, never, lt-or-ge, eq-or-ne}
 use Rattle.graph.proofs.Tally.{tally-some, tally-zero}
 use Rattle.stacks.specs.Stack.{stackCount}
@@ -34,7 +35,7 @@ use Rattle.search.proofs.BlankKeeps.{blankedWorld, blank-world, passed-
 use Rattle.search.proofs.BuildCoherent.{invariant-coherent}
 use Rattle.search.proofs.Children.{children-count}
 use Rattle.search.proofs.CloseKeeps.{closedWorld, close-world, never-past}
-use Rattle.search.proofs.Coherence.{coherent-facts, at-all, below-all}
+use Rattle.search.proofs.Coherence.{coherent-facts}
 use Rattle.search.proofs.ExpandCases.{room-lacks, falling-le}
 use Rattle.search.proofs.ExpandLaws.{MustWait, expand-passes, expand-waits}
 use Rattle.search.proofs.Invariant.{Given, Blanks, Searches, Ended, Invariant}

@@ -1,21 +1,16 @@
 -- Laws of `allStacks`: every stack stands there once, at the place of its index.
-use mathlib.Core.Path.{_≡_, refl, sym, ap, _∙_}
+use mathlib.Core.Path.{_≡_, sym, ap, _∙_}
 use mathlib.Core.Bool.{true}
-use mathlib.Core.List.{List, [], _∷_, map}
-use Prim.Native.Nat.{ℕ, zero, suc, _<_}
-use native.Mathlib.Nat.{zero-add, le-of-suc-le-suc, not-suc-le-zero}
+use mathlib.Core.List.{List, []}
+use Prim.Native.Nat.{ℕ, _<_}
+use native.Mathlib.Nat.{zero-add}
 use lib.IntN.{ℤ}
 use lib.ListN.{length, getD, length-map}
 use Rattle.base.specs.Words.{from}
-use Rattle.base.proofs.Lists.{from-length, getD-from}
+use Rattle.base.proofs.Lists.{from-length, getD-from, getD-map}
 use Rattle.stacks.specs.Stack.{isSize, isStack, stackCount}
 use Rattle.stacks.specs.Index.{rankOf, stackAt, allStacks}
 use Rattle.stacks.proofs.Numbering.{rank-lt, unrank-rank, rank-unrank}
-
-pub getD-map : {A B : Type 0} (f : A → B) (xs : List A) (i : ℕ) (a : A) (b : B) → i < length xs → getD (map f xs) i b ≡ f (getD xs i a)
-getD-map f [] i a b h = absurd (not-suc-le-zero h)
-getD-map f (x ∷ xs) zero a b h = refl
-getD-map f (x ∷ xs) (suc i) a b h = getD-map f xs i a b (le-of-suc-le-suc h)
 
 pub all-stacks-length : (kind n : ℕ) → length (allStacks kind n) ≡ stackCount kind n
 unfolding allStacks

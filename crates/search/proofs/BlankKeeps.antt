@@ -3,13 +3,14 @@ use mathlib.Core.Path.{_≡_, refl, sym, ap, _∙_, subst}
 use mathlib.Core.Logic.{_⊎_, inl, inr}
 use mathlib.Core.Bool.{Bool, true, false, cond}
 use mathlib.Core.List.{List, []}
-use Prim.Native.Nat.{ℕ, _/_, _%_, _≤_, _<_}
+use Prim.Native.Nat.{ℕ, _/_, _%_, _<_}
 use native.Mathlib.Omega.{arith}
 use lib.Dec.{eqb}
 use lib.IntN.{ℤ}
-use lib.ListN.{length, getD, set, replicate, length-set, length-replicate, getD-replicate, List·getD-eq-default}
+use lib.ListN.{length, getD, set, length-set}
 use lib.Seq.{getD-set-same, getD-set-other}
-use Rattle.base.proofs.Tests.{never, lt-or-ge, eq-or-ne}
+use Rattle.base.proofs.Lists.{replicate-zero}
+use Rattle.base.proofs.Tests.{never, eq-or-ne}
 use Rattle.stacks.specs.Stack.{stackCount}
 use Rattle.search.specs.Begin.{begun}
 use Rattle.search.specs.Blank.{blankRefusal, goalOf, blanked, blankOf}
@@ -25,13 +26,6 @@ use Rattle.search.proofs.EntryLaws.{set-length, blank-length}
 use Rattle.search.proofs.Invariant.{Given, Shaped, Blanks, Searches, Ended, Invariant}
 use Rattle.search.proofs.SegmentLaws.{segment-size-facts}
 use Rattle.search.proofs.Shapes.{segments-is, stacks-is}
-
-pub replicate-zero : (n i : ℕ) → getD {A = ℕ} (replicate n 0) i 0 ≡ 0
-replicate-zero n i = go (lt-or-ge i n)
-  where
-    go : (i < n) ⊎ (n ≤ i) → getD {A = ℕ} (replicate n 0) i 0 ≡ 0
-    go (inl h) = getD-replicate n i 0 0 h
-    go (inr h) = List·getD-eq-default (replicate n 0) 0 (rw length-replicate h)
 
 pub begun-invariant : (kind n : ℕ) (wanted : List ℤ) (S C : ℕ) (segments : List (List ℕ)) (log : List ℕ) → Buffers kind n S C segments log
     → Invariant kind n wanted S C (record { job = begun kind n wanted S C; segments = segments; log = log })

@@ -11,6 +11,7 @@ use lib.ListN.{length, getD, set}
 use lib.Seq.{getD-set-same, getD-set-other, set-out}
 use borrow.Author.Tests.{ltb-true, lt-ltb, leb-true, le-leb, eqb-false, eq-eqb, ne-eqb}
 use Rattle.base.specs.Words.{all, tally, from}
+use Rattle.base.proofs.Lists.{replicate-zero}
 use Rattle.base.proofs.Tests.{and-left, and-right, and-both, never, lt-or-ge, eq-or-ne}
 use Rattle.graph.proofs.Tally.{tally-le, tally-one-more}
 use Rattle.search.specs.Begin.{begun, beginOf}
@@ -25,7 +26,6 @@ use Rattle.search.specs.declared.Job.{Job}
 use Rattle.search.specs.declared.Phase.{Phase}
 use Rattle.search.specs.declared.Phase.the-variants.{Blanking, Level, Finished}
 use Rattle.search.proofs.Accepted.{close-facts, settle-facts, blank-accepted, blank-refused, settle-accepted, settle-refused, close-accepted, close-refused}
-use Rattle.search.proofs.BlankKeeps.{replicate-zero}
 use Rattle.search.proofs.Coherence.{Coherent, coherent-facts, facts-coherent}
 use Rattle.search.proofs.EntryLaws.{get-set-same, byte-inside}
 use Rattle.search.proofs.MarkLaws.{mark-unseen, mark-seen, mark-length, mark-other}

@@ -6,12 +6,12 @@ use Prim.Native.Nat.{ℕ, _<_, _≤_}
 use native.Mathlib.Nat.{le-trans}
 use lib.ListN.{length, getD, length-map}
 use Rattle.graph.specs.Walks.{isMove}
+use Rattle.base.proofs.Lists.{getD-map}
 use Rattle.stacks.specs.Stack.{isSize, stackCount}
 use Rattle.stacks.specs.Turn.{turnsOf}
 use Rattle.stacks.proofs.Sizes.{size-twelve}
 use Rattle.stacks.proofs.TurnLaws.{turns-count, turns-listed, listed-turn}
 use Rattle.search.specs.Expand.{childrenOf}
-use Rattle.search.proofs.AllStacks.{getD-map}
 use Rattle.search.proofs.Turning.{childAt, turn-move, move-turn, turn-graph}
 
 module _ (kind n v : ℕ) where

@@ -13,6 +13,8 @@ use lib.ListN.{length, getD, set, length-set}
 use lib.Seq.{getD-set-same, getD-set-other}
 use borrow.Author.Tests.{eqb-true, eq-eqb, ne-eqb}
 use Rattle.base.specs.Words.{unless}
+use Rattle.base.proofs.Counting.{all-below}
+use Rattle.base.proofs.Lists.{replicate-zero}
 use Rattle.base.proofs.Tests.{and-left, and-right, and-fails-left, and-fails-right, never, lt-or-ge, eq-or-ne}
 use Rattle.graph.proofs.Counts.{found-goal, found-start, found-next, found-all}
 use Rattle.graph.proofs.Depths.{Depths}
@@ -33,8 +35,6 @@ use Rattle.search.specs.declared.Job.{Job}
 use Rattle.search.specs.declared.Phase.{Phase}
 use Rattle.search.specs.declared.Phase.the-variants.{Blanking, Level, Finished}
 use Rattle.search.proofs.Accepted.{CloseFacts, close-facts, close-accepted}
-use Rattle.search.proofs.BlankKeeps.{replicate-zero}
-use Rattle.search.proofs.Coherence.{all-below}
 use Rattle.search.proofs.EntryLaws.{get-set-same, get-set-other, blank-length, blank-entry, byte-inside, spare-inside}
 use Rattle.search.proofs.Fewest.{depth, levels-bound, goal-inside, turn-depths, depth-small}
 use Rattle.search.proofs.Invariant.{Given, Shaped, Spares, Blanks, Searches, Ended, Invariant, levelSize, entryIn, Looked, Logged}

@@ -1,53 +1,23 @@
 -- Coherent jobs: what coherence says, and that Begin and every accepted call give a coherent job.
-use mathlib.Core.Path.{_≡_, refl, sym, _∙_, subst}
+use mathlib.Core.Path.{_≡_}
 use mathlib.Core.Logic.{_⊎_, inl, inr}
-use mathlib.Core.Bool.{Bool, true, false, _&&_, cond}
-use mathlib.Core.List.{List, [], _∷_}
-use Prim.Native.Nat.{ℕ, zero, suc, _-_, _≤_, _<_}
-use native.Mathlib.Nat.{zero-add, le-of-suc-le-suc, not-suc-le-zero, suc-ne-zero}
+use mathlib.Core.Bool.{true, _&&_, cond}
+use mathlib.Core.List.{List}
+use Prim.Native.Nat.{ℕ, _-_, _≤_, _<_}
 use native.Mathlib.Omega.{arith}
 use lib.Dec.{leb, ltb, eqb}
 use lib.IntN.{ℤ}
 use lib.ListN.{length, getD, List·getD-eq-default}
 use borrow.Author.Tests.{leb-true, le-leb, eqb-true, eq-eqb}
 use Rattle.base.specs.Words.{unless, all, from}
-use Rattle.base.proofs.Lists.{from-length, getD-from}
-use Rattle.base.proofs.Tests.{and-left, and-right, and-both, lt-or-ge}
+use Rattle.base.proofs.Counting.{all-at, at-all, all-below, below-all}
+use Rattle.base.proofs.Tests.{unless-zero, and-left, and-right, and-both, lt-or-ge}
 use Rattle.stacks.specs.Operations.{sizeRefusal}
 use Rattle.stacks.specs.Stack.{isKind, isSize, isStack, stackCount}
 use Rattle.search.specs.JobState.{countLimit, beginRefusal, segmentsOf, stacksOf, passedOf, waitingOf, countOf, phaseFits, segmentFits, countFits, isCoherent}
 use Rattle.search.specs.Segments.{segmentLimit, isSegmentSize, isLogRoom}
 use Rattle.search.specs.declared.Job.{Job}
 use Rattle.search.proofs.Invariant.{Given}
-
--- ---- tests, one by one
-
--- a refusal that was not met
-pub unless-zero : (ok : Bool) (r rest : ℕ) → unless ok (suc r) rest ≡ 0 → (ok ≡ true) × (rest ≡ 0)
-unless-zero true r rest h = (refl, h)
-unless-zero false r rest h = absurd (suc-ne-zero r h)
-
-module _ {A : Type 0} (p : A → Bool) where
-  pub all-at : (xs : List A) (i : ℕ) (a : A) → all p xs ≡ true → i < length xs → p (getD xs i a) ≡ true
-  unfolding all
-  all-at [] i a h l = absurd (not-suc-le-zero l)
-  all-at (x ∷ xs) zero a h l = and-left (p x) (all p xs) h
-  all-at (x ∷ xs) (suc i) a h l = all-at xs i a (and-right (p x) (all p xs) h) (le-of-suc-le-suc l)
-
-  pub at-all : (xs : List A) (a : A) → ((i : ℕ) → i < length xs → p (getD xs i a) ≡ true) → all p xs ≡ true
-  unfolding all
-  at-all [] a h = refl
-  at-all (x ∷ xs) a h = and-both (p x) (all p xs) (h 0 (omega arith)) (at-all xs a (λ i l. h (suc i) (omega arith)))
-
-pub all-below : (p : ℕ → Bool) (n i : ℕ) → all p (from 0 n) ≡ true → i < n → p i ≡ true
-all-below p n i h l =
-    subst (λ (x : ℕ). p x ≡ true) (getD-from 0 n i 0 l ∙ zero-add i) (all-at p (from 0 n) i 0 h (rw from-length l))
-
-pub below-all : (p : ℕ → Bool) (n : ℕ) → ((i : ℕ) → i < n → p i ≡ true) → all p (from 0 n) ≡ true
-below-all p n h = at-all p (from 0 n) 0 (λ i l. go i (rw from-length at l))
-  where
-    go : (i : ℕ) → i < n → p (getD (from 0 n) i 0) ≡ true
-    go i l = subst (λ (x : ℕ). p x ≡ true) (sym (getD-from 0 n i 0 l ∙ zero-add i)) (h i l)
 
 -- ---- what an accepted Begin was given
 

@@ -26,7 +26,8 @@ use Rattle.search.specs.declared.Planned.{Planned}
 use Rattle.search.proofs.Fewest.{depth, levels-bound, depth-fewest, fewest-depth, count-decided}
 use Rattle.search.proofs.Invariant.{Given, Shaped, Ended, entryIn}
 use Rattle.search.proofs.PlanLaws.{RightTable, plan-arrives, plan-accepts, plan-fewest}
-use Rattle.search.proofs.SegmentLaws.{Segmented, segment-size-facts, last-segment, segment-last, spare-offset, bytes-last, joined-entry, joined-length, joined-spare}
+use Rattle.search.proofs.Shapes.{shaped-segmented}
+use Rattle.search.proofs.SegmentLaws.{Segmented, last-segment, segment-last, spare-offset, bytes-last, joined-entry, joined-length, joined-spare}
 
 -- ---- a plan over a right table
 
@@ -63,14 +64,7 @@ module _ {kind n : ℕ} {wanted : List ℤ} {S C : ℕ} (begun : Given kind n wa
 
   module _ {w : World} (shaped : Shaped kind n wanted S C w) {d : ℕ} (ended : Ended kind n wanted S C w d) where
     whole : Segmented (stackCount kind n) S (w .segments)
-    whole =
-        let facts = segment-size-facts (stackCount kind n) S (begun .segments) in
-        record {
-          some = omega (arith, facts .least);
-          four = facts .four;
-          count = shaped .segments-length;
-          sizes = shaped .segment-bytes;
-        }
+    whole = shaped-segmented shaped begun
 
     table-right : RightTable kind n wanted (suc lastLevel) (joined (w .segments))
     unfolding entryIn

@@ -6,7 +6,7 @@
 --   Ended       in Finished: every entry and count is right
 use mathlib.Core.Path.{_≡_}
 use mathlib.Core.Logic.{_⊎_}
-use mathlib.Core.Bool.{Bool, true}
+use mathlib.Core.Bool.{true}
 use mathlib.Core.List.{List, []}
 use Prim.Native.Nat.{ℕ, suc, _+_, _*_, _/_, _%_, _≤_, _<_}
 use lib.Dec.{eqb}
@@ -16,7 +16,6 @@ use Rattle.base.specs.Words.{tally, from}
 use Rattle.graph.specs.Walks.{isMove}
 use Rattle.graph.proofs.Levels as Levels
 use Rattle.graph.proofs.Counts.{found}
-use Rattle.stacks.specs.Index.{rankOf}
 use Rattle.stacks.specs.Stack.{isKind, isSize, isStack, stackCount}
 use Rattle.stacks.specs.Turn.{turnsOf}
 use Rattle.search.specs.Blank.{blanked}

@@ -2,6 +2,7 @@
 use mathlib.Core.Path.{_≡_}
 use mathlib.Core.List.{List}
 use Prim.Native.Nat.{ℕ, _*_}
+use native.Mathlib.Omega.{arith}
 use lib.IntN.{ℤ}
 use Rattle.stacks.specs.Index.{rankOf}
 use Rattle.stacks.specs.Stack.{stackCount}
@@ -11,6 +12,7 @@ use Rattle.search.specs.JobState.{beginRefusal, stacksAll, segmentsOf, s
 use Rattle.search.specs.Segments.{segmentCount, stacksIn}
 use Rattle.search.proofs.Coherence.{given-begin}
 use Rattle.search.proofs.Invariant.{Given, Shaped}
+use Rattle.search.proofs.SegmentLaws.{Segmented, segment-size-facts}
 
 module _ {kind n : ℕ} {wanted : List ℤ} {S C : ℕ} {w : World} (shaped : Shaped kind n wanted S C w) where
   pub count-is : stacksAll (w .job) ≡ stackCount kind n
@@ -36,3 +38,8 @@ module _ {kind n : ℕ} {wanted : List ℤ} {S C : ℕ} {w : World} (shaped : Sh
   pub begins-is : Given kind n wanted S C → beginRefusal (w .job .kind) (w .job .n) (w .job .wanted) (w .job .size) (w .job .room) ≡ 0
   begins-is given =
       rw (shaped .kind-is, shaped .n-is, shaped .wanted-is, shaped .size-is, shaped .room-is) (given-begin kind n wanted S C given)
+
+  pub shaped-segmented : Given kind n wanted S C → Segmented (stackCount kind n) S (w .segments)
+  shaped-segmented given =
+      let facts = segment-size-facts (stackCount kind n) S (given .segments) in
+      record { some = omega (arith, facts .least); four = facts .four; count = shaped .segments-length; sizes = shaped .segment-bytes }

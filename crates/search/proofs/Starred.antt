@@ -1,10 +1,9 @@
 -- The starred cases of document 01's "At the edges", all of them: each computes from the definitions.
 use mathlib.Core.Path.{_≡_, refl}
-use mathlib.Core.Bool.{Bool, true, false}
 use mathlib.Core.List.{List, [], _∷_, _++_, map}
 use Prim.Native.Nat.{ℕ, zero, suc}
 use lib.IntN.{ℤ, pos, negsuc}
-use lib.ListN.{length, take, replicate}
+use lib.ListN.{take, replicate}
 use Rattle.base.specs.Words.{all, tally, fact, from, without}
 use Rattle.stacks.specs.Stack.{isKind, isCoated, fewestPanes, mostPanes, isSize, orderOf, eachOnce, isUnused, isStack, coatings, stackCount}
 use Rattle.stacks.specs.Index.{smaller, rankFrom, coat, coatBits, rankOf, orderAt, paneWith, coatedBy, stackAt}

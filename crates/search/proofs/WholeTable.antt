@@ -10,7 +10,7 @@ use lib.IntN.{ℤ}
 use lib.ListN.{length}
 use borrow.Author.Tests.{eqb-true, eq-eqb, ne-eqb}
 use Rattle.base.specs.Words.{unless}
-use Rattle.base.proofs.Tests.{eq-or-ne}
+use Rattle.base.proofs.Tests.{unless-zero, eq-or-ne}
 use Rattle.stacks.specs.Stack.{stackCount}
 use Rattle.search.specs.Begin.{begun}
 use Rattle.search.specs.Build.{World}
@@ -22,12 +22,12 @@ use Rattle.search.specs.Segments.{segmentCount, joined}
 use Rattle.search.specs.declared.Job.{Job}
 use Rattle.search.proofs.BlankKeeps.{begun-invariant}
 use Rattle.search.proofs.BuildCoherent.{invariant-coherent}
-use Rattle.search.proofs.Coherence.{unless-zero, begin-given}
+use Rattle.search.proofs.Coherence.{begin-given}
 use Rattle.search.proofs.CutLaws.{cut-segmented, joined-cut, cut-joined}
 use Rattle.search.proofs.Driving.{drive-done, work-most, advanced-keeps, advanced-falls, drive-keeps, drive-advanced}
 use Rattle.search.proofs.Invariant.{Given, Shaped, Invariant}
 use Rattle.search.proofs.SegmentLaws.{SegmentSizeFacts, segment-size-facts, Segmented, joined-length}
-use Rattle.search.proofs.Shapes.{count-is}
+use Rattle.search.proofs.Shapes.{count-is, shaped-segmented}
 use Rattle.search.proofs.WholeBuild.{finishes-is}
 use Rattle.search.proofs.WorkLeft.{workLeft}
 
@@ -69,16 +69,12 @@ module _ {kind n : ℕ} {wanted : List ℤ} {S C : ℕ} (given : Given kind n wa
   some : 0 < S
   some = omega (arith, facts .least)
 
-  shaped-segmented : {w : World} → Shaped kind n wanted S C w → Segmented (stackCount kind n) S (w .segments)
-  shaped-segmented shaped =
-      record { some = some; four = facts .four; count = shaped .segments-length; sizes = shaped .segment-bytes }
-
   held-laid : (w : World) → Shaped kind n wanted S C w → held (w .job) (joined (w .segments)) (w .log) ≡ w
   unfolding held
   held-laid w shaped =
       ap (λ (segments : List (List ℕ)). record { job = w .job; segments = segments; log = w .log })
       (rw (count-is shaped, shaped .size-is)
-      (cut-joined (stackCount kind n) S some (facts .four) (w .segments) (shaped-segmented shaped)))
+      (cut-joined (stackCount kind n) S some (facts .four) (w .segments) (shaped-segmented shaped given)))
 
 -- what a loop that drives a build keeps: the build is on its way to the world in which it ends
 pub record Driving (kind n : ℕ) (wanted : List ℤ) (S C : ℕ) (table₀ log₀ : List ℕ) (job : Job) (table log : List ℕ) : Type 0 where
@@ -134,7 +130,7 @@ module _ {kind n : ℕ} {wanted : List ℤ} {S C : ℕ} {table₀ log₀ : List 
             given = driving .given;
             invariant = next-invariant;
             long = ap (λ (t : List ℕ × List ℕ × Job). length (t .0)) step
-                ∙ joined-length N S (advanced w .segments) (shaped-segmented (driving .given) (advanced-keeps (driving .given) (driving .invariant) .shaped));
+                ∙ joined-length N S (advanced w .segments) (shaped-segmented (advanced-keeps (driving .given) (driving .invariant) .shaped) (driving .given));
             same = driving .same
                 ∙ drive-advanced (driving .given) most w (driving .invariant) (omega (arith, work-most N S job)) unfinished
                 ∙ ap (drive most) (sym held-next);
@@ -177,6 +173,6 @@ build-finishes kind n wanted S C table log accepted =
       leaves = rw (eq-eqb (buildRefusal kind n wanted S C (length table) (length log)) 0 accepted);
       finished = end .1;
       finishes = finishes-is g (end .0) (end .1);
-      table-length = joined-length N S (w .segments) (shaped-segmented g (end .0 .shaped)) ∙ sym (accepts .bytes-fit);
+      table-length = joined-length N S (w .segments) (shaped-segmented (end .0 .shaped) g) ∙ sym (accepts .bytes-fit);
       log-length = end .0 .shaped .log-length ∙ sym (accepts .words-fit);
     }

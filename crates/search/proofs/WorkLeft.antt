@@ -1,15 +1,13 @@
 -- How much a build has left to do, as a number that falls: levels first, then stacks not passed, then logs with entries.
-use mathlib.Core.Path.{_≡_, refl, sym, ap, _∙_}
-use mathlib.Core.Bool.{Bool, true, false, not, _&&_, and-true}
+use mathlib.Core.Path.{_≡_, sym, ap}
+use mathlib.Core.Bool.{Bool}
 use Prim.Native.Nat.{ℕ, suc, _+_, _-_, _*_, _/_, _%_, _≤_, _<_}
 use native.Mathlib.Nat.{suc-mul, mul-le-mul-right}
 use native.Mathlib.Omega.{arith}
-use lib.Dec.{leb, ltb, eqb}
-use borrow.Author.Tests.{lt-ltb, le-ltb, leb-true, le-leb, lt-leb, eq-eqb, ne-eqb}
+use lib.Dec.{leb, ltb}
+use borrow.Author.Tests.{lt-ltb, le-ltb, leb-true, le-leb, lt-leb}
 use Rattle.base.specs.Words.{tally, from}
-use Rattle.base.proofs.Counting.{tally-mono}
-use Rattle.base.proofs.Tests.{and-both, and-fails-right, never}
-use Rattle.graph.proofs.Tally.{tally-le, tally-one-more}
+use Rattle.graph.proofs.Tally.{tally-le, tally-one-more, tally-falls}
 use Rattle.search.specs.Drive.{isPending}
 use Rattle.search.specs.JobState.{lastLevel, passedOf, waitingOf}
 use Rattle.search.specs.Segments.{segmentCount, stacksIn}
@@ -17,23 +15,6 @@ use Rattle.search.specs.declared.Job.{Job}
 use Rattle.search.specs.declared.Phase.{Phase}
 use Rattle.search.specs.declared.Phase.the-variants.{Blanking, Level, Finished}
 use Rattle.search.proofs.SegmentLaws.{segment-stack, segment-stack-div, segment-stack-mod}
-
--- what fails where a test holds once more counts less
-pub tally-falls : (p q : ℕ → Bool) (n v : ℕ) → v < n → p v ≡ false → q v ≡ true → ((u : ℕ) → p u ≡ true → q u ≡ true)
-    → tally p (from 0 n) < tally q (from 0 n)
-tally-falls p q n v h e i less =
-    let r : ℕ → Bool = λ u. q u && not (eqb u v) in
-    omega (
-      arith,
-      tally-one-more r q n v h
-          (and-fails-right (q v) (not (eqb v v)) (ap not (eq-eqb v v refl)))
-          i
-          (λ u l ne. sym (ap (λ (t : Bool). q u && not t) (ne-eqb u v ne) ∙ and-true (q u))),
-      tally-mono p r
-          (λ u t. and-both (q u) (not (eqb u v)) (less u t)
-          (ap not (ne-eqb u v (λ s. never t (ap p s ∙ e)))))
-          (from 0 n),
-    )
 
 unfoldable pub levelsLeft : Phase → ℕ
 levelsLeft Blanking = suc lastLevel

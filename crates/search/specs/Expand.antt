@@ -2,7 +2,7 @@
 --   Marks        a segment's bytes, and the level's count
 --   Logs         the log area, and the entries waiting in each log
 --   Expansion    how far a call has come: the first stack not passed, whether it waits before it and for which segment, marks and logs
-use mathlib.Core.Bool.{Bool, true, false, not, _&&_, _||_, cond}
+use mathlib.Core.Bool.{Bool, true, false, not, _&&_, cond}
 use mathlib.Core.List.{List, [], _∷_, map}
 use Prim.Native.Nat.{ℕ, zero, suc, _+_, _-_, _*_, _/_, _%_}
 use lib.Dec.{ltb, eqb}

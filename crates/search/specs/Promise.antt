@@ -2,10 +2,10 @@
 -- It speaks of stacks, turns and roads; Fewest is that of the turning rules, with both ends as arguments.
 use mathlib.Core.Path.{_≡_}
 use mathlib.Core.Bool.{Bool, true, false}
-use mathlib.Core.List.{List, [], _∷_, _++_}
+use mathlib.Core.List.{List, [], _++_}
 use Prim.Native.Nat.{ℕ, _+_, _*_, _%_, _≤_, _<_}
 use lib.IntN.{ℤ}
-use lib.ListN.{length, getD, take, drop}
+use lib.ListN.{length, getD, take}
 use Rattle.base.specs.Words.{tally}
 use Rattle.stacks.specs.Index.{rankOf, allStacks}
 use Rattle.stacks.specs.Stack.{isStack, stackCount}

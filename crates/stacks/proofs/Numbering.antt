@@ -3,21 +3,19 @@ use mathlib.Core.Path.{_≡_, refl, sym, ap, _∙_}
 use mathlib.Core.Bool.{Bool, true, false, _||_, cond}
 use mathlib.Core.List.{List, [], _∷_, _++_, map}
 use Prim.Native.Nat.{ℕ, suc, _+_, _-_, _*_, _/_, _%_, _^_, _≤_, _<_}
-use native.Mathlib.Nat.{le-refl, le-of-eq, lt-of-lt-of-le, div-lt-iff-lt-mul, mod-lt, mod-one, mod-eq-of-lt, div-add-mod'}
+use native.Mathlib.Nat.{le-of-eq, lt-of-lt-of-le, div-lt-iff-lt-mul, mod-lt, mod-one, mod-eq-of-lt, div-add-mod'}
 use native.Mathlib.Omega.{arith}
 use lib.Arith.{digits-lt}
-use lib.Dec.{leb, ltb}
+use lib.Dec.{ltb}
 use lib.IntN.{ℤ, pos, natAbs}
 use lib.ListN.{length, take, drop, replicate, length-append, length-map, length-drop, length-replicate, take-append-drop}
-use lib.Pow.{pow-pos}
 use lib.Seq.{length-take-le, take-at, drop-at}
 use lib.Signed.{nonNeg}
-use borrow.Author.Tests.{leb-true, le-ltb}
+use borrow.Author.Tests.{le-ltb}
 use Rattle.base.specs.Words.{all, fact, from, without}
-use Rattle.base.proofs.Tests.{and-right}
 use Rattle.base.proofs.Lists.{from-length}
 use Rattle.base.proofs.Counting.{all-append, all-take, all-replicate}
-use Rattle.stacks.specs.Stack.{isCoated, fewestPanes, mostPanes, isSize, isUnused, orderOf, isStack, coatings, stackCount}
+use Rattle.stacks.specs.Stack.{isCoated, isSize, isUnused, orderOf, isStack, coatings, stackCount}
 use Rattle.stacks.specs.Index.{smaller, coat, coatBits, rankOf, orderAt, paneWith, coatedBy, stackAt}
 use Rattle.stacks.specs.Order.{precedes}
 use Rattle.stacks.proofs.Sizes.{size-twelve, coatings-pos, coatings-le}

@@ -1,5 +1,5 @@
 -- Index of a stack, Stack at an index and Turn: what each answers for any arguments, refusals in document 01's order.
-use mathlib.Core.Bool.{Bool, cond}
+use mathlib.Core.Bool.{cond}
 use mathlib.Core.List.{List}
 use Prim.Native.Nat.{ℕ}
 use lib.Dec.{ltb, eqb}

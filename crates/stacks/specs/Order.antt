@@ -1,5 +1,5 @@
 -- The lexicographic order that the index numbers: the unsigned order first, then the coats, up before down.
-use mathlib.Core.Bool.{Bool, true, false, _&&_, _||_}
+use mathlib.Core.Bool.{Bool, false, _&&_, _||_}
 use mathlib.Core.List.{List, [], _∷_, _++_, map}
 use Prim.Native.Nat.{ℕ}
 use lib.Dec.{ltb, eqb}

@@ -3,11 +3,11 @@
 --   kind       0 plain (a permutation), 1 coated (a signed permutation)
 --   orderOf    the unsigned order: the panes' numbers from the top
 --   coatings   in how many ways the coats of n panes can lie
-use mathlib.Core.Bool.{Bool, true, false, _&&_, _||_, cond}
+use mathlib.Core.Bool.{Bool, true, _&&_, _||_, cond}
 use mathlib.Core.List.{List, [], _∷_, map}
-use Prim.Native.Nat.{ℕ, _+_, _*_, _^_}
+use Prim.Native.Nat.{ℕ, _*_, _^_}
 use lib.Dec.{leb, ltb, eqb}
-use lib.IntN.{ℤ, pos, negsuc, natAbs}
+use lib.IntN.{ℤ, natAbs}
 use lib.ListN.{length, take, drop}
 use lib.Signed.{nonNeg}
 use Rattle.base.specs.Words.{all, tally, fact}

@@ -1,26 +1,34 @@
 -- `report::feed` meets its contract: it goes through the part character by character.
 use mathlib.Core.Path.{_≡_}
 use Prim.Native.Nat.{_-_, _≤_}
-use native.Mathlib.Omega.{arith}
-use borrow.Author.Needs.{needs}
 use lib.ListN.{length}
+use borrow.Author.Needs.{needs}
 use Rattle.report.proofs.feed.Statement.{statement}
 use Rattle.report.proofs.feed.Tie as tie
 
 abbrev Inv-loop : tie.InvT-loop
-Inv-loop table₀ chunk now₀ i₀ table now i = (i ≤ length chunk) × (length table ≡ length table₀)
+Inv-loop table₀ chunk out₀ now₀ i₀ table out now i = (i ≤ length chunk) × (length table ≡ length table₀)
 
 abbrev μ-loop : tie.MeasureT-loop
-μ-loop table₀ chunk now₀ i₀ table now i = length chunk - i
+μ-loop table₀ chunk out₀ now₀ i₀ table out now i = length chunk - i
 
 loop-holds : tie.Need-loop-holds Inv-loop μ-loop
 loop-holds c = search needs
 
-shared-slice-read-step : tie.Need-shared-slice-read-step Inv-loop μ-loop
-shared-slice-read-step c = search needs
+shared-slice-read-byte-read : tie.Need-shared-slice-read-byte-read Inv-loop μ-loop
+shared-slice-read-byte-read c = search needs
 
-step-requires : tie.Need-step-requires Inv-loop μ-loop
-step-requires c κs = search needs
+byte-read-requires : tie.Need-byte-read-requires Inv-loop μ-loop
+byte-read-requires c κs = search needs
+
+array-share-prefix-out : tie.Need-array-share-prefix-out Inv-loop μ-loop
+array-share-prefix-out c = search needs
+
+slice-aggregate-write-all : tie.Need-slice-aggregate-write-all Inv-loop μ-loop
+slice-aggregate-write-all c = search needs
+
+write-all-requires : tie.Need-write-all-requires Inv-loop μ-loop
+write-all-requires c κs = search needs
 
 add-i : tie.Need-add-i Inv-loop μ-loop
 add-i c = search needs
@@ -44,8 +52,11 @@ feed-spec =
     Inv-loop
     μ-loop
     loop-holds
-    shared-slice-read-step
-    step-requires
+    shared-slice-read-byte-read
+    byte-read-requires
+    array-share-prefix-out
+    slice-aggregate-write-all
+    write-all-requires
     add-i
     loop-less
     loop-again

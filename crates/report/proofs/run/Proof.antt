@@ -1,18 +1,18 @@
 -- `report::run` meets its contract: the loop counts down.
 use mathlib.Core.Path.{_≡_}
-use borrow.Author.Needs.{needs}
 use lib.ListN.{length}
+use borrow.Author.Needs.{needs}
 use Rattle.report.proofs.run.Statement.{statement}
 use Rattle.report.proofs.run.Tie as tie
 
 abbrev Inv-loop : tie.InvT-loop
-Inv-loop table₀ state₀ left₀ table state left = length table ≡ length table₀
+Inv-loop table₀ going₀ left₀ table going left = length table ≡ length table₀
 
 abbrev μ-loop : tie.MeasureT-loop
-μ-loop table₀ state₀ left₀ table state left = left
+μ-loop table₀ going₀ left₀ table going left = left
 
-start-requires : tie.Need-start-requires Inv-loop μ-loop
-start-requires c κs = search needs
+new-reader-requires : tie.Need-new-reader-requires Inv-loop μ-loop
+new-reader-requires c κs = search needs
 
 loop-holds : tie.Need-loop-holds Inv-loop μ-loop
 loop-holds c = search needs
@@ -44,7 +44,7 @@ run-spec =
     (tie.spec
     Inv-loop
     μ-loop
-    start-requires
+    new-reader-requires
     loop-holds
     read-some-requires
     sub-left

@@ -1,0 +1,111 @@
+-- What comes of a line and of a character, case by case, and that code shows it.
+use mathlib.Core.Path.{_≡_, refl, sym, ap, _∙_, subst}
+use mathlib.Core.Bool.{Bool, cond}
+use mathlib.Core.List.{List, []}
+use Prim.Native.Nat.{ℕ, min}
+use native.Mathlib.Omega.{arith}
+use lib.ListN.{length, take}
+use borrow.Author.Tests.{eq-eqb, ne-eqb, lt-ltb, le-ltb}
+use Rattle.frames.specs.Frame.{firstOf}
+use Rattle.frames.specs.Lines.{newLine, pushed, textOf}
+use Rattle.frames.specs.Report.{refusalLine, over, Wrote}
+use Rattle.frames.specs.declared.First.{First}
+use Rattle.frames.specs.declared.Line.{Line}
+use Rattle.frames.proofs.Writing.{wrote}
+use Rattle.search.specs.declared.Job.{Job}
+use Rattle.reports.specs.Text.{tableBytes, builtIn, headText, laterText}
+use Rattle.reports.specs.Reader.{Effect, withLine, afterFirst, firstTaken, firstLeft, firstRead, firstLine, laterLine, quiet, lineRead, byteRead, endRead, Shown}
+use Rattle.reports.specs.declared.Printed.{Printed}
+use Rattle.reports.specs.declared.Reader.{Reader}
+use Rattle.reports.proofs.RoomLaws.{take-least}
+
+pub shown-as : {e x : Effect} {r : Printed} {table before after : List ℕ} → x ≡ e → Shown x r table before after → Shown e r table before after
+shown-as {r = r} {table = table} {before = before} {after = after} same shown = subst (λ (y : Effect). Shown y r table before after) same shown
+
+-- ---- the first frame
+
+module _ (line : Line) (table : List ℕ) (first : First) (e : first ≡ firstOf (textOf line)) where
+  first-refused : (first .refusal ≡ 0 → ⊥) → firstLeft first table ≡ firstLine line table
+  unfolding firstLine firstRead
+  first-refused h =
+      ap (λ (t : Bool). cond t (firstTaken first table) (firstLeft first table)) (sym (ne-eqb (first .refusal) 0 h))
+      ∙ ap (λ (f : First). firstRead f table) e
+
+  first-accepted : first .refusal ≡ 0 → firstTaken first table ≡ firstLine line table
+  unfolding firstLine firstRead
+  first-accepted h =
+      ap (λ (t : Bool). cond t (firstTaken first table) (firstLeft first table)) (sym (eq-eqb (first .refusal) 0 h))
+      ∙ ap (λ (f : First). firstRead f table) e
+
+  module _ (reader : Reader) (before after : List ℕ) (r : ℕ) where
+    pub shows-refused : (first .refusal ≡ 0 → ⊥) → reader ≡ afterFirst first 2 → Wrote (refusalLine (first .refusal)) before after r
+        → Shown (firstLine line table) (record { reader = reader; length = r }) table before after
+    unfolding firstLeft
+    shows-refused h same text = shown-as (first-refused h) (record { kept = refl; reads = same; wrote = text })
+
+    pub shows-accepted : first .refusal ≡ 0 → reader ≡ afterFirst first 1 → (table′ : List ℕ) (job : Job)
+        → (table′, job) ≡ builtIn (first .kind) (first .n) (first .wanted) (first .size) table → Wrote (headText job) before after r
+        → Shown (firstLine line table) (record { reader = reader; length = r }) table′ before after
+    unfolding firstTaken
+    shows-accepted h same table′ job built text =
+        shown-as (first-accepted h)
+        (record {
+          kept = ap (λ (x : List ℕ × Job). x .0) built;
+          reads = same;
+          wrote = subst (λ (j : Job). Wrote (headText j) before after r) (ap (λ (x : List ℕ × Job). x .1) built) text;
+        })
+
+-- ---- a later frame
+
+pub shows-later : (reader next : Reader) (table before after : List ℕ) (k bytes r : ℕ) → bytes ≡ tableBytes (reader .kind) (reader .n)
+    → k ≡ min bytes (length table) → next ≡ withLine reader newLine
+    → Wrote (laterText (reader .kind) (reader .n) (reader .wanted) (take k table) (textOf (reader .line))) before after r
+    → Shown (laterLine reader table) (record { reader = next; length = r }) table before after
+unfolding laterLine
+shows-later reader next table before after k bytes r b e same text =
+    record {
+      kept = refl;
+      reads = same;
+      wrote = subst (λ (t : List ℕ). Wrote (laterText (reader .kind) (reader .n) (reader .wanted) t (textOf (reader .line))) before after r)
+          (take-least bytes table k e ∙ ap (λ (j : ℕ). take j table) b) text;
+    }
+
+-- ---- which line, and which character
+
+pub shows-quiet : (reader next : Reader) (line : Line) (table out : List ℕ) → next ≡ withLine reader line
+    → Shown (quiet reader line table) (record { reader = next; length = 0 }) table out out
+unfolding quiet over
+shows-quiet reader next line table out same = record { kept = refl; reads = same; wrote = wrote [] out out 0 refl refl }
+
+module _ (reader : Reader) (table : List ℕ) where
+  pub line-first : reader .stage ≡ 0 → firstLine (reader .line) table ≡ lineRead reader table
+  unfolding lineRead
+  line-first h = rw (eq-eqb (reader .stage) 0 h)
+
+  pub line-later : (reader .stage ≡ 0 → ⊥) → reader .stage ≡ 1 → laterLine reader table ≡ lineRead reader table
+  unfolding lineRead
+  line-later z h = rw (ne-eqb (reader .stage) 0 z, eq-eqb (reader .stage) 1 h)
+
+  pub line-quiet : (reader .stage ≡ 0 → ⊥) → (reader .stage ≡ 1 → ⊥) → quiet reader newLine table ≡ lineRead reader table
+  unfolding lineRead
+  line-quiet z h = rw (ne-eqb (reader .stage) 0 z, ne-eqb (reader .stage) 1 h)
+
+  pub byte-end : (c : ℕ) → c ≡ 10 → lineRead reader table ≡ byteRead reader c table
+  unfolding byteRead
+  byte-end c h = rw (eq-eqb c 10 h)
+
+  pub byte-more : (c : ℕ) → (c ≡ 10 → ⊥) → quiet reader (pushed (reader .line) c) table ≡ byteRead reader c table
+  unfolding byteRead
+  byte-more c h = rw (ne-eqb c 10 h)
+
+  pub end-missing : reader .stage ≡ 0 → lineRead reader table ≡ endRead reader table
+  unfolding endRead
+  end-missing h = rw (eq-eqb (reader .stage) 0 h)
+
+  pub end-last : (reader .stage ≡ 0 → ⊥) → (reader .line .length ≡ 0 → ⊥) → lineRead reader table ≡ endRead reader table
+  unfolding endRead
+  end-last z h = rw (ne-eqb (reader .stage) 0 z, lt-ltb 0 (reader .line .length) (omega arith))
+
+  pub end-quiet : (reader .stage ≡ 0 → ⊥) → reader .line .length ≡ 0 → quiet reader newLine table ≡ endRead reader table
+  unfolding endRead
+  end-quiet z h = rw (ne-eqb (reader .stage) 0 z, le-ltb 0 (reader .line .length) (omega arith))

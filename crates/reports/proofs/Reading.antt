@@ -1,0 +1,227 @@
+-- An input that is read character by character prints the report of its lines.
+use mathlib.Core.Path.{_≡_, refl, sym, ap, _∙_}
+use mathlib.Core.Logic.{_⊎_, inl, inr}
+use mathlib.Core.Bool.{Bool, true, false, cond}
+use mathlib.Core.List.{List, [], _∷_, _++_, map, append-nil, append-assoc}
+use Prim.Native.Nat.{ℕ, _+_}
+use native.Mathlib.Omega.{arith}
+use lib.Dec.{eqb}
+use lib.IntN.{ℤ}
+use lib.ListN.{take}
+use borrow.Author.Tests.{eq-eqb, ne-eqb}
+use Rattle.base.proofs.Tests.{eq-or-ne}
+use Rattle.stacks.specs.declared.Stacked.{Stacked}
+use Rattle.search.specs.declared.Job.{Job}
+use Rattle.base.specs.Words.{all}
+use Rattle.frames.specs.Frame.{frameLimit, isFrame, bytesRefusal, firstRefusal, firstOf}
+use Rattle.frames.specs.Hex.{isPairs, bytesOf}
+use Rattle.frames.specs.Lines.{inFirst, linesOf, newLine, pushed, textOf, pushedAll, keptOf, Reading, stepped, fed, ended, handled}
+use Rattle.frames.specs.Report.{refusalLine}
+use Rattle.frames.specs.declared.First.{First}
+use Rattle.frames.specs.declared.Line.{Line}
+use Rattle.frames.proofs.LineLaws.{read-lines}
+use Rattle.frames.proofs.FrameRefusals.{kept-first, kept-later}
+use Rattle.reports.specs.Text.{tableBytes, builtIn, headText, planText, laterText}
+use Rattle.reports.specs.Reader.{laterTexts, reportOf, Effect, newReader, withLine, afterFirst, firstTaken, firstLeft, firstRead, firstLine, laterLine, quiet, lineRead, byteRead, endRead, printedAll}
+use Rattle.reports.specs.declared.Reader.{Reader}
+use Rattle.reports.proofs.ReadLaws.{line-first, line-later, line-quiet, end-missing, end-last, end-quiet}
+
+-- what was read and printed so far, and a line more
+record Sofar : Type 0 where
+  reader : Reader
+  table : List ℕ
+  text : List ℕ
+
+handle : Sofar → Line → Sofar
+handle s line =
+    let e = lineRead (withLine (s .reader) line) (s .table) in record { reader = e .reader; table = e .table; text = s .text ++ e .text }
+
+-- ---- after a whole line
+
+-- the next line is new
+first-new : (first : First) (table : List ℕ) → firstRead first table .reader .line ≡ newLine
+unfolding firstRead firstTaken firstLeft afterFirst
+first-new first table = go (eqb (first .refusal) 0)
+  where
+    go : (t : Bool) → cond {A = Effect} t (firstTaken first table) (firstLeft first table) .reader .line ≡ newLine
+    go true = refl
+    go false = refl
+
+line-new : (reader : Reader) (table : List ℕ) → lineRead reader table .reader .line ≡ newLine
+unfolding lineRead firstLine laterLine quiet withLine
+line-new reader table = go (eqb (reader .stage) 0) (eqb (reader .stage) 1)
+  where
+    go : (t u : Bool) → cond {A = Effect} t (firstLine (reader .line) table) (cond u (laterLine reader table) (quiet reader newLine table)) .reader .line ≡ newLine
+    go true u = first-new (firstOf (textOf (reader .line))) table
+    go false true = refl
+    go false false = refl
+
+-- the first frame has been read
+first-stage : (first : First) (table : List ℕ) → firstRead first table .reader .stage ≡ 0 → ⊥
+unfolding firstRead firstTaken firstLeft afterFirst
+first-stage first table = go (eqb (first .refusal) 0)
+  where
+    go : (t : Bool) → cond {A = Effect} t (firstTaken first table) (firstLeft first table) .reader .stage ≡ 0 → ⊥
+    go true h = omega (arith, h)
+    go false h = omega (arith, h)
+
+line-stage : (reader : Reader) (table : List ℕ) → lineRead reader table .reader .stage ≡ 0 → ⊥
+unfolding lineRead firstLine laterLine quiet withLine
+line-stage reader table = go (eq-or-ne (reader .stage) 0) (eqb (reader .stage) 1)
+  where
+    go : (reader .stage ≡ 0) ⊎ (reader .stage ≡ 0 → ⊥) → (u : Bool)
+        → cond {A = Effect} (eqb (reader .stage) 0) (firstLine (reader .line) table) (cond u (laterLine reader table) (quiet reader newLine table)) .reader .stage ≡ 0 → ⊥
+    go (inl e) u h = first-stage (firstOf (textOf (reader .line))) table (rw (eq-eqb (reader .stage) 0 e) at h)
+    go (inr n) true h = n (rw (ne-eqb (reader .stage) 0 n) at h)
+    go (inr n) false h = n (rw (ne-eqb (reader .stage) 0 n) at h)
+
+-- ---- reading by characters, as reading by lines
+
+abbrev reading : Sofar → Line → Reading Sofar
+reading s l = record { state = s; line = l }
+
+-- what is printed from s on, with l in the making
+abbrev Prints : List ℕ → Sofar → Line → Type 0
+Prints cs s l = ended handle (fed handle (reading s l) cs) .text ≡ s .text ++ printedAll (withLine (s .reader) l) (s .table) cs
+
+-- a first frame is not missing any more
+abbrev Started : Sofar → Line → Type 0
+Started s l = s .reader .stage ≡ 0 → l .length ≡ 0 → ⊥
+
+prints-end : (s : Sofar) (l : Line) → Started s l → Prints [] s l
+unfolding fed ended printedAll handle withLine quiet
+prints-end s l started = go (eq-or-ne (s .reader .stage) 0) (eq-or-ne (l .length) 0)
+  where
+    r : Reader
+    r = withLine (s .reader) l
+
+    whole : (l .length ≡ 0 → ⊥) → lineRead r (s .table) ≡ endRead r (s .table) → Prints [] s l
+    whole n e = rw (ne-eqb (l .length) 0 n) (ap (λ (x : Effect). s .text ++ x .text) e)
+
+    go : (s .reader .stage ≡ 0) ⊎ (s .reader .stage ≡ 0 → ⊥) → (l .length ≡ 0) ⊎ (l .length ≡ 0 → ⊥) → Prints [] s l
+    go (inl z) (inl e) = absurd (started z e)
+    go (inl z) (inr n) = whole n (end-missing r (s .table) z)
+    go (inr z) (inl e) =
+        rw (eq-eqb (l .length) 0 e) (sym (append-nil (s .text)) ∙ ap (λ (x : Effect). s .text ++ x .text) (end-quiet r (s .table) z e))
+    go (inr z) (inr n) = whole n (end-last r (s .table) z n)
+
+pushed-some : (l : Line) (c : ℕ) → pushed l c .length ≡ 0 → ⊥
+unfolding pushed
+pushed-some l c h = omega (arith, h)
+
+-- a character more, where the rest is known
+prints-more : (c : ℕ) (cs : List ℕ) (s : Sofar) (l : Line) → ((t : Sofar) (m : Line) → Started t m → Prints cs t m) → Prints (c ∷ cs) s l
+unfolding fed stepped printedAll byteRead quiet withLine handle
+prints-more c cs s l rest =
+    go (rest (handle s l) newLine (λ h k. line-stage r (s .table) h)) (rest s (pushed l c) (λ h k. pushed-some l c k)) (eqb c 10)
+  where
+    r : Reader
+    r = withLine (s .reader) l
+
+    e : Effect
+    e = lineRead r (s .table)
+
+    go : Prints cs (handle s l) newLine → Prints cs s (pushed l c) → (t : Bool)
+        → ended handle (fed handle (cond t (reading (handle s l) newLine) (reading s (pushed l c))) cs) .text
+        ≡ s .text ++ (let x = cond t (lineRead r (s .table)) (quiet r (pushed l c) (s .table)) in x .text ++ printedAll (x .reader) (x .table) cs)
+    go cut on true =
+        cut
+        ∙ ap (λ (m : Line). (s .text ++ e .text) ++ printedAll (withLine (e .reader) m) (e .table) cs) (sym (line-new r (s .table)))
+        ∙ append-assoc (s .text) (e .text) (printedAll (e .reader) (e .table) cs)
+    go cut on false = on
+
+prints-all : (cs : List ℕ) (s : Sofar) (l : Line) → Started s l → Prints cs s l
+prints-all [] s l h = prints-end s l h
+prints-all (c ∷ cs) s l h = prints-more c cs s l (λ t m k. prints-all cs t m k)
+
+-- ---- the lines, as they are kept
+
+later-kept : (kind n : ℕ) (wanted : List ℤ) (table cs : List ℕ) → laterText kind n wanted table (textOf (keptOf cs)) ≡ laterText kind n wanted table cs
+unfolding laterText
+later-kept kind n wanted table cs =
+    ap (λ (f : Stacked). cond (eqb (f .refusal) 0) (planText kind n wanted table (f .stack)) (refusalLine (f .refusal))) (kept-later kind n cs)
+
+-- after an accepted first frame each line is answered
+later-lines : (lines : List (List ℕ)) (s : Sofar) → s .reader .stage ≡ 1
+    → handled handle s (map keptOf lines) .text
+    ≡ s .text ++ laterTexts (s .reader .kind) (s .reader .n) (s .reader .wanted) (take (tableBytes (s .reader .kind) (s .reader .n)) (s .table)) lines
+unfolding handled handle laterTexts laterLine withLine
+later-lines [] s h = sym (append-nil (s .text))
+later-lines (cs ∷ lines) s h =
+    let kind = s .reader .kind in
+    let n = s .reader .n in
+    let wanted = s .reader .wanted in
+    let part = take (tableBytes kind n) (s .table) in
+    let r = withLine (s .reader) (keptOf cs) in
+    let e : laterLine r (s .table) ≡ lineRead r (s .table) = line-later r (s .table) (λ z. omega (arith, h, z)) h in
+    let next : Effect → Sofar = λ x. record { reader = x .reader; table = x .table; text = s .text ++ x .text } in
+    ap (λ (x : Effect). handled handle (next x) (map keptOf lines) .text) (sym e)
+    ∙ later-lines lines (next (laterLine r (s .table))) h
+    ∙ append-assoc (s .text) (laterText kind n wanted part (textOf (keptOf cs))) (laterTexts kind n wanted part lines)
+    ∙ ap (λ (t : List ℕ). s .text ++ (t ++ laterTexts kind n wanted part lines)) (later-kept kind n wanted part cs)
+
+-- after a refused one nothing is
+no-lines : (lines : List (List ℕ)) (s : Sofar) → s .reader .stage ≡ 2 → handled handle s (map keptOf lines) .text ≡ s .text
+unfolding handled handle quiet withLine
+no-lines [] s h = refl
+no-lines (cs ∷ lines) s h =
+    let r = withLine (s .reader) (keptOf cs) in
+    let e : quiet r newLine (s .table) ≡ lineRead r (s .table) = line-quiet r (s .table) (λ z. omega (arith, h, z)) (λ z. omega (arith, h, z)) in
+    let next : Effect → Sofar = λ x. record { reader = x .reader; table = x .table; text = s .text ++ x .text } in
+    ap (λ (x : Effect). handled handle (next x) (map keptOf lines) .text) (sym e)
+    ∙ no-lines lines (next (quiet r newLine (s .table))) h
+    ∙ append-nil (s .text)
+
+start : List ℕ → Sofar
+start table = record { reader = newReader; table = table; text = [] }
+
+first-lines : (table cs : List ℕ) (lines : List (List ℕ)) → handled handle (start table) (map keptOf (cs ∷ lines)) .text ≡ reportOf table (cs ∷ lines)
+unfolding handled handle start newReader withLine firstLine firstRead firstTaken firstLeft afterFirst reportOf
+first-lines table cs lines =
+    ap (λ (x : Effect). handled handle (next x) (map keptOf lines) .text)
+    (sym (line-first (withLine newReader (keptOf cs)) table refl) ∙ ap (λ (f : First). firstRead f table) (kept-first cs))
+    ∙ go (eqb (first .refusal) 0)
+  where
+    first : First
+    first = firstOf cs
+
+    end : List ℕ × Job
+    end = builtIn (first .kind) (first .n) (first .wanted) (first .size) table
+
+    next : Effect → Sofar
+    next x = record { reader = x .reader; table = x .table; text = x .text }
+
+    go : (t : Bool) → handled handle (next (cond t (firstTaken first table) (firstLeft first table))) (map keptOf lines) .text
+        ≡ cond t (headText (end .1) ++ laterTexts (first .kind) (first .n) (first .wanted) (take (tableBytes (first .kind) (first .n)) (end .0)) lines)
+        (refusalLine (first .refusal))
+    go true = later-lines lines (next (firstTaken first table)) refl
+    go false = no-lines lines (next (firstLeft first table)) refl
+
+-- an input that has a character has a line
+some-line : (c : ℕ) (cs : List ℕ) → (l : List ℕ) × (ls : List (List ℕ)) × (linesOf (c ∷ cs) ≡ l ∷ ls)
+unfolding linesOf inFirst
+some-line c cs = go (eqb c 10) (linesOf cs)
+  where
+    go : (t : Bool) (rest : List (List ℕ)) → (l : List ℕ) × (ls : List (List ℕ)) × (cond t ([] ∷ rest) (inFirst c rest) ≡ l ∷ ls)
+    go true rest = ([], rest, refl)
+    go false [] = (c ∷ [], [], refl)
+    go false (l ∷ ls) = (c ∷ l, ls, refl)
+
+-- no input is a first frame that is missing
+no-input : (table : List ℕ) → endRead newReader table .text ≡ refusalLine 16
+unfolding newReader keptOf pushedAll firstLine firstRead firstLeft firstOf firstRefusal bytesRefusal isFrame frameLimit isPairs all bytesOf
+no-input table =
+    ap (λ (x : Effect). x .text) (sym (end-missing newReader table refl) ∙ sym (line-first newReader table refl))
+    ∙ ap (λ (f : First). firstRead f table .text) (kept-first [])
+
+-- Read character by character, an input prints the report of its lines, whatever the table held.
+pub read-report : (table input : List ℕ) → printedAll newReader table input ≡ reportOf table (linesOf input)
+unfolding printedAll linesOf reportOf withLine newReader start
+read-report table [] = no-input table
+read-report table (c ∷ cs) =
+    let some = some-line c cs in
+    sym (prints-more c cs (start table) newLine (prints-all cs))
+    ∙ ap (λ (s : Sofar). s .text) (read-lines handle (start table) (c ∷ cs))
+    ∙ ap (λ (ls : List (List ℕ)). handled handle (start table) (map keptOf ls) .text) (some .2)
+    ∙ first-lines table (some .0) (some .1)
+    ∙ ap (reportOf table) (sym (some .2))

@@ -1,0 +1,12 @@
+-- `reports::input::with_line` meets its contract.
+use mathlib.Core.Path.{refl}
+use Rattle.reports.specs.Reader.{withLine}
+use Rattle.reports.proofs.input.with_line.Statement.{statement}
+use Rattle.reports.proofs.input.with_line.Tie as tie
+
+returns : tie.Need-returns
+unfolding withLine
+returns c = refl
+
+pub with-line-spec : {M : Type 1} → statement M
+with-line-spec = tie.close (tie.spec returns)

@@ -1,0 +1,106 @@
+-- The report of an input (document 01, "The report"), and how it is read character by character.
+--   reportOf table lines      what is printed of an input of these lines, with a table that held anything before
+--   Effect                    what comes of a character: the reader and the table after it, and what is printed
+--   byteRead, endRead         a character of the input, and its end
+--   printedAll                what is printed of an input, read so
+use mathlib.Core.Path.{_≡_}
+use mathlib.Core.Bool.{_||_, cond}
+use mathlib.Core.List.{List, [], _∷_, _++_}
+use Prim.Native.Nat.{ℕ}
+use lib.Dec.{ltb, eqb}
+use lib.IntN.{ℤ, pos}
+use lib.ListN.{take, replicate}
+use Rattle.frames.specs.Frame.{firstOf}
+use Rattle.frames.specs.Lines.{newLine, pushed, textOf}
+use Rattle.frames.specs.Report.{refusalLine, Wrote}
+use Rattle.frames.specs.declared.First.{First}
+use Rattle.frames.specs.declared.Line.{Line}
+use Rattle.reports.specs.Text.{tableBytes, builtIn, headText, laterText}
+use Rattle.reports.specs.declared.Printed.{Printed}
+use Rattle.reports.specs.declared.Reader.{Reader}
+
+-- ---- the report
+
+-- the later frames, each answered from the first frame's table
+unfoldable pub laterTexts : ℕ → ℕ → List ℤ → List ℕ → List (List ℕ) → List ℕ
+laterTexts kind n wanted table [] = []
+laterTexts kind n wanted table (cs ∷ lines) = laterText kind n wanted table cs ++ laterTexts kind n wanted table lines
+
+-- the first frame's refusal ends the run; no input at all is a first frame that is missing
+unfoldable pub reportOf : List ℕ → List (List ℕ) → List ℕ
+reportOf table [] = refusalLine 16
+reportOf table (cs ∷ lines) =
+    let first = firstOf cs in
+    let end = builtIn (first .kind) (first .n) (first .wanted) (first .size) table in
+    cond (eqb (first .refusal) 0)
+    (headText (end .1) ++ laterTexts (first .kind) (first .n) (first .wanted) (take (tableBytes (first .kind) (first .n)) (end .0)) lines)
+    (refusalLine (first .refusal))
+
+-- ---- character by character
+
+pub record Effect : Type 0 where
+  pub reader : Reader
+  pub table : List ℕ
+  pub text : List ℕ
+
+unfoldable pub newReader : Reader
+newReader = record { stage = 0; kind = 0; n = 0; wanted = replicate 12 (pos 0); line = newLine }
+
+-- the reader with another line in the making
+unfoldable pub withLine : Reader → Line → Reader
+withLine reader line =
+    record { stage = reader .stage; kind = reader .kind; n = reader .n; wanted = reader .wanted; line = line }
+
+unfoldable pub afterFirst : First → ℕ → Reader
+afterFirst first stage = record { stage = stage; kind = first .kind; n = first .n; wanted = first .wanted; line = newLine }
+
+-- an accepted first frame, whose table is built, and a refused one
+unfoldable pub firstTaken : First → List ℕ → Effect
+firstTaken first table =
+    let end = builtIn (first .kind) (first .n) (first .wanted) (first .size) table in
+    record { reader = afterFirst first 1; table = end .0; text = headText (end .1) }
+
+unfoldable pub firstLeft : First → List ℕ → Effect
+firstLeft first table = record { reader = afterFirst first 2; table = table; text = refusalLine (first .refusal) }
+
+unfoldable pub firstRead : First → List ℕ → Effect
+firstRead first table = cond (eqb (first .refusal) 0) (firstTaken first table) (firstLeft first table)
+
+unfoldable pub firstLine : Line → List ℕ → Effect
+firstLine line table = firstRead (firstOf (textOf line)) table
+
+unfoldable pub laterLine : Reader → List ℕ → Effect
+laterLine reader table =
+    record {
+      reader = withLine reader newLine;
+      table = table;
+      text = laterText (reader .kind) (reader .n) (reader .wanted) (take (tableBytes (reader .kind) (reader .n)) table) (textOf (reader .line));
+    }
+
+-- nothing is printed, and the line in the making is another
+unfoldable pub quiet : Reader → Line → List ℕ → Effect
+quiet reader line table = record { reader = withLine reader line; table = table; text = [] }
+
+-- the line in the making is whole
+unfoldable pub lineRead : Reader → List ℕ → Effect
+lineRead reader table =
+    cond (eqb (reader .stage) 0) (firstLine (reader .line) table)
+    (cond (eqb (reader .stage) 1) (laterLine reader table) (quiet reader newLine table))
+
+unfoldable pub byteRead : Reader → ℕ → List ℕ → Effect
+byteRead reader c table = cond (eqb c 10) (lineRead reader table) (quiet reader (pushed (reader .line) c) table)
+
+-- a last line may lack its end; with no line at all the first frame is missing
+unfoldable pub endRead : Reader → List ℕ → Effect
+endRead reader table =
+    cond (eqb (reader .stage) 0 || ltb 0 (reader .line .length)) (lineRead reader table) (quiet reader newLine table)
+
+unfoldable pub printedAll : Reader → List ℕ → List ℕ → List ℕ
+printedAll reader table [] = endRead reader table .text
+printedAll reader table (c ∷ cs) = let e = byteRead reader c table in e .text ++ printedAll (e .reader) (e .table) cs
+
+-- what code shows of an effect: the text stands at the front of the lent buffer
+pub record Shown (e : Effect) (r : Printed) (table before after : List ℕ) : Type 0 where
+  pub kept : table ≡ e .table
+  pub reads : r .reader ≡ e .reader
+  pub wrote : Wrote (e .text) before after (r .length)
