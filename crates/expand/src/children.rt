@@ -9,7 +9,6 @@ ghost use Rattle.stacks.specs.Stack.{isSize, stackCount};
 ghost use Rattle.stacks.specs.Turn.{turnsOf};
 use perm::kind;
 use perm::numbering;
-use perm::turning;
 
 // How many turns a kind and n have, which is how many children each stack has.
 pub fn turn_count(kind: u8, n: u8) -> u32
@@ -31,8 +30,7 @@ pub fn children_of(kind: u8, n: u8, index: u32) -> [u32; 12]
     let mut k = kind::first_turn(kind);
     let mut i: usize = 0;
     while k <= n {
-        let child = turning::turned(kind, n, stack, k);
-        children[i] = numbering::rank(kind, n, child);
+        children[i] = numbering::rank_turned(kind, n, stack, index, k);
         k += 1;
         i += 1;
     }

@@ -5,5 +5,6 @@ pub mod Sets
 pub mod Places
 pub mod Ranking
 pub mod Unranking
+pub mod Below
 pub mod Group
 pub mod Refusals

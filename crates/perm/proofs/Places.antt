@@ -2,7 +2,7 @@
 use mathlib.Core.Path.{_≡_, refl, sym, ap, _∙_, subst}
 use mathlib.Core.Bool.{Bool, true, false, _&&_}
 use mathlib.Core.List.{List, [], _∷_, reverse, reverse-append}
-use Prim.Native.Nat.{ℕ, zero, suc, _+_, _-_, _*_, _%_, _^_, _≤_, _<_}
+use Prim.Native.Nat.{ℕ, zero, suc, _+_, _-_, _^_, _≤_, _<_}
 use native.Mathlib.Numerals.{add-one}
 use native.Mathlib.Omega.{arith}
 use lib.Dec.{leb, eqb}
@@ -18,7 +18,7 @@ use Rattle.base.proofs.Tests.{and-left, and-right, and-fails-left}
 use Rattle.stacks.specs.Index.{coat}
 use Rattle.stacks.specs.Stack.{orderOf, eachOnce}
 use Rattle.perm.specs.Set.{bit}
-use Rattle.perm.proofs.Sets.{Holds, holds-none, holds-put, put-lt, shifted}
+use Rattle.perm.proofs.Sets.{Holds, holds-none, holds-put, put-lt}
 
 pub order-length : (n : ℕ) (s : List ℤ) → n ≤ length s → length (orderOf n s) ≡ n
 unfolding orderOf
@@ -110,20 +110,19 @@ module _ (n : ℕ) (xs : List ℕ) (met p : ℕ) (m : Met n xs met p) where
     pub met-stop : isNew n met x ≡ false → false ≡ eachOnce n [] xs
     met-stop k = sym (met-left ∙ and-fails-left (isNew n met x) (eachOnce n (metAt xs (p + 1)) (drop (p + 1) xs)) k)
 
-    -- the set with the pane added, as the machine shifts it
-    pub met-step : n ≤ 12 → isNew n met x ≡ true → Met n xs (met + 1 * 2 ^ (x - 1) % 4294967296) (p + 1)
+    -- the set with the pane added
+    pub met-step : isNew n met x ≡ true → Met n xs (met + 2 ^ (x - 1)) (p + 1)
     unfolding Holds
-    met-step l k =
+    met-step k =
         let f = new-facts n met x k in
         let y : suc (x - 1) ≡ x = omega arith in
         let more : metAt xs (p + 1) ≡ x ∷ metAt xs p = rw e (met-more xs p h) in
-        rw (shifted (x - 1) (omega arith))
-        (record {
+        record {
           holds = rw more (subst (λ (z : ℕ). Holds (met + 2 ^ (x - 1)) (z ∷ metAt xs p)) y (holds-put met (metAt xs p) (x - 1) (m .holds) (sym (m .holds (x - 1)) ∙ f .2)));
           bound = put-lt n met (x - 1) (omega arith) (m .bound) (f .2);
           real = rw (more, tally-false (eqb 0) x (metAt xs p) (ne-eqb 0 x (omega arith))) (m .real);
           left = met-left ∙ ap (λ (b : Bool). b && eachOnce n (metAt xs (p + 1)) (drop (p + 1) xs)) k;
-        })
+        }
 
 -- a coat that is down is no plain pane's
 pub coat-up : (z : ℤ) → (coat z ≡ 1 → ⊥) → nonNeg z ≡ true

@@ -73,6 +73,9 @@ module _ {z : ℤ} (f : SFits w8 z) where
 pub place-back : (z : ℤ) → mag z < 2 ^ hbits w8 → toZ w8 (ofZ w8 z) ≡ z
 place-back z h = toZ-ofZ {w = w8} {z = z} (record { sfits = h })
 
+pub small-back : (z : ℤ) → natAbs z ≤ 12 → toZ w8 (ofZ w8 z) ≡ z
+small-back z h = place-back z (omega (arith, mag-abs z))
+
 -- flipping by the kind's test
 pub flip-coated : (kind : ℕ) (z : ℤ) → kind ≡ 1 → negℤ z ≡ flip kind z
 unfolding flip isCoated
@@ -93,4 +96,4 @@ pane-down x (suc bit) h = refl
 
 -- a pane that was made so is written and read back as it is
 pub pane-back : (x bit : ℕ) (z : ℤ) → x ≤ 12 → z ≡ paneWith x bit → toZ w8 (ofZ w8 z) ≡ paneWith x bit
-pane-back x bit z h e = place-back z (omega (arith, mag-abs z, ap natAbs e, pane-number x bit)) ∙ e
+pane-back x bit z h e = small-back z (omega (arith, ap natAbs e, pane-number x bit)) ∙ e

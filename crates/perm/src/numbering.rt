@@ -1,32 +1,80 @@
-// The lexicographic numbering of stacks, each way: rank and unrank.
+// The lexicographic numbering of stacks, each way: rank and unrank; and the rank after a turn.
 ghost use mathlib.Core.Bool.{true};
 ghost use mathlib.Core.Path.{_≡_};
-ghost use Prim.Native.Nat.{_<_};
+ghost use Prim.Native.Nat.{_≤_, _<_};
+ghost use Rattle.perm.specs.Ranking.{PlaceFits, placeRanked};
 ghost use Rattle.stacks.specs.Index.{rankOf, stackAt};
 ghost use Rattle.stacks.specs.Stack.{isSize, isStack, stackCount};
+ghost use Rattle.stacks.specs.Turn.{turnOf};
 use crate::kind;
 use crate::place;
 use crate::set;
 
-// The index of a stack. One pass and no division: each digit of the factorial base is added as the pane is met, and the coats beside it.
+// What ranking has met: the panes as a set, and the order and the coats as far as they are met.
+pub struct Ranking {
+    pub met: u32,
+    pub order: u32,
+    pub coats: u32,
+}
+
+// One place more, with `left` places from it on. No division: each digit of the factorial base is added as the pane is met, and the coat beside it.
+fn rank_place(above: Ranking, left: u32, x: i8) -> Ranking
+    requires { ⌜ PlaceFits above left x ⌝ }
+    ensures { λ r. ⌜ r ≡ placeRanked above left x ⌝ }
+{
+    let pane = place::magnitude(x) - 1;
+    let digit = pane - set::ones_below(above.met, pane);
+    Ranking {
+        met: above.met + (1 << pane),
+        order: above.order * left + digit,
+        coats: above.coats * 2 + place::coat_bit(x),
+    }
+}
+
+// The index of a stack.
 pub fn rank(kind: u8, n: u8, stack: [i8; 12]) -> u32
     requires { ⌜ (isSize kind n ≡ true) × (isStack kind n stack ≡ true) ⌝ }
     ensures { λ r. ⌜ r ≡ rankOf kind n stack ⌝ }
 {
     let top = n as u32;
-    let mut met: u32 = 0;
-    let mut order: u32 = 0;
-    let mut coats: u32 = 0;
+    let mut above = Ranking {
+        met: 0,
+        order: 0,
+        coats: 0,
+    };
     let mut p: u32 = 0;
     while p < top {
-        let x = stack[p as usize];
-        let pane = place::magnitude(x) - 1;
-        order = order * (top - p) + (pane - set::ones_below(met, pane));
-        coats = coats * 2 + place::coat_bit(x);
-        met += 1 << pane;
+        above = rank_place(above, top - p, stack[p as usize]);
         p += 1;
     }
-    order * kind::coatings_of(kind, n) + coats
+    above.order * kind::coatings_of(kind, n) + above.coats
+}
+
+// The index of a stack after turn k. Only the group is ranked: the places below it keep their digits and coats, which `index` has.
+pub fn rank_turned(kind: u8, n: u8, stack: [i8; 12], index: u32, k: u8) -> u32
+    requires { ⌜ (isSize kind n ≡ true) × (isStack kind n stack ≡ true) × (index ≡ rankOf kind n stack) × (k ≤ n) ⌝ }
+    ensures { λ r. ⌜ r ≡ rankOf kind n (turnOf kind k stack) ⌝ }
+{
+    let top = n as u32;
+    let group = k as u32;
+    let mut above = Ranking {
+        met: 0,
+        order: 0,
+        coats: 0,
+    };
+    let mut p: u32 = 0;
+    while p < group {
+        let x = place::flipped(kind, stack[(group - 1 - p) as usize]);
+        above = rank_place(above, top - p, x);
+        p += 1;
+    }
+    let below = top - group;
+    let ways = kind::coatings_of(kind, n);
+    let orders = kind::factorial(below);
+    let order = above.order * orders + index / ways % orders;
+    let weight: u32 = 1 << below;
+    let coats = above.coats * weight + index % ways % weight;
+    order * ways + coats
 }
 
 // The stack at an index. The free panes are a set: the digit says which of its ones stands next.

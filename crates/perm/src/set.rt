@@ -29,14 +29,17 @@ pub fn is_new(n: u8, met: u32, pane: u32) -> bool
     (met >> (pane - 1)) % 2 == 0
 }
 
-// The place of the set's one that has d ones below it. It is no lower than d, and the ones up to a place only rise with the place.
+// The place of the set's one that has d ones below it. It is no lower than d. Where c ones stand up to v, d + 1 - c are missing: each place
+// has at most one, so a jump by that many places never passes the one sought.
 pub fn nth_one(set: u32, d: u32) -> u32
     requires { ⌜ (set < 4096) × (d < ones set) ⌝ }
     ensures { λ r. ⌜ NthOne set d r ⌝ }
 {
     let mut v = d;
-    while ones_below(set, v + 1) <= d {
-        v += 1;
+    let mut c = ones_below(set, v + 1);
+    while c <= d {
+        v += d + 1 - c;
+        c = ones_below(set, v + 1);
     }
     v
 }

@@ -47,7 +47,7 @@ module _ (kind n : ℕ) (s : List ℤ) (size : isSize kind n ≡ true) (h : isSt
       let zeros : drop n s ≡ replicate (length (drop n s)) (pos 0) = unused-zero (drop n s) (f .unused) in
       sym (take-append-drop n s) ∙ ap (λ l. take n s ++ l) (zeros ∙ ap (λ m. replicate m (pos 0)) (length-drop n s ∙ ap (λ m. m - n) (f .twelve)))
 
-  coatBits-below : coatBits (take n s) < coatings kind n
+  pub coatBits-below : coatBits (take n s) < coatings kind n
   unfolding coatings
   coatBits-below = go (isCoated kind) (stack-facts kind n s h .coats)
     where

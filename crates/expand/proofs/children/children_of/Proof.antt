@@ -1,14 +1,16 @@
 -- `expand::children::children_of` meets its contract. The loop's invariant: the first i children, and zeros after them.
 use mathlib.Core.Path.{_≡_, sym, ap, _∙_}
+use mathlib.Core.List.{List}
+use lib.IntN.{ℤ}
 use Prim.Native.Nat.{_+_, _-_, _≤_}
 use native.Mathlib.Omega.{arith}
 use borrow.Author.Needs.{needs}
 use Rattle.stacks.specs.Turn.{firstTurn, turnOf}
-use Rattle.stacks.specs.Index.{rankOf, stackAt}
+use Rattle.stacks.specs.Index.{rankOf}
 use Rattle.stacks.specs.Stack.{isStack}
-use Rattle.stacks.proofs.Numbering.{unrank-stack}
+use Rattle.stacks.proofs.Numbering.{unrank-stack, rank-unrank}
 use Rattle.stacks.proofs.Sizes.{size-twelve}
-use Rattle.stacks.proofs.TurnLaws.{first-pos, turn-stack}
+use Rattle.stacks.proofs.TurnLaws.{first-pos}
 use Rattle.expand.proofs.Filling.{filledTo, first-within, filled-none, filled-more, filled-all}
 use Rattle.expand.proofs.children.children_of.Statement.{statement}
 use Rattle.expand.proofs.children.children_of.Tie as tie
@@ -38,29 +40,17 @@ loop-holds c =
       sym (filled-none (s .args .kind) (s .args .n) (s .args .index)),
     )
 
-turned-requires : tie.Need-turned-requires Inv-loop μ-loop
-turned-requires c κs =
-    let s = c .before .before .before .before in (
+rank-turned-requires : tie.Need-rank-turned-requires Inv-loop μ-loop
+rank-turned-requires c κs =
+    let s = c .before .before .before .before in
+    let kind = s .args .kind in
+    let n = s .args .n in
+    let index = s .args .index in
+    let e = c .before .before .before .unrank .ensures in (
       s .pre .0,
-      ap (isStack (s .args .kind) (s .args .n)) (c .before .before .before .unrank .ensures)
-          ∙ unrank-stack (s .args .kind) (s .args .n) (s .args .index) (s .pre .0) (s .pre .1),
+      ap (isStack kind n) e ∙ unrank-stack kind n index (s .pre .0) (s .pre .1),
+      sym (ap (rankOf kind n) e ∙ rank-unrank kind n index (s .pre .0) (s .pre .1)),
       omega arith,
-    )
-
-turned-is : (c : tie.After-turned Inv-loop μ-loop)
-    → let s = c .before .before .before .before .before in
-    c .turned .result ≡ turnOf (s .args .kind) (c .before .before .loop .k) (stackAt (s .args .kind) (s .args .n) (s .args .index))
-turned-is c =
-    let s = c .before .before .before .before .before in
-    c .turned .ensures ∙ ap (turnOf (s .args .kind) (c .before .before .loop .k)) (c .before .before .before .before .unrank .ensures)
-
-rank-requires : tie.Need-rank-requires Inv-loop μ-loop
-rank-requires c κs =
-    let s = c .before .before .before .before .before in (
-      s .pre .0,
-      ap (isStack (s .args .kind) (s .args .n)) (turned-is c)
-          ∙ turn-stack (s .args .kind) (s .args .n) (s .pre .0) (c .before .before .loop .k) (stackAt (s .args .kind) (s .args .n) (s .args .index)) (omega arith)
-          (unrank-stack (s .args .kind) (s .args .n) (s .args .index) (s .pre .0) (s .pre .1)),
     )
 
 mul-children : tie.Need-mul-children Inv-loop μ-loop
@@ -80,18 +70,19 @@ loop-less c = omega arith
 
 loop-again : tie.Need-loop-again Inv-loop μ-loop
 loop-again c =
-    let a = c .before .before .before in
+    let a = c .before .before in
     let s = a .before .before .before in
     let inv = a .loop .inv in (
       inv .0,
       omega arith,
       omega arith,
       inv .3,
-      filled-more (s .args .kind) (s .args .n) (s .args .index) (a .loop .children) (a .loop .k) (a .loop .i) (c .rank .result) (s .pre .0)
+      filled-more (s .args .kind) (s .args .n) (s .args .index) (a .loop .children) (a .loop .k) (a .loop .i) (c .rank-turned .result) (s .pre .0)
           (inv .4)
           (inv .2)
           (omega arith)
-          (c .rank .ensures ∙ ap (rankOf (s .args .kind) (s .args .n)) (turned-is (c .before))),
+          (c .rank-turned .ensures
+          ∙ ap (λ (t : List ℤ). rankOf (s .args .kind) (s .args .n) (turnOf (s .args .kind) (a .loop .k) t)) (a .before .before .unrank .ensures)),
     )
 
 returns : tie.Need-returns Inv-loop μ-loop
@@ -112,8 +103,7 @@ children-of-spec =
     unrank-requires
     first-turn-requires
     loop-holds
-    turned-requires
-    rank-requires
+    rank-turned-requires
     mul-children
     array-write-children
     add-k

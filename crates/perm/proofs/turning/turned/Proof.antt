@@ -1,17 +1,14 @@
 -- `perm::turning::turned` meets its contract. The loop's invariant: the group's first p places are turned, and the rest is as it was.
-use mathlib.Core.Path.{_≡_, refl, ap, _∙_}
+use mathlib.Core.Path.{_≡_, refl}
 use mathlib.Core.List.{_++_}
-use Prim.Native.Nat.{ℕ, _-_, _≤_}
+use Prim.Native.Nat.{_-_, _≤_}
 use native.Mathlib.Omega.{arith}
-use lib.IntN.{pos, natAbs}
-use lib.ListN.{length, getD, take, drop}
+use lib.ListN.{length, take, drop}
 use mir.Syntax.{w8}
 use mir.Val.{toZ, ofZ}
 use borrow.Author.Needs.{needs}
-use Rattle.stacks.specs.Turn.{flip}
 use Rattle.stacks.proofs.Sizes.{size-twelve}
-use Rattle.perm.proofs.Signed.{place-back}
-use Rattle.perm.proofs.Group.{groupOf, pane-small, flip-back, turned-step, turned-end}
+use Rattle.perm.proofs.Group.{groupOf, pane-read, pane-flipped, turned-step, turned-end}
 use Rattle.perm.proofs.turning.turned.Statement.{statement}
 use Rattle.perm.proofs.turning.turned.Tie as tie
 
@@ -34,19 +31,11 @@ sub-flipped-2 c = omega arith
 array-copy-out-flipped : tie.Need-array-copy-out-flipped Inv-loop μ-loop
 array-copy-out-flipped c = omega arith
 
--- the pane that comes to place p is read as it is, and is small
-pane-is : (c : tie.After-flipped-arg Inv-loop μ-loop)
-    → let a = c .before .before in
-    let x = getD (a .before .args .t3) (a .before .args .k - 1 - a .loop .p) (pos 0) in (toZ w8 (ofZ w8 x) ≡ x) × (natAbs x ≤ 12)
-pane-is c =
-    let a = c .before .before in
-    let i : ℕ = a .before .args .k - 1 - a .loop .p in (
-      place-back (getD (a .before .args .t3) i (pos 0)) (c .flipped-arg .given),
-      omega (arith, pane-small (a .before .args .kind) (a .before .args .n) (a .before .args .t3) (a .before .pre .1) i (omega arith)),
-    )
-
 flipped-requires : tie.Need-flipped-requires Inv-loop μ-loop
-flipped-requires c κs = omega (arith, ap natAbs (pane-is c .0), pane-is c .1)
+flipped-requires c κs =
+    let a = c .before .before in
+    pane-read (a .before .args .kind) (a .before .args .n) (a .before .args .t3) (a .before .pre .1) (a .loop .inv .2) (a .before .args .k) (a .loop .p)
+    (a .loop .inv .1) (c .before .loop-test .taken)
 
 array-set-from-next : tie.Need-array-set-from-next Inv-loop μ-loop
 array-set-from-next c = omega arith
@@ -63,14 +52,14 @@ loop-again c =
     let kind = a .before .args .kind in
     let k = a .before .args .k in
     let s = a .before .args .t3 in
-    let x = getD s (k - 1 - a .loop .p) (pos 0) in
-    let f = pane-is (c .before) in (
-      a .loop .inv .0,
-      a .loop .inv .1,
-      a .loop .inv .2,
+    let inv = a .loop .inv in
+    let here = c .before .before .loop-test .taken in (
+      inv .0,
+      inv .1,
+      inv .2,
       omega arith,
-      turned-step kind k s (omega arith) (a .loop .p) (a .loop .next) (toZ w8 (ofZ w8 (c .flipped .result))) (c .before .before .loop-test .taken) (a .loop .inv .4)
-          (flip-back kind x (c .flipped .result) (f .1) (c .flipped .ensures ∙ ap (flip kind) (f .0))),
+      turned-step kind k s (omega arith) (a .loop .p) (a .loop .next) (toZ w8 (ofZ w8 (c .flipped .result))) here (inv .4)
+          (pane-flipped kind (a .before .args .n) s (a .before .pre .1) (inv .2) k (a .loop .p) (inv .1) here (c .flipped .result) (c .flipped .ensures)),
     )
 
 returns : tie.Need-returns Inv-loop μ-loop

@@ -8,7 +8,7 @@ use borrow.Author.Tests.{not-true, not-false}
 use lib.IntN.{pos, natAbs}
 use lib.ListN.{length, getD}
 use Rattle.stacks.specs.Stack.{orderOf}
-use Rattle.perm.proofs.Sets.{pow-twelve}
+use Rattle.perm.proofs.Sets.{pow-twelve, shifted}
 use Rattle.perm.proofs.Signed.{place-back}
 use Rattle.perm.proofs.Places.{Met, isNew, new-facts, met-start, met-step, met-stop, met-end, order-at, order-length}
 use Rattle.perm.proofs.valid.has_panes.Statement.{statement}
@@ -72,8 +72,9 @@ met-next c =
     let a = c .before .before .before .before .before in
     let n = a .before .args .n in
     let s = a .before .args .t2 in
-    met-step n (orderOf n s) (a .loop .met) (a .loop .p) (a .loop .inv .2) (c .before .before .magnitude .result) (omega (arith, order-length n s (omega arith)))
-    (pane-is (c .before)) (omega arith) (is-new c)
+    let x = c .before .before .magnitude .result in
+    rw (shifted (x - 1) (omega (arith, new-facts n (a .loop .met) x (is-new c) .1)))
+    (met-step n (orderOf n s) (a .loop .met) (a .loop .p) (a .loop .inv .2) x (omega (arith, order-length n s (omega arith))) (pane-is (c .before)) (is-new c))
 
 add-met : tie.Need-add-met Inv-loop μ-loop
 add-met c =
