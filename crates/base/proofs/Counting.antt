@@ -81,6 +81,13 @@ module _ {A B : Type 0} (p : B → Bool) (f : A → B) where
   all-map [] = refl
   all-map (x ∷ xs) = ap (λ (t : Bool). p (f x) && t) (all-map xs)
 
+-- an element that passes is counted
+pub tally-at : {A : Type 0} (p : A → Bool) (xs : List A) (i : ℕ) (d : A) → i < length xs → p (getD xs i d) ≡ true → 0 < tally p xs
+unfolding tally
+tally-at p [] i d h e = absurd (not-suc-le-zero h)
+tally-at p (x ∷ xs) zero d h e = rw e (omega arith)
+tally-at p (x ∷ xs) (suc i) d h e = omega (arith, tally-at p xs i d (le-of-suc-le-suc h) e)
+
 pub tally-le : {A : Type 0} (p : A → Bool) (xs : List A) → tally p xs ≤ length xs
 unfolding tally
 tally-le p [] = le-refl 0

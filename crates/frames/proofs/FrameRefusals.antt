@@ -13,11 +13,10 @@ use borrow.Author.Tests.{le-leb, lt-leb, leb-true, eq-eqb, ne-eqb, eqb-true}
 use Rattle.base.specs.Words.{unless}
 use Rattle.base.proofs.Tests.{unless-zero}
 use Rattle.stacks.specs.Operations.{sizeRefusal, stacked}
-use Rattle.stacks.specs.Stack.{isSize, isStack, stackCount}
+use Rattle.stacks.specs.Stack.{isKind, isSize, isStack, stackCount}
 use Rattle.stacks.proofs.Panes.{stack-facts}
 use Rattle.stacks.proofs.Sizes.{size-twelve}
 use Rattle.search.specs.Segments.{isSegmentSize}
-use Rattle.perm.proofs.Refusals.{size-passes}
 use Rattle.frames.specs.Frame.{frameLimit, stackLimit, isFrame, paneOf, placesOf, kindIn, panesIn, wantedIn, sizeIn, fieldsRefusal, bytesRefusal, firstRefusal, firstWith, firstOf, laterRefusal, laterOf}
 use Rattle.frames.specs.Hex.{bytesOf, numberOf}
 use Rattle.frames.specs.Lines.{textOf, keptOf}
@@ -104,20 +103,40 @@ pub record FirstPasses (cs : List ℕ) : Type 0 where
   pub two : 2 ≤ length (bytesOf cs)
   pub size : isSize (kindIn (bytesOf cs)) (panesIn (bytesOf cs)) ≡ true
   pub long : length (bytesOf cs) ≡ panesIn (bytesOf cs) + 6
+  pub is-kind : isKind (kindIn (bytesOf cs)) ≡ true
+  pub few : stackCount (kindIn (bytesOf cs)) (panesIn (bytesOf cs)) ≤ 46080
+  pub stack : isStack (kindIn (bytesOf cs)) (panesIn (bytesOf cs)) (wantedIn (panesIn (bytesOf cs)) (bytesOf cs)) ≡ true
+  pub segments : isSegmentSize (stackCount (kindIn (bytesOf cs)) (panesIn (bytesOf cs))) (sizeIn (panesIn (bytesOf cs)) (bytesOf cs)) ≡ true
 
 pub first-passes : (cs : List ℕ) → firstRefusal cs ≡ 0 → FirstPasses cs
-unfolding firstRefusal bytesRefusal fieldsRefusal
+unfolding firstRefusal bytesRefusal fieldsRefusal sizeRefusal stackLimit
 first-passes cs h =
     let bs = bytesOf cs in
     let kind = kindIn bs in
     let n = panesIn bs in
+    let N = stackCount kind n in
+    let last : ℕ = unless (isSegmentSize N (sizeIn n bs)) 5 0 in
+    let stack : ℕ = unless (isStack kind n (wantedIn n bs)) 3 last in
+    let few : ℕ = unless (leb N 46080) 16 stack in
+    let long : ℕ = unless (eqb (length bs) (n + 6)) 16 few in
+    let size : ℕ = unless (isSize kind n) 2 long in
     let a = unless-zero (isFrame cs) 15 (bytesRefusal bs) h in
-    let b = unless-zero (leb 2 (length bs)) 15 (sizeRefusal kind n (fieldsRefusal kind n bs)) (a .1) in
-    let c = size-passes kind n (fieldsRefusal kind n bs) (b .1) in
-    let d = unless-zero (eqb (length bs) (n + 6)) 15
-    (unless (leb (stackCount kind n) stackLimit) 16
-    (unless (isStack kind n (wantedIn n bs)) 3 (unless (isSegmentSize (stackCount kind n) (sizeIn n bs)) 5 0))) (c .1) in
-    record { frame = a .0; two = leb-true 2 (length bs) (b .0); size = c .0; long = eqb-true (length bs) (n + 6) (d .0) }
+    let b = unless-zero (leb 2 (length bs)) 15 (unless (isKind kind) 1 size) (a .1) in
+    let c = unless-zero (isKind kind) 0 size (b .1) in
+    let d = unless-zero (isSize kind n) 1 long (c .1) in
+    let e = unless-zero (eqb (length bs) (n + 6)) 15 few (d .1) in
+    let f = unless-zero (leb N 46080) 15 stack (e .1) in
+    let g = unless-zero (isStack kind n (wantedIn n bs)) 2 last (f .1) in
+    record {
+      frame = a .0;
+      two = leb-true 2 (length bs) (b .0);
+      size = d .0;
+      long = eqb-true (length bs) (n + 6) (e .0);
+      is-kind = c .0;
+      few = leb-true N 46080 (f .0);
+      stack = g .0;
+      segments = unless-zero (isSegmentSize N (sizeIn n bs)) 4 0 (g .1) .0;
+    }
 
 -- the fields of an accepted first frame, as its line's characters have them
 module _ (line : Line) (w : length (line .chars) ≡ 64) (h : firstRefusal (textOf line) ≡ 0) where

@@ -3,12 +3,12 @@ use mathlib.Core.Path.{_≡_, refl, sym, ap, _∙_}
 use mathlib.Core.Bool.{Bool, true, false}
 use mathlib.Core.List.{List}
 use Prim.Native.Nat.{ℕ, zero, suc, _<_}
-use native.Mathlib.Omega.{arith}
 use lib.Dec.{ltb}
 use lib.IntN.{ℤ, pos}
 use lib.ListN.{replicate}
 use borrow.Author.Tests.{ltb-true, ne-eqb}
 use Rattle.base.specs.Words.{unless}
+use Rattle.base.proofs.Tests.{unless-zero}
 use Rattle.stacks.specs.Operations.{sizeRefusal, indexRefusal, stackRefusal, turnRefusal, indexed, stacked}
 use Rattle.stacks.specs.declared.Indexed.{Indexed}
 use Rattle.stacks.specs.declared.Stacked.{Stacked}
@@ -85,30 +85,26 @@ module _ (q r : ℕ) (e : r ≡ q) where
 
 -- ---- a row that refuses nothing
 
-passes : (t : Bool) (r rest : ℕ) → unless t (suc r) rest ≡ 0 → (t ≡ true) × (rest ≡ 0)
-passes true r rest h = (refl, h)
-passes false r rest h = absurd (omega arith)
-
 pub size-passes : (kind n rest : ℕ) → sizeRefusal kind n rest ≡ 0 → (isSize kind n ≡ true) × (rest ≡ 0)
 unfolding sizeRefusal
-size-passes kind n rest h = passes (isSize kind n) 1 rest (passes (isKind kind) 0 (unless (isSize kind n) 2 rest) h .1)
+size-passes kind n rest h = unless-zero (isSize kind n) 1 rest (unless-zero (isKind kind) 0 (unless (isSize kind n) 2 rest) h .1)
 
 pub index-passes : (kind n : ℕ) (s : List ℤ) → indexRefusal kind n s ≡ 0 → (isSize kind n ≡ true) × (isStack kind n s ≡ true)
 unfolding indexRefusal
 index-passes kind n s h =
     let f = size-passes kind n (unless (isStack kind n s) 3 0) h in
-    (f .0, passes (isStack kind n s) 2 0 (f .1) .0)
+    (f .0, unless-zero (isStack kind n s) 2 0 (f .1) .0)
 
 pub stack-passes : (kind n i : ℕ) → stackRefusal kind n i ≡ 0 → (isSize kind n ≡ true) × (i < stackCount kind n)
 unfolding stackRefusal
 stack-passes kind n i h =
     let f = size-passes kind n (unless (ltb i (stackCount kind n)) 4 0) h in
-    (f .0, ltb-true i (stackCount kind n) (passes (ltb i (stackCount kind n)) 3 0 (f .1) .0))
+    (f .0, ltb-true i (stackCount kind n) (unless-zero (ltb i (stackCount kind n)) 3 0 (f .1) .0))
 
 pub turn-passes : (kind n : ℕ) (s : List ℤ) (k : ℕ) → turnRefusal kind n s k ≡ 0
     → (isSize kind n ≡ true) × (isStack kind n s ≡ true) × (isTurn kind n k ≡ true)
 unfolding turnRefusal
 turn-passes kind n s k h =
     let f = size-passes kind n (unless (isStack kind n s) 3 (unless (isTurn kind n k) 4 0)) h in
-    let g = passes (isStack kind n s) 2 (unless (isTurn kind n k) 4 0) (f .1) in
-    (f .0, g .0, passes (isTurn kind n k) 3 0 (g .1) .0)
+    let g = unless-zero (isStack kind n s) 2 (unless (isTurn kind n k) 4 0) (f .1) in
+    (f .0, g .0, unless-zero (isTurn kind n k) 3 0 (g .1) .0)

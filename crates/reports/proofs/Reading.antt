@@ -22,7 +22,7 @@ use Rattle.frames.specs.declared.Line.{Line}
 use Rattle.frames.proofs.LineLaws.{read-lines}
 use Rattle.frames.proofs.FrameRefusals.{kept-first, kept-later}
 use Rattle.reports.specs.Text.{tableBytes, builtIn, headText, planText, laterText}
-use Rattle.reports.specs.Reader.{laterTexts, reportOf, Effect, newReader, withLine, afterFirst, firstTaken, firstLeft, firstRead, firstLine, laterLine, quiet, lineRead, byteRead, endRead, printedAll}
+use Rattle.reports.specs.Reader.{laterTexts, reportFrom, reportOf, Effect, newReader, withLine, afterFirst, firstTaken, firstLeft, firstRead, firstLine, laterLine, quiet, lineRead, byteRead, endRead, printedAll}
 use Rattle.reports.specs.declared.Reader.{Reader}
 use Rattle.reports.proofs.ReadLaws.{line-first, line-later, line-quiet, end-missing, end-last, end-quiet}
 
@@ -176,7 +176,7 @@ start : List ℕ → Sofar
 start table = record { reader = newReader; table = table; text = [] }
 
 first-lines : (table cs : List ℕ) (lines : List (List ℕ)) → handled handle (start table) (map keptOf (cs ∷ lines)) .text ≡ reportOf table (cs ∷ lines)
-unfolding handled handle start newReader withLine firstLine firstRead firstTaken firstLeft afterFirst reportOf
+unfolding handled handle start newReader withLine firstLine firstRead firstTaken firstLeft afterFirst reportFrom reportOf
 first-lines table cs lines =
     ap (λ (x : Effect). handled handle (next x) (map keptOf lines) .text)
     (sym (line-first (withLine newReader (keptOf cs)) table refl) ∙ ap (λ (f : First). firstRead f table) (kept-first cs))

@@ -1,3 +1,4 @@
--- What a report says, and how it reads its input.
+-- What a report says, how it reads its input, and what we promise of it.
 pub mod Text
 pub mod Reader
+pub mod Promise

@@ -26,15 +26,18 @@ unfoldable pub laterTexts : ℕ → ℕ → List ℤ → List ℕ → List (List
 laterTexts kind n wanted table [] = []
 laterTexts kind n wanted table (cs ∷ lines) = laterText kind n wanted table cs ++ laterTexts kind n wanted table lines
 
--- the first frame's refusal ends the run; no input at all is a first frame that is missing
-unfoldable pub reportOf : List ℕ → List (List ℕ) → List ℕ
-reportOf table [] = refusalLine 16
-reportOf table (cs ∷ lines) =
-    let first = firstOf cs in
+-- the first frame's refusal, which ends the run, or what its build found and the later frames' answers
+unfoldable pub reportFrom : First → List ℕ → List (List ℕ) → List ℕ
+reportFrom first table lines =
     let end = builtIn (first .kind) (first .n) (first .wanted) (first .size) table in
     cond (eqb (first .refusal) 0)
     (headText (end .1) ++ laterTexts (first .kind) (first .n) (first .wanted) (take (tableBytes (first .kind) (first .n)) (end .0)) lines)
     (refusalLine (first .refusal))
+
+-- no input at all is a first frame that is missing
+unfoldable pub reportOf : List ℕ → List (List ℕ) → List ℕ
+reportOf table [] = refusalLine 16
+reportOf table (cs ∷ lines) = reportFrom (firstOf cs) table lines
 
 -- ---- character by character
 

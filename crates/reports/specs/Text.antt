@@ -2,24 +2,20 @@
 --   isReported kind n               the kinds and sizes that a report is made of
 --   tableBytes, logWords            how much of its table and log area the build of a first frame is lent
 --   laterText kind n wanted table cs  what a later frame of characters cs is answered
---   Answers                         what we promise of it
-use mathlib.Core.Path.{_≡_}
 use mathlib.Core.Bool.{Bool, _&&_, cond}
 use mathlib.Core.List.{List, _++_}
 use Prim.Native.Nat.{ℕ, _*_}
 use lib.Dec.{leb, ltb, eqb}
 use lib.IntN.{ℤ}
-use lib.ListN.{length, take, drop, replicate}
+use lib.ListN.{take, drop, replicate}
 use Rattle.stacks.specs.Stack.{isSize, stackCount}
-use Rattle.stacks.specs.Turn.{Road, Fewest}
 use Rattle.search.specs.Entries.{bytesFor}
 use Rattle.search.specs.Drive.{buildOf}
 use Rattle.search.specs.JobState.{levelOf}
 use Rattle.search.specs.Plan.{planOf, planLimit}
 use Rattle.search.specs.Segments.{segmentCount}
 use Rattle.search.specs.declared.Job.{Job}
-use Rattle.frames.specs.Frame.{stackLimit, reportRoom, placesOf, laterOf}
-use Rattle.frames.specs.Hex.{bytesOf}
+use Rattle.frames.specs.Frame.{stackLimit, reportRoom, laterOf}
 use Rattle.frames.specs.Report.{levelLines, deepestLine, planLine, refusalLine}
 
 unfoldable pub isReported : ℕ → ℕ → Bool
@@ -55,10 +51,3 @@ unfoldable pub laterText : ℕ → ℕ → List ℤ → List ℕ → List ℕ �
 laterText kind n wanted table cs =
     let frame = laterOf kind n cs in
     cond (eqb (frame .refusal) 0) (planText kind n wanted table (frame .stack)) (refusalLine (frame .refusal))
-
--- the answer to a later frame is the line of a road to the wanted stack, and no road has fewer turns
-pub record Answers (kind n : ℕ) (wanted : List ℤ) (table cs : List ℕ) : Type 0 where
-  pub turns : List ℕ
-  pub text : laterText kind n wanted table cs ≡ planLine turns
-  pub arrives : Road kind n turns (placesOf (bytesOf cs)) wanted
-  pub shortest : Fewest kind n (placesOf (bytesOf cs)) wanted (length turns)
