@@ -3,8 +3,8 @@
 use std::fmt;
 use std::time::Instant;
 
-use outside::linked::Library;
 use outside::build::{ordered, size_for, Build, Fields, Order};
+use outside::linked::Library;
 use outside::rng::Rng;
 use outside::system::*;
 

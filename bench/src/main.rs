@@ -1,11 +1,11 @@
 // The benchmark's command line. It prints tables in Markdown.
 //
-//   cargo run --release --offline --manifest-path bench/Cargo.toml -- [mode] [options]
+//   bench/run [mode] [options]
 //   tables             (the default) whole builds by wall time and by instructions, and single calls
 //   check              methods (b) and (c) against the outside tests; prints what was checked
 //   one METHOD BUILD   one build only, for a profiler; METHOD is library, fast, queue or none (set-up alone)
 //   --builds LIST      the builds timed (plain9,plain10,plain11,coated7,coated8)
-//   --counted LIST     the builds counted in instructions by valgrind (plain7,plain8,coated5,coated6); none for none
+//   --counted LIST     the builds counted in instructions by valgrind (plain8,plain9,coated6,coated7); none for none
 //   --segments G       about so many segments, which gives S (16)
 //   --room C           the log room of each segment (1048576)
 //   --runs R           interleaved runs (3)
@@ -53,7 +53,7 @@ fn options() -> Result<Options, String> {
     let mut options = Options {
         words: Vec::new(),
         builds: builds_of("plain9,plain10,plain11,coated7,coated8")?,
-        counted: builds_of("plain7,plain8,coated5,coated6")?,
+        counted: builds_of("plain8,plain9,coated6,coated7")?,
         segments: 16,
         room: 1_048_576,
         runs: 3,

@@ -93,16 +93,20 @@ module _ (kind n : ℕ) (table : List ℕ) (s : List ℤ) (v : ℕ) where
     tried-all e = rw (← f, e)
 
     -- the next one is tried: its child's entry is w
-    module _ (h : 0 < left) (l : left ≤ n + 1) (child : List ℤ) (c : child ≡ turnOf kind (n + 1 - left) s) (w : ℕ) (e : w ≡ entryOf kind n table child) where
+    module _ (h : 0 < left) (l : left ≤ n + 1) (child : ℕ) (c : child ≡ rankOf kind n (turnOf kind (n + 1 - left) s)) (w : ℕ) (e : w ≡ entryAt table child) where
+      entry-is : entryOf kind n table (turnOf kind (n + 1 - left) s) ≡ w
+      unfolding entryOf
+      entry-is = rw (e, c)
+
       pub tried-hit : w ≡ v → n + 1 - left ≡ firstTo kind n table s v (turnsOf kind n)
       tried-hit q =
-          sym (first-hit (n + 1 - left) (from (n + 1 - (left - 1)) (left - 1)) (rw (← c, ← e, q)))
+          sym (first-hit (n + 1 - left) (from (n + 1 - (left - 1)) (left - 1)) (entry-is ∙ q))
           ∙ ap (firstTo kind n table s v) (sym (untried-next n left h l))
           ∙ f
 
       pub tried-miss : (w ≡ v → ⊥) → firstTo kind n table s v (from (n + 1 - (left - 1)) (left - 1)) ≡ firstTo kind n table s v (turnsOf kind n)
       tried-miss q =
-          sym (first-miss (n + 1 - left) (from (n + 1 - (left - 1)) (left - 1)) (λ r. q (e ∙ ap (entryOf kind n table) c ∙ r)))
+          sym (first-miss (n + 1 - left) (from (n + 1 - (left - 1)) (left - 1)) (λ r. q (sym entry-is ∙ r)))
           ∙ ap (firstTo kind n table s v) (sym (untried-next n left h l))
           ∙ f
 

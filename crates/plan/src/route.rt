@@ -2,6 +2,7 @@
 ghost use mathlib.Core.Bool.{true};
 ghost use mathlib.Core.Path.{_≡_};
 ghost use lib.ListN.{length};
+ghost use Rattle.stacks.specs.Index.{rankOf};
 ghost use Rattle.stacks.specs.Stack.{isSize, isStack, stackCount};
 ghost use Rattle.stacks.specs.Turn.{turnsOf};
 ghost use Rattle.search.specs.Entries.{bytesFor};
@@ -27,17 +28,17 @@ pub fn entry_of(kind: u8, n: u8, stack: [i8; 12], table: &[u8]) -> u8
     entry::get_entry(table, index)
 }
 
-// The smallest turn that leads to a child with entry v, 0 where none does. left counts the turns not tried yet.
-pub fn turn_to(kind: u8, n: u8, stack: [i8; 12], v: u8, table: &[u8]) -> u8
-    requires { ⌜ (isSize kind n ≡ true) × (isStack kind n stack ≡ true) × (length (now table) ≡ bytesFor (stackCount kind n)) ⌝ }
+// The smallest turn that leads from the stack at an index to a child with entry v, 0 where none does. left counts the turns not tried yet.
+pub fn turn_to(kind: u8, n: u8, stack: [i8; 12], index: u32, v: u8, table: &[u8]) -> u8
+    requires { ⌜ (isSize kind n ≡ true) × (isStack kind n stack ≡ true) × (index ≡ rankOf kind n stack) × (length (now table) ≡ bytesFor (stackCount kind n)) ⌝ }
     ensures { λ r. ⌜ r ≡ firstTo kind n (now (table .entry)) stack v (turnsOf kind n) ⌝ }
 {
     let first = kind::first_turn(kind);
     let mut left = n + 1 - first;
     while 0 < left {
         let k = n + 1 - left;
-        let child = turning::turned(kind, n, stack, k);
-        if entry_of(kind, n, child, table) == v {
+        let child = numbering::rank_turned(kind, n, stack, index, k);
+        if entry::get_entry(table, child) == v {
             return k;
         }
         left -= 1;
@@ -65,7 +66,7 @@ pub fn route_from(kind: u8, n: u8, wanted: [i8; 12], given: [i8; 12], table: &[u
             };
         }
         let nearer = entry::next_entry(entry::next_entry(v));
-        let k = turn_to(kind, n, stack, nearer, table);
+        let k = turn_to(kind, n, stack, index, nearer, table);
         if k == 0 {
             return Route {
                 stack,

@@ -34,6 +34,3 @@ pub mod Advancing
 pub mod WholeBuild
 pub mod Driving
 pub mod WholeTable
--- worked examples
-pub mod Starred
-pub mod WholeTables

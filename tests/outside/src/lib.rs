@@ -9,6 +9,7 @@ pub mod compare;
 pub mod faulty;
 pub mod linked;
 pub mod paper;
+pub mod report;
 pub mod rng;
 pub mod search;
 pub mod system;

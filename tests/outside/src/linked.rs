@@ -206,9 +206,8 @@ impl System for Library {
 
     fn plan(&self, kind: u8, n: u8, wanted: Stack, given: Stack, table: &[u8], list: &mut [u8]) -> Planned {
         let (wanted, given) = (CStack { places: wanted }, CStack { places: given });
-        let r = unsafe {
-            hokrund_plan(kind, n, wanted, given, table.as_ptr(), table.len(), list.as_mut_ptr(), list.len())
-        };
+        let r =
+            unsafe { hokrund_plan(kind, n, wanted, given, table.as_ptr(), table.len(), list.as_mut_ptr(), list.len()) };
         Planned { refusal: r.refusal, turns: r.turns }
     }
 }

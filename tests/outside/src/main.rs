@@ -17,6 +17,9 @@ use outside::linked::Library;
 use outside::paper::Paper;
 use outside::system::System;
 
+// The report program, which `rt check report` makes.
+const REPORT: &str = concat!(env!("CARGO_MANIFEST_DIR"), "/../../target/bin/report");
+
 struct Options {
     seed: u64,
     cases: u64,
@@ -140,6 +143,7 @@ fn main() -> ExitCode {
             fine &= report(&format!("{name}, diameters"), || checks::diameters(system, plain_to, coated_to));
         }
         fine &= report("comparison", || faults_are_caught(options.seed));
+        fine &= report("report", || outside::report::compare(REPORT, options.seed, 400));
     }
     fine &= comparison(&options, &Library);
     println!("{} in {:.1} s", if fine { "all passed" } else { "FAILED" }, start.elapsed().as_secs_f64());

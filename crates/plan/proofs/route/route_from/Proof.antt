@@ -55,7 +55,7 @@ turn-to-requires : tie.Need-turn-to-requires Inv-loop μ-loop
 turn-to-requires c κs =
     let a = c .before .before .before .before .before .before in
     let s = a .before .before .before in
-    (s .pre .0, a .loop .inv .is-stack, s .pre .3)
+    (s .pre .0, a .loop .inv .is-stack, c .before .before .before .before .rank2 .ensures, s .pre .3)
 
 -- what is found is the first turn that leads to the entry one nearer
 found : (c : tie.After-turn-to Inv-loop μ-loop)

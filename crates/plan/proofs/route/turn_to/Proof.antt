@@ -4,20 +4,20 @@ use Prim.Native.Nat.{_+_, _-_, _≤_}
 use native.Mathlib.Omega.{arith}
 use borrow.Author.Needs.{needs}
 use Rattle.base.specs.Words.{from}
-use Rattle.stacks.specs.Turn.{turnsOf}
+use Rattle.stacks.specs.Turn.{turnsOf, turnOf}
 use Rattle.stacks.proofs.Sizes.{size-twelve}
 use Rattle.stacks.proofs.TurnLaws.{turn-stack}
 use Rattle.plan.specs.Routes.{firstTo}
-use Rattle.plan.proofs.Routes.{first-inside, untried-all, tried-all, tried-hit, tried-miss}
+use Rattle.plan.proofs.Routes.{entry-inside, first-inside, untried-all, tried-all, tried-hit, tried-miss}
 use Rattle.plan.proofs.route.turn_to.Statement.{statement}
 use Rattle.plan.proofs.route.turn_to.Tie as tie
 
 abbrev Inv-loop : tie.InvT-loop
-Inv-loop kind n stack v table first left₀ left =
+Inv-loop kind n stack index v table first left₀ left =
     (n ≤ 12) × (first + left ≤ n + 1) × (firstTo kind n table stack v (from (n + 1 - left) left) ≡ firstTo kind n table stack v (turnsOf kind n))
 
 abbrev μ-loop : tie.MeasureT-loop
-μ-loop kind n stack v table first left₀ left = left
+μ-loop kind n stack index v table first left₀ left = left
 
 first-turn-requires : tie.Need-first-turn-requires Inv-loop μ-loop
 first-turn-requires c κs = search needs
@@ -39,22 +39,24 @@ add-k c = record { fits = omega arith }
 sub-k : tie.Need-sub-k Inv-loop μ-loop
 sub-k c = omega arith
 
-turned-requires : tie.Need-turned-requires Inv-loop μ-loop
-turned-requires c κs =
+rank-turned-requires : tie.Need-rank-turned-requires Inv-loop μ-loop
+rank-turned-requires c κs =
     let s = c .before .before .before .before in
-    (s .pre .0, s .pre .1, omega arith)
+    (s .pre .0, s .pre .1, s .pre .2, omega arith)
 
-entry-of-requires : tie.Need-entry-of-requires Inv-loop μ-loop
-entry-of-requires c κs =
+get-entry-requires : tie.Need-get-entry-requires Inv-loop μ-loop
+get-entry-requires c κs =
     let s = c .before .before .before .before .before in
-    (s .pre .0, rw (c .turned .ensures) (turn-stack (s .args .kind) (s .args .n) (s .pre .0) _ (s .args .stack) (omega arith) (s .pre .1)), s .pre .2)
+    let k = s .args .n + 1 - c .before .before .loop .left in
+    entry-inside (s .args .kind) (s .args .n) (turnOf (s .args .kind) k (s .args .stack)) (s .args .table .now) (c .rank-turned .result) (s .pre .0)
+    (turn-stack (s .args .kind) (s .args .n) (s .pre .0) k (s .args .stack) (omega arith) (s .pre .1)) (s .pre .3) (c .rank-turned .ensures)
 
 returns : tie.Need-returns Inv-loop μ-loop
 returns c =
     let a = c .before .before .before .before in
     let s = a .before .before .before .args in
     tried-hit (s .kind) (s .n) (s .table .now) (s .stack) (s .v) (a .loop .left) (a .loop .inv .2) (c .before .before .before .loop-test .taken) (omega arith)
-    (c .before .before .turned .result) (c .before .before .turned .ensures) (c .before .entry-of .result) (c .before .entry-of .ensures) (c .if1 .taken)
+    (c .before .before .rank-turned .result) (c .before .before .rank-turned .ensures) (c .before .get-entry .result) (c .before .get-entry .ensures) (c .if1 .taken)
 
 sub-left-2 : tie.Need-sub-left-2 Inv-loop μ-loop
 sub-left-2 c = omega arith
@@ -69,7 +71,7 @@ loop-again c =
       a .loop .inv .0,
       omega arith,
       tried-miss (s .kind) (s .n) (s .table .now) (s .stack) (s .v) (a .loop .left) (a .loop .inv .2) (c .before .before .before .loop-test .taken) (omega arith)
-          (c .before .before .turned .result) (c .before .before .turned .ensures) (c .before .entry-of .result) (c .before .entry-of .ensures) (c .if1 .left),
+          (c .before .before .rank-turned .result) (c .before .before .rank-turned .ensures) (c .before .get-entry .result) (c .before .get-entry .ensures) (c .if1 .left),
     )
 
 returns-2 : tie.Need-returns-2 Inv-loop μ-loop
@@ -90,8 +92,8 @@ turn-to-spec =
     loop-holds
     add-k
     sub-k
-    turned-requires
-    entry-of-requires
+    rank-turned-requires
+    get-entry-requires
     returns
     sub-left-2
     loop-less

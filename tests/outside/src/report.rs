@@ -1,0 +1,228 @@
+// The report program against document 01, "The report", written from the paper: whole inputs, right, damaged and hostile.
+
+use std::io::Write;
+use std::process::{Command, Stdio};
+
+use crate::build::size_for;
+use crate::cases::right_stack;
+use crate::paper::{self, COATED, PLAIN};
+use crate::rng::Rng;
+use crate::search::{self, Distances};
+use crate::system::*;
+
+const MOST_CHARACTERS: usize = 64;
+const MOST_STACKS: u64 = 46_080;
+const ROOM: u32 = 16;
+
+// ---- The report of an input
+
+// The bytes of a frame, or 16.
+fn frame(line: &[u8]) -> Result<Vec<u8>, u8> {
+    let digit = |c: u8| match c {
+        b'0'..=b'9' => Ok(c - b'0'),
+        b'a'..=b'f' => Ok(c - b'a' + 10),
+        _ => Err(16),
+    };
+    if line.len() > MOST_CHARACTERS || line.len() % 2 == 1 {
+        return Err(16);
+    }
+    line.chunks(2).map(|pair| Ok(digit(pair[0])? * 16 + digit(pair[1])?)).collect()
+}
+
+// The stack of some bytes, or 3.
+fn stack_of(kind: u8, bytes: &[u8]) -> Result<Stack, u8> {
+    let mut stack = NO_STACK;
+    for (place, &byte) in stack.iter_mut().zip(bytes) {
+        let pane = (byte & 0x7f) as i8;
+        *place = if byte & 0x80 == 0 { pane } else { -pane };
+    }
+    if paper::is_stack(kind, bytes.len() as u8, &stack) {
+        Ok(stack)
+    } else {
+        Err(3)
+    }
+}
+
+struct Started {
+    kind: u8,
+    n: u8,
+    wanted: Stack,
+    distances: Distances,
+}
+
+fn first(line: &[u8]) -> Result<Started, u8> {
+    let bytes = frame(line)?;
+    let &[kind, n, ref rest @ ..] = bytes.as_slice() else { return Err(16) };
+    if let Err(refusal @ (1 | 2)) = paper::measures(kind, n, &NO_STACK, 4, ROOM) {
+        return Err(refusal);
+    }
+    if rest.len() != n as usize + 4 || paper::count_of_stacks(kind, n) > MOST_STACKS {
+        return Err(16);
+    }
+    let (panes, size) = rest.split_at(n as usize);
+    let wanted = stack_of(kind, panes)?;
+    let size = size.iter().fold(0, |size, &byte| size << 8 | u32::from(byte));
+    paper::measures(kind, n, &wanted, size, ROOM)?;
+    let distances = search::search(kind == COATED, &wanted[..n as usize]);
+    Ok(Started { kind, n, wanted, distances })
+}
+
+impl Started {
+    // The smallest turn that leads one nearer, until the wanted stack is reached.
+    fn plan(&self, line: &[u8]) -> Result<Vec<u8>, u8> {
+        let bytes = frame(line)?;
+        if bytes.len() != self.n as usize {
+            return Err(16);
+        }
+        let mut stack = stack_of(self.kind, &bytes)?;
+        let away = |stack: &Stack| self.distances.of(&stack[..self.n as usize]);
+        let mut list = Vec::new();
+        while stack != self.wanted {
+            let nearer = |&k: &u8| away(&paper::turned(self.kind, &stack, k)) + 1 == away(&stack);
+            let k = paper::turns(self.kind, self.n).find(nearer).expect("some turn leads one nearer");
+            stack = paper::turned(self.kind, &stack, k);
+            list.push(k);
+        }
+        Ok(list)
+    }
+}
+
+fn hexadecimal(bytes: &[u8]) -> String {
+    bytes.iter().map(|byte| format!("{byte:02x}")).collect::<String>() + "\n"
+}
+
+// All that is printed of an input.
+pub fn report(input: &[u8]) -> String {
+    let mut lines: Vec<&[u8]> = input.split(|&c| c == b'\n').collect();
+    lines.pop_if(|last| last.is_empty());
+    let refused = |refusal| hexadecimal(&[0xee, refusal]);
+    let Some((head, later)) = lines.split_first() else { return refused(16) };
+    let started = match first(head) {
+        Ok(started) => started,
+        Err(refusal) => return refused(refusal),
+    };
+    let mut text = String::new();
+    for (level, &count) in started.distances.counts.iter().enumerate() {
+        text += &hexadecimal(&[&[level as u8], &(count as u32).to_be_bytes()[..]].concat());
+    }
+    text += &hexadecimal(&[0xff, started.distances.deepest() as u8]);
+    for line in later {
+        text += &match started.plan(line) {
+            Ok(list) => hexadecimal(&[&[list.len() as u8], list.as_slice()].concat()),
+            Err(refusal) => refused(refusal),
+        };
+    }
+    text
+}
+
+// ---- Inputs
+
+// What is known to come close, and what no one would send.
+fn hostile() -> Vec<Vec<u8>> {
+    let right = "000301020300000004";
+    let long = |length: usize| "a".repeat(length);
+    let texts = [
+        String::new(),
+        "\n".into(),
+        "\n\n".into(),
+        "00".into(),
+        "0001".into(),
+        "000101".into(),
+        "000d".into(),
+        "02".into(),
+        "0201".into(),
+        "010b\n".into(),
+        "00010100000004".into(),
+        "00010100000004\n\n01".into(),
+        "00010100000006\n".into(),
+        "01018000000004".into(),
+        "01018100000004\n01\n81\n80".into(),
+        "00018100000004".into(),
+        format!("0009{}00000004", "01".repeat(9)),
+        format!("0007{}00000400", "01".repeat(7)),
+        format!("{right}0\n"),
+        format!("{right}00\n"),
+        format!("{right}\r\n"),
+        format!("{right}\n030102\n010302\n010203\n010103"),
+        format!("{right}\n010203\r\n010203\n"),
+        format!("{right}\n01020\n0102030\n0A0203\n 10203\n010203"),
+        format!("{right}\n{}\n{}\n{}\n010203\n", "0".repeat(64), "0".repeat(65), "0".repeat(66)),
+        format!("{right}\n{}\n030201\n", long(1_000_000)),
+        long(1_000_000),
+        format!("{}\n{right}\n", long(65)),
+        format!("{right}\n{}", "030201\n".repeat(20_000)),
+        format!("{right}\n{}", "\n".repeat(70_000)),
+    ];
+    let mut inputs: Vec<Vec<u8>> = texts.into_iter().map(String::into_bytes).collect();
+    inputs.push(vec![0xff, 0xfe, b'\n']);
+    inputs.push([right.as_bytes(), b"\n\x00\x01\n\xff\xff\n030201"].concat());
+    inputs
+}
+
+fn panes(kind: u8, n: u8, rng: &mut Rng) -> String {
+    let stack = right_stack(rng, kind, n);
+    stack[..n as usize].iter().map(|&pane| format!("{:02x}", pane.unsigned_abs() | (pane as u8 & 0x80))).collect()
+}
+
+fn damaged(mut line: String, rng: &mut Rng) -> String {
+    let place = rng.below(line.len() as u64 + 1) as usize;
+    match rng.below(5) {
+        0 => line.insert_str(place, "00"),
+        1 => line.truncate(place),
+        2 => line = "0".repeat(rng.between(60, 70) as usize),
+        _ if place < line.len() => {
+            line.replace_range(place..=place, rng.pick(&["0", "1", "2", "8", "a", "f", "A", "g", " ", "\r", "\u{7f}"]));
+        }
+        _ => line.clear(),
+    }
+    line
+}
+
+fn random(rng: &mut Rng) -> Vec<u8> {
+    let kind = rng.pick(&[PLAIN, COATED]);
+    let n = rng.between(1, if kind == PLAIN { 7 } else { 5 }) as u8;
+    let size = size_for(paper::count_of_stacks(kind, n), rng.pick(&[1, 2, 3, 16, 60, 64]));
+    let mut lines = vec![format!("{kind:02x}{n:02x}{}{size:08x}", panes(kind, n, rng))];
+    if rng.chance(25) {
+        lines[0] = damaged(lines[0].clone(), rng);
+    }
+    for _ in 0..rng.below(12) {
+        let line = panes(kind, n, rng);
+        lines.push(if rng.chance(30) { damaged(line, rng) } else { line });
+    }
+    let mut text = lines.join("\n");
+    if rng.chance(50) {
+        text.push('\n');
+    }
+    text.into_bytes()
+}
+
+// ---- The program
+
+// What the program prints.
+fn run(program: &str, input: &[u8]) -> Result<String, String> {
+    let failed = |error| format!("{program}: {error}");
+    let mut child = Command::new(program).stdin(Stdio::piped()).stdout(Stdio::piped()).spawn().map_err(failed)?;
+    let mut stdin = child.stdin.take().expect("its input is piped");
+    let given = input.to_vec();
+    // A refused first frame ends the run before all is read, so a write that fails is no fault.
+    let feeder = std::thread::spawn(move || drop(stdin.write_all(&given)));
+    let output = child.wait_with_output().map_err(failed)?;
+    feeder.join().expect("the feeder ends");
+    String::from_utf8(output.stdout).map_err(|_| format!("{program} printed what is no text"))
+}
+
+// Compares the program with the paper on every hostile input and on some random ones.
+pub fn compare(program: &str, seed: u64, cases: u64) -> Result<String, String> {
+    let inputs = hostile().into_iter().chain((0..cases).map(|number| random(&mut Rng::of_case(seed, 99, number))));
+    let mut compared = 0;
+    for input in inputs {
+        let (got, right) = (run(program, &input)?, report(&input));
+        if got != right {
+            let shown = String::from_utf8_lossy(&input[..input.len().min(300)]).into_owned();
+            return Err(format!("input {compared} of {} bytes, {shown:?}: got {got:?} and not {right:?}", input.len()));
+        }
+        compared += 1;
+    }
+    Ok(format!("{compared} inputs"))
+}
