@@ -40,7 +40,8 @@ fn read_some(reader: Reader, table: &mut [u8]) -> Going {
     let mut chunk = io::large_buffer();
     let got = io::read_full(STDIN_FILENO, &mut chunk);
     let next = feed(reader, table, &chunk[..got]);
-    let more = got == 65536 && next.stage != 2;
+    let stage = next.stage;
+    let more = got == 65536 && !input::is_over(stage);
     Going { more, reader: next }
 }
 

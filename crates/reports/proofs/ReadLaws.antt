@@ -1,6 +1,6 @@
 -- What comes of a line and of a character, case by case, and that code shows it.
 use mathlib.Core.Path.{_≡_, refl, sym, ap, _∙_, subst}
-use mathlib.Core.Bool.{Bool, cond}
+use mathlib.Core.Bool.{Bool, true, false, cond}
 use mathlib.Core.List.{List, []}
 use Prim.Native.Nat.{ℕ, min}
 use native.Mathlib.Omega.{arith}
@@ -14,9 +14,11 @@ use Rattle.frames.specs.declared.Line.{Line}
 use Rattle.frames.proofs.Writing.{wrote}
 use Rattle.search.specs.declared.Job.{Job}
 use Rattle.reports.specs.Text.{tableBytes, builtIn, headText, laterText}
-use Rattle.reports.specs.Reader.{Effect, withLine, afterFirst, firstTaken, firstLeft, firstRead, firstLine, laterLine, quiet, lineRead, byteRead, endRead, Shown}
+use Rattle.reports.specs.Reader.{Effect, isStart, withLine, afterFirst, firstTaken, firstLeft, firstRead, firstLine, laterLine, quiet, lineAs, lineRead, byteRead, endRead, Shown}
 use Rattle.reports.specs.declared.Printed.{Printed}
 use Rattle.reports.specs.declared.Reader.{Reader}
+use Rattle.reports.specs.declared.Stage.{Stage}
+use Rattle.reports.specs.declared.Stage.the-variants.{Start, Later, Over}
 use Rattle.reports.proofs.RoomLaws.{take-least}
 
 pub shown-as : {e x : Effect} {r : Printed} {table before after : List ℕ} → x ≡ e → Shown x r table before after → Shown e r table before after
@@ -38,12 +40,12 @@ module _ (line : Line) (table : List ℕ) (first : First) (e : first ≡ firstOf
       ∙ ap (λ (f : First). firstRead f table) e
 
   module _ (reader : Reader) (before after : List ℕ) (r : ℕ) where
-    pub shows-refused : (first .refusal ≡ 0 → ⊥) → reader ≡ afterFirst first 2 → Wrote (refusalLine (first .refusal)) before after r
+    pub shows-refused : (first .refusal ≡ 0 → ⊥) → reader ≡ afterFirst first Over → Wrote (refusalLine (first .refusal)) before after r
         → Shown (firstLine line table) (record { reader = reader; length = r }) table before after
     unfolding firstLeft
     shows-refused h same text = shown-as (first-refused h) (record { kept = refl; reads = same; wrote = text })
 
-    pub shows-accepted : first .refusal ≡ 0 → reader ≡ afterFirst first 1 → (table′ : List ℕ) (job : Job)
+    pub shows-accepted : first .refusal ≡ 0 → reader ≡ afterFirst first Later → (table′ : List ℕ) (job : Job)
         → (table′, job) ≡ builtIn (first .kind) (first .n) (first .wanted) (first .size) table → Wrote (headText job) before after r
         → Shown (firstLine line table) (record { reader = reader; length = r }) table′ before after
     unfolding firstTaken
@@ -78,17 +80,17 @@ unfolding quiet over
 shows-quiet reader next line table out same = record { kept = refl; reads = same; wrote = wrote [] out out 0 refl refl }
 
 module _ (reader : Reader) (table : List ℕ) where
-  pub line-first : reader .stage ≡ 0 → firstLine (reader .line) table ≡ lineRead reader table
-  unfolding lineRead
-  line-first h = rw (eq-eqb (reader .stage) 0 h)
+  pub line-first : reader .stage ≡ Start → firstLine (reader .line) table ≡ lineRead reader table
+  unfolding lineRead lineAs
+  line-first h = ap (λ (s : Stage). lineAs s reader table) (sym h)
 
-  pub line-later : (reader .stage ≡ 0 → ⊥) → reader .stage ≡ 1 → laterLine reader table ≡ lineRead reader table
-  unfolding lineRead
-  line-later z h = rw (ne-eqb (reader .stage) 0 z, eq-eqb (reader .stage) 1 h)
+  pub line-later : reader .stage ≡ Later → laterLine reader table ≡ lineRead reader table
+  unfolding lineRead lineAs
+  line-later h = ap (λ (s : Stage). lineAs s reader table) (sym h)
 
-  pub line-quiet : (reader .stage ≡ 0 → ⊥) → (reader .stage ≡ 1 → ⊥) → quiet reader newLine table ≡ lineRead reader table
-  unfolding lineRead
-  line-quiet z h = rw (ne-eqb (reader .stage) 0 z, ne-eqb (reader .stage) 1 h)
+  pub line-over : reader .stage ≡ Over → quiet reader newLine table ≡ lineRead reader table
+  unfolding lineRead lineAs
+  line-over h = ap (λ (s : Stage). lineAs s reader table) (sym h)
 
   pub byte-end : (c : ℕ) → c ≡ 10 → lineRead reader table ≡ byteRead reader c table
   unfolding byteRead
@@ -98,14 +100,14 @@ module _ (reader : Reader) (table : List ℕ) where
   unfolding byteRead
   byte-more c h = rw (ne-eqb c 10 h)
 
-  pub end-missing : reader .stage ≡ 0 → lineRead reader table ≡ endRead reader table
+  pub end-missing : isStart (reader .stage) ≡ true → lineRead reader table ≡ endRead reader table
   unfolding endRead
-  end-missing h = rw (eq-eqb (reader .stage) 0 h)
+  end-missing h = rw h
 
-  pub end-last : (reader .stage ≡ 0 → ⊥) → (reader .line .length ≡ 0 → ⊥) → lineRead reader table ≡ endRead reader table
+  pub end-last : isStart (reader .stage) ≡ false → (reader .line .length ≡ 0 → ⊥) → lineRead reader table ≡ endRead reader table
   unfolding endRead
-  end-last z h = rw (ne-eqb (reader .stage) 0 z, lt-ltb 0 (reader .line .length) (omega arith))
+  end-last z h = rw (z, lt-ltb 0 (reader .line .length) (omega arith))
 
-  pub end-quiet : (reader .stage ≡ 0 → ⊥) → reader .line .length ≡ 0 → quiet reader newLine table ≡ endRead reader table
+  pub end-quiet : isStart (reader .stage) ≡ false → reader .line .length ≡ 0 → quiet reader newLine table ≡ endRead reader table
   unfolding endRead
-  end-quiet z h = rw (ne-eqb (reader .stage) 0 z, le-ltb 0 (reader .line .length) (omega arith))
+  end-quiet z h = rw (z, le-ltb 0 (reader .line .length) (omega arith))

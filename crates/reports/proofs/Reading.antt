@@ -9,7 +9,7 @@ use lib.Dec.{eqb}
 use lib.IntN.{ℤ}
 use lib.ListN.{take}
 use borrow.Author.Tests.{eq-eqb, ne-eqb}
-use Rattle.base.proofs.Tests.{eq-or-ne}
+use Rattle.base.proofs.Tests.{eq-or-ne, test-cases, never}
 use Rattle.stacks.specs.declared.Stacked.{Stacked}
 use Rattle.search.specs.declared.Job.{Job}
 use Rattle.base.specs.Words.{all}
@@ -22,9 +22,11 @@ use Rattle.frames.specs.declared.Line.{Line}
 use Rattle.frames.proofs.LineLaws.{read-lines}
 use Rattle.frames.proofs.FrameRefusals.{kept-first, kept-later}
 use Rattle.reports.specs.Text.{tableBytes, builtIn, headText, planText, laterText}
-use Rattle.reports.specs.Reader.{laterTexts, reportFrom, reportOf, Effect, newReader, withLine, afterFirst, firstTaken, firstLeft, firstRead, firstLine, laterLine, quiet, lineRead, byteRead, endRead, printedAll}
+use Rattle.reports.specs.Reader.{laterTexts, reportFrom, reportOf, Effect, isStart, newReader, withLine, afterFirst, firstTaken, firstLeft, firstRead, firstLine, laterLine, quiet, lineAs, lineRead, byteRead, endRead, printedAll}
 use Rattle.reports.specs.declared.Reader.{Reader}
-use Rattle.reports.proofs.ReadLaws.{line-first, line-later, line-quiet, end-missing, end-last, end-quiet}
+use Rattle.reports.specs.declared.Stage.{Stage}
+use Rattle.reports.specs.declared.Stage.the-variants.{Start, Later, Over}
+use Rattle.reports.proofs.ReadLaws.{line-first, line-later, line-over, end-missing, end-last, end-quiet}
 
 -- what was read and printed so far, and a line more
 record Sofar : Type 0 where
@@ -48,32 +50,31 @@ first-new first table = go (eqb (first .refusal) 0)
     go false = refl
 
 line-new : (reader : Reader) (table : List ℕ) → lineRead reader table .reader .line ≡ newLine
-unfolding lineRead firstLine laterLine quiet withLine
-line-new reader table = go (eqb (reader .stage) 0) (eqb (reader .stage) 1)
+unfolding lineRead lineAs firstLine laterLine quiet withLine
+line-new reader table = go (reader .stage)
   where
-    go : (t u : Bool) → cond {A = Effect} t (firstLine (reader .line) table) (cond u (laterLine reader table) (quiet reader newLine table)) .reader .line ≡ newLine
-    go true u = first-new (firstOf (textOf (reader .line))) table
-    go false true = refl
-    go false false = refl
+    go : (s : Stage) → lineAs s reader table .reader .line ≡ newLine
+    go Start = first-new (firstOf (textOf (reader .line))) table
+    go Later = refl
+    go Over = refl
 
 -- the first frame has been read
-first-stage : (first : First) (table : List ℕ) → firstRead first table .reader .stage ≡ 0 → ⊥
-unfolding firstRead firstTaken firstLeft afterFirst
+first-stage : (first : First) (table : List ℕ) → isStart (firstRead first table .reader .stage) ≡ false
+unfolding firstRead firstTaken firstLeft afterFirst isStart
 first-stage first table = go (eqb (first .refusal) 0)
   where
-    go : (t : Bool) → cond {A = Effect} t (firstTaken first table) (firstLeft first table) .reader .stage ≡ 0 → ⊥
-    go true h = omega (arith, h)
-    go false h = omega (arith, h)
+    go : (t : Bool) → isStart (cond {A = Effect} t (firstTaken first table) (firstLeft first table) .reader .stage) ≡ false
+    go true = refl
+    go false = refl
 
-line-stage : (reader : Reader) (table : List ℕ) → lineRead reader table .reader .stage ≡ 0 → ⊥
-unfolding lineRead firstLine laterLine quiet withLine
-line-stage reader table = go (eq-or-ne (reader .stage) 0) (eqb (reader .stage) 1)
+line-stage : (reader : Reader) (table : List ℕ) → isStart (lineRead reader table .reader .stage) ≡ false
+unfolding lineRead lineAs firstLine laterLine quiet withLine isStart
+line-stage reader table = go (reader .stage) refl
   where
-    go : (reader .stage ≡ 0) ⊎ (reader .stage ≡ 0 → ⊥) → (u : Bool)
-        → cond {A = Effect} (eqb (reader .stage) 0) (firstLine (reader .line) table) (cond u (laterLine reader table) (quiet reader newLine table)) .reader .stage ≡ 0 → ⊥
-    go (inl e) u h = first-stage (firstOf (textOf (reader .line))) table (rw (eq-eqb (reader .stage) 0 e) at h)
-    go (inr n) true h = n (rw (ne-eqb (reader .stage) 0 n) at h)
-    go (inr n) false h = n (rw (ne-eqb (reader .stage) 0 n) at h)
+    go : (s : Stage) → s ≡ reader .stage → isStart (lineAs s reader table .reader .stage) ≡ false
+    go Start e = first-stage (firstOf (textOf (reader .line))) table
+    go Later e = ap isStart (sym e)
+    go Over e = ap isStart (sym e)
 
 -- ---- reading by characters, as reading by lines
 
@@ -86,11 +87,11 @@ Prints cs s l = ended handle (fed handle (reading s l) cs) .text ≡ s .text ++ 
 
 -- a first frame is not missing any more
 abbrev Started : Sofar → Line → Type 0
-Started s l = s .reader .stage ≡ 0 → l .length ≡ 0 → ⊥
+Started s l = isStart (s .reader .stage) ≡ true → l .length ≡ 0 → ⊥
 
 prints-end : (s : Sofar) (l : Line) → Started s l → Prints [] s l
 unfolding fed ended printedAll handle withLine quiet
-prints-end s l started = go (eq-or-ne (s .reader .stage) 0) (eq-or-ne (l .length) 0)
+prints-end s l started = go (test-cases (isStart (s .reader .stage))) (eq-or-ne (l .length) 0)
   where
     r : Reader
     r = withLine (s .reader) l
@@ -98,7 +99,7 @@ prints-end s l started = go (eq-or-ne (s .reader .stage) 0) (eq-or-ne (l .length
     whole : (l .length ≡ 0 → ⊥) → lineRead r (s .table) ≡ endRead r (s .table) → Prints [] s l
     whole n e = rw (ne-eqb (l .length) 0 n) (ap (λ (x : Effect). s .text ++ x .text) e)
 
-    go : (s .reader .stage ≡ 0) ⊎ (s .reader .stage ≡ 0 → ⊥) → (l .length ≡ 0) ⊎ (l .length ≡ 0 → ⊥) → Prints [] s l
+    go : (isStart (s .reader .stage) ≡ true) ⊎ (isStart (s .reader .stage) ≡ false) → (l .length ≡ 0) ⊎ (l .length ≡ 0 → ⊥) → Prints [] s l
     go (inl z) (inl e) = absurd (started z e)
     go (inl z) (inr n) = whole n (end-missing r (s .table) z)
     go (inr z) (inl e) =
@@ -113,7 +114,7 @@ pushed-some l c h = omega (arith, h)
 prints-more : (c : ℕ) (cs : List ℕ) (s : Sofar) (l : Line) → ((t : Sofar) (m : Line) → Started t m → Prints cs t m) → Prints (c ∷ cs) s l
 unfolding fed stepped printedAll byteRead quiet withLine handle
 prints-more c cs s l rest =
-    go (rest (handle s l) newLine (λ h k. line-stage r (s .table) h)) (rest s (pushed l c) (λ h k. pushed-some l c k)) (eqb c 10)
+    go (rest (handle s l) newLine (λ h k. never h (line-stage r (s .table)))) (rest s (pushed l c) (λ h k. pushed-some l c k)) (eqb c 10)
   where
     r : Reader
     r = withLine (s .reader) l
@@ -142,7 +143,7 @@ later-kept kind n wanted table cs =
     ap (λ (f : Stacked). cond (eqb (f .refusal) 0) (planText kind n wanted table (f .stack)) (refusalLine (f .refusal))) (kept-later kind n cs)
 
 -- after an accepted first frame each line is answered
-later-lines : (lines : List (List ℕ)) (s : Sofar) → s .reader .stage ≡ 1
+later-lines : (lines : List (List ℕ)) (s : Sofar) → s .reader .stage ≡ Later
     → handled handle s (map keptOf lines) .text
     ≡ s .text ++ laterTexts (s .reader .kind) (s .reader .n) (s .reader .wanted) (take (tableBytes (s .reader .kind) (s .reader .n)) (s .table)) lines
 unfolding handled handle laterTexts laterLine withLine
@@ -153,7 +154,7 @@ later-lines (cs ∷ lines) s h =
     let wanted = s .reader .wanted in
     let part = take (tableBytes kind n) (s .table) in
     let r = withLine (s .reader) (keptOf cs) in
-    let e : laterLine r (s .table) ≡ lineRead r (s .table) = line-later r (s .table) (λ z. omega (arith, h, z)) h in
+    let e : laterLine r (s .table) ≡ lineRead r (s .table) = line-later r (s .table) h in
     let next : Effect → Sofar = λ x. record { reader = x .reader; table = x .table; text = s .text ++ x .text } in
     ap (λ (x : Effect). handled handle (next x) (map keptOf lines) .text) (sym e)
     ∙ later-lines lines (next (laterLine r (s .table))) h
@@ -161,12 +162,12 @@ later-lines (cs ∷ lines) s h =
     ∙ ap (λ (t : List ℕ). s .text ++ (t ++ laterTexts kind n wanted part lines)) (later-kept kind n wanted part cs)
 
 -- after a refused one nothing is
-no-lines : (lines : List (List ℕ)) (s : Sofar) → s .reader .stage ≡ 2 → handled handle s (map keptOf lines) .text ≡ s .text
+no-lines : (lines : List (List ℕ)) (s : Sofar) → s .reader .stage ≡ Over → handled handle s (map keptOf lines) .text ≡ s .text
 unfolding handled handle quiet withLine
 no-lines [] s h = refl
 no-lines (cs ∷ lines) s h =
     let r = withLine (s .reader) (keptOf cs) in
-    let e : quiet r newLine (s .table) ≡ lineRead r (s .table) = line-quiet r (s .table) (λ z. omega (arith, h, z)) (λ z. omega (arith, h, z)) in
+    let e : quiet r newLine (s .table) ≡ lineRead r (s .table) = line-over r (s .table) h in
     let next : Effect → Sofar = λ x. record { reader = x .reader; table = x .table; text = s .text ++ x .text } in
     ap (λ (x : Effect). handled handle (next x) (map keptOf lines) .text) (sym e)
     ∙ no-lines lines (next (quiet r newLine (s .table))) h
@@ -209,7 +210,7 @@ some-line c cs = go (eqb c 10) (linesOf cs)
 
 -- no input is a first frame that is missing
 no-input : (table : List ℕ) → endRead newReader table .text ≡ refusalLine 16
-unfolding newReader keptOf pushedAll firstLine firstRead firstLeft firstOf firstRefusal bytesRefusal isFrame frameLimit isPairs all bytesOf
+unfolding isStart newReader keptOf pushedAll firstLine firstRead firstLeft firstOf firstRefusal bytesRefusal isFrame frameLimit isPairs all bytesOf
 no-input table =
     ap (λ (x : Effect). x .text) (sym (end-missing newReader table refl) ∙ sym (line-first newReader table refl))
     ∙ ap (λ (f : First). firstRead f table .text) (kept-first [])

@@ -4,7 +4,7 @@
 --   byteRead, endRead         a character of the input, and its end
 --   printedAll                what is printed of an input, read so
 use mathlib.Core.Path.{_≡_}
-use mathlib.Core.Bool.{_||_, cond}
+use mathlib.Core.Bool.{Bool, true, false, _||_, cond}
 use mathlib.Core.List.{List, [], _∷_, _++_}
 use Prim.Native.Nat.{ℕ}
 use lib.Dec.{ltb, eqb}
@@ -18,6 +18,8 @@ use Rattle.frames.specs.declared.Line.{Line}
 use Rattle.reports.specs.Text.{tableBytes, builtIn, headText, laterText}
 use Rattle.reports.specs.declared.Printed.{Printed}
 use Rattle.reports.specs.declared.Reader.{Reader}
+use Rattle.reports.specs.declared.Stage.{Stage}
+use Rattle.reports.specs.declared.Stage.the-variants.{Start, Later, Over}
 
 -- ---- the report
 
@@ -46,25 +48,35 @@ pub record Effect : Type 0 where
   pub table : List ℕ
   pub text : List ℕ
 
+unfoldable pub isStart : Stage → Bool
+isStart Start = true
+isStart Later = false
+isStart Over = false
+
+unfoldable pub isOver : Stage → Bool
+isOver Start = false
+isOver Later = false
+isOver Over = true
+
 unfoldable pub newReader : Reader
-newReader = record { stage = 0; kind = 0; n = 0; wanted = replicate 12 (pos 0); line = newLine }
+newReader = record { stage = Start; kind = 0; n = 0; wanted = replicate 12 (pos 0); line = newLine }
 
 -- the reader with another line in the making
 unfoldable pub withLine : Reader → Line → Reader
 withLine reader line =
     record { stage = reader .stage; kind = reader .kind; n = reader .n; wanted = reader .wanted; line = line }
 
-unfoldable pub afterFirst : First → ℕ → Reader
+unfoldable pub afterFirst : First → Stage → Reader
 afterFirst first stage = record { stage = stage; kind = first .kind; n = first .n; wanted = first .wanted; line = newLine }
 
 -- an accepted first frame, whose table is built, and a refused one
 unfoldable pub firstTaken : First → List ℕ → Effect
 firstTaken first table =
     let end = builtIn (first .kind) (first .n) (first .wanted) (first .size) table in
-    record { reader = afterFirst first 1; table = end .0; text = headText (end .1) }
+    record { reader = afterFirst first Later; table = end .0; text = headText (end .1) }
 
 unfoldable pub firstLeft : First → List ℕ → Effect
-firstLeft first table = record { reader = afterFirst first 2; table = table; text = refusalLine (first .refusal) }
+firstLeft first table = record { reader = afterFirst first Over; table = table; text = refusalLine (first .refusal) }
 
 unfoldable pub firstRead : First → List ℕ → Effect
 firstRead first table = cond (eqb (first .refusal) 0) (firstTaken first table) (firstLeft first table)
@@ -85,10 +97,13 @@ unfoldable pub quiet : Reader → Line → List ℕ → Effect
 quiet reader line table = record { reader = withLine reader line; table = table; text = [] }
 
 -- the line in the making is whole
+unfoldable pub lineAs : Stage → Reader → List ℕ → Effect
+lineAs Start reader table = firstLine (reader .line) table
+lineAs Later reader table = laterLine reader table
+lineAs Over reader table = quiet reader newLine table
+
 unfoldable pub lineRead : Reader → List ℕ → Effect
-lineRead reader table =
-    cond (eqb (reader .stage) 0) (firstLine (reader .line) table)
-    (cond (eqb (reader .stage) 1) (laterLine reader table) (quiet reader newLine table))
+lineRead reader table = lineAs (reader .stage) reader table
 
 unfoldable pub byteRead : Reader → ℕ → List ℕ → Effect
 byteRead reader c table = cond (eqb c 10) (lineRead reader table) (quiet reader (pushed (reader .line) c) table)
@@ -96,7 +111,7 @@ byteRead reader c table = cond (eqb c 10) (lineRead reader table) (quiet reader 
 -- a last line may lack its end; with no line at all the first frame is missing
 unfoldable pub endRead : Reader → List ℕ → Effect
 endRead reader table =
-    cond (eqb (reader .stage) 0 || ltb 0 (reader .line .length)) (lineRead reader table) (quiet reader newLine table)
+    cond (isStart (reader .stage) || ltb 0 (reader .line .length)) (lineRead reader table) (quiet reader newLine table)
 
 unfoldable pub printedAll : Reader → List ℕ → List ℕ → List ℕ
 printedAll reader table [] = endRead reader table .text

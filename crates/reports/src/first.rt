@@ -5,6 +5,7 @@ ghost use Rattle.reports.specs.Text.{headText, builtIn};
 ghost use Rattle.reports.specs.Reader.{afterFirst, firstLine, Shown};
 use crate::Printed;
 use crate::Reader;
+use crate::Stage;
 use crate::room;
 use frames::First;
 use frames::Line;
@@ -43,7 +44,7 @@ pub fn head_text(job: Job, out: &mut [u8; 512]) -> usize
 }
 
 // The reader after the first frame; a refused one has zeros beside its refusal.
-fn after_first(first: First, stage: u8) -> Reader
+fn after_first(first: First, stage: Stage) -> Reader
     ensures { λ r. ⌜ r ≡ afterFirst first stage ⌝ }
 {
     let wanted = first.wanted;
@@ -64,7 +65,7 @@ pub fn first_line(line: Line, table: &mut [u8], out: &mut [u8; 512]) -> Printed
     if first.refusal != 0 {
         let length = report::write_refusal(out, first.refusal);
         return Printed {
-            reader: after_first(first, 2),
+            reader: after_first(first, Stage::Over),
             length,
         };
     }
@@ -72,7 +73,7 @@ pub fn first_line(line: Line, table: &mut [u8], out: &mut [u8; 512]) -> Printed
     let job = build_in(first.kind, first.n, wanted, first.size, table);
     let length = head_text(job, out);
     Printed {
-        reader: after_first(first, 1),
+        reader: after_first(first, Stage::Later),
         length,
     }
 }

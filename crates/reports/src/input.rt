@@ -1,20 +1,41 @@
 // The report's input, character by character: the reader after each, and what is to be printed.
 ghost use mathlib.Core.Path.{_≡_};
-ghost use Rattle.reports.specs.Reader.{newReader, withLine, laterLine, quiet, lineRead, byteRead, endRead, Shown};
+ghost use Rattle.reports.specs.Reader.{isStart, isOver, newReader, withLine, laterLine, quiet, lineRead, byteRead, endRead, Shown};
 use crate::Printed;
 use crate::Reader;
+use crate::Stage;
 use crate::first;
 use crate::later;
 use crate::room;
 use frames::Line;
 use frames::lines;
 
+pub fn is_start(stage: Stage) -> bool
+    ensures { λ r. ⌜ r ≡ isStart stage ⌝ }
+{
+    match stage {
+        Stage::Start => true,
+        Stage::Later => false,
+        Stage::Over => false,
+    }
+}
+
+pub fn is_over(stage: Stage) -> bool
+    ensures { λ r. ⌜ r ≡ isOver stage ⌝ }
+{
+    match stage {
+        Stage::Start => false,
+        Stage::Later => false,
+        Stage::Over => true,
+    }
+}
+
 pub fn new_reader() -> Reader
     ensures { λ r. ⌜ r ≡ newReader ⌝ }
 {
     let wanted = [0i8; 12];
     Reader {
-        stage: 0,
+        stage: Stage::Start,
         kind: 0,
         n: 0,
         wanted,
@@ -25,9 +46,10 @@ pub fn new_reader() -> Reader
 fn with_line(reader: Reader, line: Line) -> Reader
     ensures { λ r. ⌜ r ≡ withLine reader line ⌝ }
 {
+    let stage = reader.stage;
     let wanted = reader.wanted;
     Reader {
-        stage: reader.stage,
+        stage,
         kind: reader.kind,
         n: reader.n,
         wanted,
@@ -53,16 +75,15 @@ fn later_line(reader: Reader, table: &mut [u8], out: &mut [u8; 512]) -> Printed
 pub fn line_read(reader: Reader, table: &mut [u8], out: &mut [u8; 512]) -> Printed
     ensures { λ r. ⌜ Shown (lineRead reader (now (table .entry))) r (now (table .exit)) (now (out .entry)) (now (out .exit)) ⌝ }
 {
-    if reader.stage == 0 {
-        let line = reader.line;
-        return first::first_line(line, table, out);
-    }
-    if reader.stage == 1 {
-        return later_line(reader, table, out);
-    }
-    Printed {
-        reader: with_line(reader, lines::new_line()),
-        length: 0,
+    let stage = reader.stage;
+    let line = reader.line;
+    match stage {
+        Stage::Start => first::first_line(line, table, out),
+        Stage::Later => later_line(reader, table, out),
+        Stage::Over => Printed {
+            reader: with_line(reader, lines::new_line()),
+            length: 0,
+        },
     }
 }
 
@@ -84,7 +105,8 @@ pub fn byte_read(reader: Reader, byte: u8, table: &mut [u8], out: &mut [u8; 512]
 pub fn end_read(reader: Reader, table: &mut [u8], out: &mut [u8; 512]) -> Printed
     ensures { λ r. ⌜ Shown (endRead reader (now (table .entry))) r (now (table .exit)) (now (out .entry)) (now (out .exit)) ⌝ }
 {
-    if reader.stage == 0 {
+    let stage = reader.stage;
+    if is_start(stage) {
         return line_read(reader, table, out);
     }
     let line = reader.line;

@@ -6,10 +6,16 @@ pub mod room;
 
 use frames::Line;
 
-// What was read so far. Stage 0 is before the first frame, 1 after an accepted one, 2 after a refused one, which ends the run. kind, n and
-// wanted are the first frame's; line is the one in the making.
+// Which frame comes next: the first (Start), a later one, or none, as the first was refused and the run is over.
+pub enum Stage {
+    Start,
+    Later,
+    Over,
+}
+
+// What was read so far. kind, n and wanted are the first frame's; line is the one in the making.
 pub struct Reader {
-    pub stage: u8,
+    pub stage: Stage,
     pub kind: u8,
     pub n: u8,
     pub wanted: [i8; 12],

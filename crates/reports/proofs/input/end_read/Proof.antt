@@ -1,11 +1,14 @@
 -- `reports::input::end_read` meets its contract.
+use mathlib.Core.Path.{sym, ap, _∙_}
 use borrow.Author.Needs.{needs}
-use mathlib.Core.Path.{ap, _∙_}
 use Rattle.frames.specs.Lines.{newLine}
 use Rattle.reports.specs.Reader.{withLine}
 use Rattle.reports.proofs.ReadLaws.{shown-as, end-missing, end-last, end-quiet, shows-quiet}
 use Rattle.reports.proofs.input.end_read.Statement.{statement}
 use Rattle.reports.proofs.input.end_read.Tie as tie
+
+is-start-requires : tie.Need-is-start-requires
+is-start-requires c κs = search needs
 
 line-read-requires : tie.Need-line-read-requires
 line-read-requires c κs = search needs
@@ -16,7 +19,7 @@ same-length c = search needs
 returns : tie.Need-returns
 returns c =
     let a = c .before .before .before .before .before .before .before .before .args in
-    shown-as (end-missing (a .reader) (a .table .now) (search needs)) (c .before .before .line-read .ensures)
+    shown-as (end-missing (a .reader) (a .table .now) (sym (c .before .before .before .before .before .before .is-start .ensures) ∙ c .before .before .before .before .before .if1 .taken)) (c .before .before .line-read .ensures)
 
 new-line-requires : tie.Need-new-line-requires
 new-line-requires c κs = search needs
@@ -27,7 +30,7 @@ with-line-requires c κs = search needs
 returns-2 : tie.Need-returns-2
 returns-2 c =
     let a = c .before .before .before .before .before .before .before .before .args in
-    shown-as (end-quiet (a .reader) (a .table .now) (search needs) (search needs))
+    shown-as (end-quiet (a .reader) (a .table .now) (sym (c .before .before .before .before .before .before .is-start .ensures) ∙ c .before .before .before .before .before .if1 .left) (search needs))
     (shows-quiet (a .reader) (c .with-line .result) newLine (a .table .now) (a .out .now)
     (c .with-line .ensures ∙ ap (withLine (a .reader)) (c .before .new-line .ensures)))
 
@@ -40,12 +43,13 @@ same-length-2 c = search needs
 returns-3 : tie.Need-returns-3
 returns-3 c =
     let a = c .before .before .before .before .before .before .before .before .before .before .before .args in
-    shown-as (end-last (a .reader) (a .table .now) (search needs) (search needs)) (c .before .before .line-read2 .ensures)
+    shown-as (end-last (a .reader) (a .table .now) (sym (c .before .before .before .before .before .before .before .before .before .is-start .ensures) ∙ c .before .before .before .before .before .before .before .before .if1 .left) (search needs)) (c .before .before .line-read2 .ensures)
 
 pub end-read-spec : {M : Type 1} → statement M
 end-read-spec =
     tie.close
     (tie.spec
+    is-start-requires
     line-read-requires
     same-length
     returns

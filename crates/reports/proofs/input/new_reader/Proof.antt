@@ -5,6 +5,7 @@ use lib.IntN.{pos}
 use lib.ListN.{replicate}
 use Rattle.frames.specs.declared.Line.{Line}
 use Rattle.reports.specs.Reader.{newReader}
+use Rattle.reports.specs.declared.Stage.the-variants.{Start}
 use Rattle.reports.proofs.input.new_reader.Statement.{statement}
 use Rattle.reports.proofs.input.new_reader.Tie as tie
 
@@ -13,7 +14,7 @@ new-line-requires c κs = search needs
 
 returns : tie.Need-returns
 unfolding newReader
-returns c = ap (λ (l : Line). record { stage = 0; kind = 0; n = 0; wanted = replicate 12 (pos 0); line = l }) (c .new-line .ensures)
+returns c = ap (λ (l : Line). record { stage = Start; kind = 0; n = 0; wanted = replicate 12 (pos 0); line = l }) (c .new-line .ensures)
 
 pub new-reader-spec : {M : Type 1} → statement M
 new-reader-spec = tie.close (tie.spec new-line-requires returns)
