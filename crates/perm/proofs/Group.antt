@@ -18,20 +18,17 @@ use Rattle.stacks.proofs.TurnLaws.{flip-magnitude}
 use Rattle.perm.proofs.Signed.{small-back}
 use Rattle.perm.proofs.Places.{order-at}
 
--- the pane that a turn brings to place p is small enough to be negated; it is read as it is, and flipped it is written as it is
-module _ (kind n : ℕ) (s : List ℤ) (stack : isStack kind n s ≡ true) (l : n ≤ 12) (k p : ℕ) (h : k ≤ n) (b : p < k) where
-  pane-small : natAbs (getD s (k - 1 - p) (pos 0)) ≤ 12
-  pane-small =
-      let i : ℕ = k - 1 - p in
-      omega (arith, once-le n [] (orderOf n s) (stack-facts kind n s stack .once) i, order-at n s i (omega arith))
+-- a pane of a stack is small enough to be negated; it is read as it is, and flipped it is written as it is
+module _ (kind n : ℕ) (s : List ℤ) (stack : isStack kind n s ≡ true) (l : n ≤ 12) (i : ℕ) (h : i < n) where
+  pane-small : natAbs (getD s i (pos 0)) ≤ 12
+  pane-small = omega (arith, once-le n [] (orderOf n s) (stack-facts kind n s stack .once) i, order-at n s i h)
 
-  pub pane-read : natAbs (toZ w8 (ofZ w8 (getD s (k - 1 - p) (pos 0)))) ≤ 12
-  pane-read = rw (small-back (getD s (k - 1 - p) (pos 0)) pane-small) pane-small
+  pub pane-read : natAbs (toZ w8 (ofZ w8 (getD s i (pos 0)))) ≤ 12
+  pane-read = rw (small-back (getD s i (pos 0)) pane-small) pane-small
 
-  pub pane-flipped : (z : ℤ) → z ≡ flip kind (toZ w8 (ofZ w8 (getD s (k - 1 - p) (pos 0))))
-      → toZ w8 (ofZ w8 z) ≡ flip kind (getD s (k - 1 - p) (pos 0))
+  pub pane-flipped : (z : ℤ) → z ≡ flip kind (toZ w8 (ofZ w8 (getD s i (pos 0)))) → toZ w8 (ofZ w8 z) ≡ flip kind (getD s i (pos 0))
   pane-flipped z e =
-      let x : ℤ = getD s (k - 1 - p) (pos 0) in
+      let x : ℤ = getD s i (pos 0) in
       let f : z ≡ flip kind x = e ∙ ap (flip kind) (small-back x pane-small) in
       small-back z (rw (f, flip-magnitude kind x) pane-small) ∙ f
 

@@ -21,14 +21,14 @@ use Rattle.search.proofs.Invariant.{entryIn}
 use Rattle.search.proofs.SegmentLaws.{segment-stack, segment-stack-div, segment-stack-mod}
 
 module _ (d i : ℕ) (marks : Marks) where
+  pub mark-seen : (entryAt (marks .segment) i ≡ 3 → ⊥) → markOne d i marks ≡ marks
+  unfolding markOne unseen
+  mark-seen h = rw (ne-eqb (entryAt (marks .segment) i) 3 h)
+
   pub mark-unseen : entryAt (marks .segment) i ≡ 3
       → markOne d i marks ≡ record { segment = setEntry (marks .segment) i (d % 3); count = marks .count + 1 }
   unfolding markOne unseen
   mark-unseen h = rw (eq-eqb (entryAt (marks .segment) i) 3 h)
-
-  pub mark-seen : (entryAt (marks .segment) i ≡ 3 → ⊥) → markOne d i marks ≡ marks
-  unfolding markOne unseen
-  mark-seen h = rw (ne-eqb (entryAt (marks .segment) i) 3 h)
 
   pub mark-length : length (markOne d i marks .segment) ≡ length (marks .segment)
   mark-length = go (eq-or-ne (entryAt (marks .segment) i) 3)

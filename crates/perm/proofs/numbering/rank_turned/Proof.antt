@@ -45,8 +45,7 @@ array-copy-out-flipped c = omega arith
 flipped-requires : tie.Need-flipped-requires Inv-loop μ-loop
 flipped-requires c κs =
     let a = c .before .before in
-    pane-read (a .before .args .kind) (a .before .args .n) (a .before .args .t3) (a .before .pre .1) (a .loop .inv .1) (a .before .args .k) (a .loop .p)
-    (a .loop .inv .2) (c .before .loop-test .taken)
+    pane-read (a .before .args .kind) (a .before .args .n) (a .before .args .t3) (a .before .pre .1) (a .loop .inv .1) _ (omega arith)
 
 sub-rank-place : tie.Need-sub-rank-place Inv-loop μ-loop
 sub-rank-place c = omega arith
@@ -62,7 +61,7 @@ pane-is c =
     let s = a .before .args .t3 in
     let inv = a .loop .inv in
     let here = c .before .before .loop-test .taken in
-    pane-flipped kind (a .before .args .n) s (a .before .pre .1) (inv .1) k (a .loop .p) (inv .2) here (c .flipped .result) (c .flipped .ensures)
+    pane-flipped kind (a .before .args .n) s (a .before .pre .1) (inv .1) (k - 1 - a .loop .p) (omega arith) (c .flipped .result) (c .flipped .ensures)
     ∙ sym (turned-at kind k s (omega arith) (a .loop .p) here)
 
 rank-place-requires : tie.Need-rank-place-requires Inv-loop μ-loop

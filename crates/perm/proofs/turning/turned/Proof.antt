@@ -34,8 +34,7 @@ array-copy-out-flipped c = omega arith
 flipped-requires : tie.Need-flipped-requires Inv-loop μ-loop
 flipped-requires c κs =
     let a = c .before .before in
-    pane-read (a .before .args .kind) (a .before .args .n) (a .before .args .t3) (a .before .pre .1) (a .loop .inv .2) (a .before .args .k) (a .loop .p)
-    (a .loop .inv .1) (c .before .loop-test .taken)
+    pane-read (a .before .args .kind) (a .before .args .n) (a .before .args .t3) (a .before .pre .1) (a .loop .inv .2) _ (omega arith)
 
 array-set-from-next : tie.Need-array-set-from-next Inv-loop μ-loop
 array-set-from-next c = omega arith
@@ -59,7 +58,7 @@ loop-again c =
       inv .2,
       omega arith,
       turned-step kind k s (omega arith) (a .loop .p) (a .loop .next) (toZ w8 (ofZ w8 (c .flipped .result))) here (inv .4)
-          (pane-flipped kind (a .before .args .n) s (a .before .pre .1) (inv .2) k (a .loop .p) (inv .1) here (c .flipped .result) (c .flipped .ensures)),
+          (pane-flipped kind (a .before .args .n) s (a .before .pre .1) (inv .2) (k - 1 - a .loop .p) (omega arith) (c .flipped .result) (c .flipped .ensures)),
     )
 
 returns : tie.Need-returns Inv-loop μ-loop
