@@ -14,7 +14,8 @@ ltb-add a r v =
     same-test (ltb (a + r) (a + v)) (ltb r v) (λ t. lt-ltb r v (omega (arith, ltb-true (a + r) (a + v) t)))
     (λ t. lt-ltb (a + r) (a + v) (omega (arith, ltb-true r v t)))
 
-digits-less : (m q r u v : ℕ) → r < m → q < u → q * m + r < u * m + v
+-- the first of two digits decides
+pub digits-less : (m q r u v : ℕ) → r < m → q < u → q * m + r < u * m + v
 digits-less m q r u v h l = omega (arith, suc-mul q m, mul-le-mul-right m l)
 
 -- the remainders decide only where the quotients are the same

@@ -1,6 +1,6 @@
 -- The children of a stack as an array of twelve is filled with them, place by place.
 use mathlib.Core.Path.{_≡_, refl, sym, ap, _∙_}
-use mathlib.Core.Bool.{Bool, true, false, cond}
+use mathlib.Core.Bool.{true}
 use mathlib.Core.List.{List, _++_}
 use Prim.Native.Nat.{ℕ, suc, _+_, _-_, _<_, _≤_}
 use native.Mathlib.Numerals.{add-one}
@@ -9,9 +9,9 @@ use lib.ListN.{length, getD, set, take, replicate}
 use lib.Seq.{take-suc, take-all, set-at, append-snoc, length-take-le}
 use Rattle.base.proofs.Lists.{getD-from, getD-map}
 use Rattle.stacks.specs.Index.{rankOf, stackAt}
-use Rattle.stacks.specs.Stack.{isSize, isCoated}
+use Rattle.stacks.specs.Stack.{isSize}
 use Rattle.stacks.specs.Turn.{firstTurn, lastTurn, turnsOf, turnOf}
-use Rattle.stacks.proofs.Sizes.{size-least, size-twelve}
+use Rattle.stacks.proofs.Sizes.{size-twelve}
 use Rattle.stacks.proofs.TurnLaws.{turns-length, turns-count}
 use Rattle.search.specs.Expand.{childrenOf}
 use Rattle.search.proofs.Children.{children-length}
@@ -19,15 +19,6 @@ use Rattle.search.proofs.Children.{children-length}
 -- zeros after the first i children
 unfoldable pub filledTo : ℕ → ℕ → ℕ → ℕ → List ℕ
 filledTo kind n v i = take i (childrenOf kind n v) ++ replicate (12 - i) 0
-
--- a stack of one plain pane has no turn
-pub first-within : (kind n : ℕ) → isSize kind n ≡ true → firstTurn kind ≤ n + 1
-unfolding firstTurn
-first-within kind n size = go (isCoated kind) (size-least kind n size)
-  where
-    go : (t : Bool) → 1 ≤ n → cond t 1 2 ≤ n + 1
-    go true h = omega arith
-    go false h = omega arith
 
 module _ (kind n v : ℕ) where
   child-at : (i : ℕ) → i < length (turnsOf kind n)

@@ -6,9 +6,10 @@ use mathlib.Core.List.{List, _++_}
 use Prim.Native.Nat.{ℕ, zero, suc, _+_, _-_, _*_, _/_, _%_, _^_, _<_, _≤_}
 use native.Mathlib.Numerals.{add-one}
 use native.Mathlib.Omega.{arith}
-use lib.ListN.{length, getD, take, replicate, length-take, length-replicate, getD-replicate, List·getD-append, List·getD-eq-default}
+use lib.ListN.{length, getD, take, replicate, length-take, List·getD-append}
 use lib.Seq.{take-at, getD-append-add}
 use borrow.Author.Tests.{lt-ltb, le-ltb, eq-eqb, ne-eqb}
+use Rattle.base.proofs.Lists.{replicate-zero}
 use Rattle.base.proofs.Tests.{lt-or-ge}
 use Rattle.stacks.specs.Stack.{stackCount}
 use Rattle.stacks.proofs.Sizes.{count-pos}
@@ -25,13 +26,6 @@ use Rattle.expand.specs.declared.scan.Scan.{Scan}
 use Rattle.expand.proofs.Fitting.{ScanFacts, scan-facts}
 use Rattle.expand.proofs.Lowest.{falling-place}
 use Rattle.expand.proofs.Placing.{Fits, all-fits, all-count}
-
-zeros-at : (n k : ℕ) → getD {A = ℕ} (replicate n 0) k 0 ≡ 0
-zeros-at n k = go (lt-or-ge k n)
-  where
-    go : (k < n) ⊎ (n ≤ k) → getD {A = ℕ} (replicate n 0) k 0 ≡ 0
-    go (inl h) = getD-replicate n k 0 0 h
-    go (inr h) = List·getD-eq-default (replicate n 0) 0 (rw (length-replicate {A = ℕ} n 0) h)
 
 -- the children of the stack at place `at` of this segment
 abbrev childrenAt : Scan → ℕ → List ℕ
@@ -73,7 +67,7 @@ module _ (scan : Scan) (fit : ScanFits scan) where
         zeros = replicate (12 - length cs) 0
 
         none : (k : ℕ) → getD zeros k 0 ≡ 0
-        none k = zeros-at (12 - length cs) k
+        none k = replicate-zero (12 - length cs) k
 
         go : (i < length cs) ⊎ (length cs ≤ i) → getD (cs ++ zeros) i 0 < stackCount (scan .kind) (scan .n)
         go (inl l) = rw (List·getD-append cs zeros 0 i l) (children-inside (scan .kind) (scan .n) v (fit .is-size) h i l)

@@ -79,6 +79,9 @@ module _ (line : Line) (w : length (line .chars) ≡ 64) (f : isFrame (textOf li
   pub count-is : length bytes ≡ line .length / 2
   count-is = length-take-le (line .length / 2) (bytesOf (line .chars)) (omega (arith, frame-count line w f, chars-bytes (line .chars) w))
 
+  bytes-length : length (bytesOf (textOf line)) ≡ line .length / 2
+  bytes-length = ap length (frame-bytes line w f) ∙ count-is
+
   first-bytes : bytesRefusal bytes ≡ firstRefusal (textOf line)
   unfolding firstRefusal
   first-bytes = rw (f, frame-bytes line w f)
@@ -144,9 +147,7 @@ module _ (line : Line) (w : length (line .chars) ≡ 64) (h : firstRefusal (text
   all-bytes = bytesOf (line .chars)
 
   first-count : length (bytesOf (textOf line)) ≡ line .length / 2
-  first-count =
-      let f = first-passes (textOf line) h .frame in
-      ap length (frame-bytes line w f) ∙ count-is line w f
+  first-count = bytes-length line w (first-passes (textOf line) h .frame)
 
   byte-is : (i : ℕ) → i < 2 → getD all-bytes i 0 ≡ getD (bytesOf (textOf line)) i 0
   byte-is i l =
@@ -201,18 +202,15 @@ places-length bs =
     length-append (map paneOf bs) (replicate (12 - length bs) (pos 0)) ∙ ap₂ (λ (a b : ℕ). a + b) (length-map bs paneOf) (length-replicate (12 - length bs) (pos 0))
 
 module _ (kind n : ℕ) (line : Line) (w : length (line .chars) ≡ 64) (f : isFrame (textOf line) ≡ true) where
-  later-length : length (bytesOf (textOf line)) ≡ line .length / 2
-  later-length = ap length (frame-bytes line w f) ∙ count-is line w f
-
   pub later-length-wrong : (line .length / 2 ≡ n → ⊥) → 16 ≡ laterRefusal kind n (textOf line)
   unfolding laterRefusal
-  later-length-wrong h = rw (f, later-length, ne-eqb (line .length / 2) n h)
+  later-length-wrong h = rw (f, bytes-length line w f, ne-eqb (line .length / 2) n h)
 
   module _ (e : line .length / 2 ≡ n) where
     pub later-many : 12 < n → 3 ≡ laterRefusal kind n (textOf line)
     unfolding laterRefusal isStack
     later-many h =
-        rw (f, later-length, eq-eqb (line .length / 2) n e, ne-eqb (length (placesOf (bytesOf (textOf line)))) 12 (omega (arith, places-length (bytesOf (textOf line)), later-length)))
+        rw (f, bytes-length line w f, eq-eqb (line .length / 2) n e, ne-eqb (length (placesOf (bytesOf (textOf line)))) 12 (omega (arith, places-length (bytesOf (textOf line)), bytes-length line w f)))
 
     -- the bytes of all the panes
     pub later-bytes : take n (drop 0 (bytesOf (line .chars))) ≡ bytesOf (textOf line)
@@ -222,7 +220,7 @@ module _ (kind n : ℕ) (line : Line) (w : length (line .chars) ≡ 64) (f : isF
     pub later-rest : (s : Bool) → s ≡ isStack kind n (placesOf (take n (drop 0 (bytesOf (line .chars))))) → unless s 3 0 ≡ laterRefusal kind n (textOf line)
     unfolding laterRefusal
     later-rest s p =
-        rw (f, later-length, eq-eqb (line .length / 2) n e, p, ap placesOf later-bytes)
+        rw (f, bytes-length line w f, eq-eqb (line .length / 2) n e, p, ap placesOf later-bytes)
 
 -- what an accepted later frame has
 pub later-passes : (kind n : ℕ) (cs : List ℕ) → laterRefusal kind n cs ≡ 0 → (isFrame cs ≡ true) × (length (bytesOf cs) ≡ n) × (n ≤ 12)
@@ -240,7 +238,7 @@ pub later-panes : (kind n : ℕ) (line : Line) → length (line .chars) ≡ 64 �
     → take n (drop 0 (bytesOf (line .chars))) ≡ bytesOf (textOf line)
 later-panes kind n line w h =
     let p = later-passes kind n (textOf line) h in
-    later-bytes kind n line w (p .0) (sym (later-length kind n line w (p .0)) ∙ p .1)
+    later-bytes kind n line w (p .0) (sym (bytes-length line w (p .0)) ∙ p .1)
 
 -- ---- an overlong line is refused, and so what is kept of any line is answered as the whole line is
 

@@ -1,14 +1,14 @@
 -- The signed arithmetic of one place: a pane's magnitude, coat and negation, over any integer.
 use mathlib.Core.Path.{_≡_, refl, ap, _∙_}
 use mathlib.Core.Bool.{true, false, true≢false}
-use Prim.Native.Nat.{ℕ, zero, suc, _≤_, _<_, _^_}
+use Prim.Native.Nat.{ℕ, zero, suc, _%_, _≤_, _<_, _^_}
 use native.Mathlib.Omega.{arith}
 use lib.IntN.{ℤ, pos, negsuc, negℤ, natAbs, _-ℤ_, +ℤ-idl}
 use lib.Signed.{mag, ltZ, nonNeg}
 use borrow.Author.Tests.{ltb-true, ne-eqb}
 use mir.Syntax.{Width, w8, w32}
 use mir.Val.{SFits, toZ, ofZ, hbits}
-use mir.Facts.{toZ-ofZ}
+use mir.Facts.{toZ-ofZ, toZ-pos}
 use Rattle.stacks.specs.Index.{coat, paneWith}
 use Rattle.stacks.specs.Stack.{isCoated}
 use Rattle.stacks.specs.Turn.{flip}
@@ -36,6 +36,10 @@ small-fits w z h = record { sfits = omega (arith, mag-abs z) }
 
 pub neg-fits : (w : Width) (z : ℤ) → natAbs z < 2 ^ hbits w → SFits w (negℤ z)
 neg-fits w z h = record { sfits = omega (arith, mag-neg z) }
+
+-- a number below 128 is read as it is, and so is its negation
+pub byte-negated : (b : ℕ) → pos 0 -ℤ toZ w8 (b % 128) ≡ negℤ (pos (b % 128))
+byte-negated b = ap (λ (y : ℤ). pos 0 -ℤ y) (toZ-pos w8 {n = b % 128} (omega arith)) ∙ zero-sub (pos (b % 128))
 
 -- the sign that a test finds
 pub below-zero : (z : ℤ) → ltZ z (pos 0) ≡ true → (1 ≡ coat z) × (nonNeg (negℤ z) ≡ true) × (natAbs (negℤ z) ≡ natAbs z)

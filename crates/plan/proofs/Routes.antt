@@ -11,11 +11,10 @@ use lib.Seq.{take-suc-set, length-take-le}
 use borrow.Author.Tests.{eq-eqb, ne-eqb}
 use Rattle.base.specs.Words.{from}
 use Rattle.stacks.specs.Index.{rankOf}
-use Rattle.stacks.specs.Stack.{isCoated, isSize, isStack, stackCount}
+use Rattle.stacks.specs.Stack.{isSize, isStack, stackCount}
 use Rattle.stacks.specs.Turn.{firstTurn, lastTurn, turnOf, turnsOf}
 use Rattle.stacks.proofs.Numbering.{rank-lt}
-use Rattle.stacks.proofs.Sizes.{size-least}
-use Rattle.stacks.proofs.TurnLaws.{first-pos, turn-stack, turns-stack}
+use Rattle.stacks.proofs.TurnLaws.{first-pos, turn-stack, turns-stack, first-inside}
 use Rattle.search.specs.Entries.{bytesFor, entryAt, nextEntry}
 use Rattle.search.specs.Plan.{planLimit, Route, entryOf, leadsTo, follow, isWanted, planStep, planRun, routeFrom}
 use Rattle.search.proofs.EntryLaws.{byte-inside}
@@ -29,17 +28,6 @@ entry-inside kind n s table i size stack long e =
     rw (e, long) (byte-inside (rankOf kind n s) (stackCount kind n) (rank-lt kind n s size stack))
 
 -- ---- the turns of a kind, and those not tried yet
-
-first-two : (kind : ℕ) → firstTurn kind ≤ 2
-unfolding firstTurn
-first-two kind = go (isCoated kind)
-  where
-    go : (t : Bool) → cond t 1 2 ≤ 2
-    go true = omega arith
-    go false = omega arith
-
-pub first-inside : (kind n : ℕ) → isSize kind n ≡ true → firstTurn kind ≤ n + 1
-first-inside kind n size = omega (arith, first-two kind, size-least kind n size)
 
 -- before the first try these are all turns
 pub untried-all : (kind n first : ℕ) → isSize kind n ≡ true → first ≡ firstTurn kind

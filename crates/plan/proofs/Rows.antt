@@ -2,14 +2,14 @@
 use mathlib.Core.Path.{_≡_, refl, sym, _∙_}
 use mathlib.Core.Bool.{Bool, true, false}
 use mathlib.Core.List.{List}
-use Prim.Native.Nat.{ℕ, suc, _/_, _≤_, _<_}
-use native.Mathlib.Nat.{suc-ne-zero}
+use Prim.Native.Nat.{ℕ, _/_, _≤_, _<_}
 use lib.Dec.{leb, ltb, eqb}
 use lib.IntN.{ℤ}
 use borrow.Author.Tests.{ltb-true, leb-true, eqb-true, lt-ltb, le-ltb, le-leb, lt-leb, eq-eqb, ne-eqb}
 use Rattle.base.specs.Words.{unless}
 use Rattle.stacks.specs.Operations.{sizeRefusal}
 use Rattle.stacks.specs.Stack.{isKind, isSize, isStack, stackCount}
+use Rattle.base.proofs.Tests.{unless-zero}
 use Rattle.perm.proofs.Refusals.{size-refuses, size-goes-on, size-passes}
 use Rattle.search.specs.Entries.{bytesFor}
 use Rattle.search.specs.Plan.{planLimit}
@@ -18,10 +18,6 @@ use Rattle.search.proofs.EntryLaws.{byte-inside}
 use Rattle.plan.specs.Row.{planRow}
 
 -- one test of a row that refuses nothing
-passes : (ok : Bool) (r rest : ℕ) → unless ok (suc r) rest ≡ 0 → (ok ≡ true) × (rest ≡ 0)
-passes true r rest h = (refl, h)
-passes false r rest h = absurd (suc-ne-zero r h)
-
 -- ---- Read an entry
 
 -- r is what the row of the kind and n answers
@@ -51,8 +47,8 @@ unfolding readRefusal
 read-inside kind n bytes i h =
     let count : ℕ = stackCount kind n in
     let f = size-passes kind n (unless (eqb bytes (bytesFor count)) 10 (unless (ltb i count) 4 0)) h in
-    let g = passes (eqb bytes (bytesFor count)) 9 (unless (ltb i count) 4 0) (f .1) in
-    let k = passes (ltb i count) 3 0 (g .1) in
+    let g = unless-zero (eqb bytes (bytesFor count)) 9 (unless (ltb i count) 4 0) (f .1) in
+    let k = unless-zero (ltb i count) 3 0 (g .1) in
     rw (eqb-true bytes (bytesFor count) (g .0)) (byte-inside i count (ltb-true i count (k .0)))
 
 -- ---- Plan
@@ -117,12 +113,12 @@ module _ (kind n : ℕ) (wanted given : List ℤ) (bytes room : ℕ) where
       let long : ℕ = unless (eqb bytes (bytesFor (stackCount kind n))) 10 wide in
       let start : ℕ = unless (isStack kind n given) 3 long in
       let goal : ℕ = unless (isStack kind n wanted) 3 start in
-      let a = passes (isKind kind) 0 (unless (isSize kind n) 2 goal) (sym row ∙ none) in
-      let b = passes (isSize kind n) 1 goal (a .1) in
-      let c = passes (isStack kind n wanted) 2 start (b .1) in
-      let d = passes (isStack kind n given) 2 long (c .1) in
-      let e = passes (eqb bytes (bytesFor (stackCount kind n))) 9 wide (d .1) in
-      let f = passes (leb 30 room) 9 0 (e .1) in
+      let a = unless-zero (isKind kind) 0 (unless (isSize kind n) 2 goal) (sym row ∙ none) in
+      let b = unless-zero (isSize kind n) 1 goal (a .1) in
+      let c = unless-zero (isStack kind n wanted) 2 start (b .1) in
+      let d = unless-zero (isStack kind n given) 2 long (c .1) in
+      let e = unless-zero (eqb bytes (bytesFor (stackCount kind n))) 9 wide (d .1) in
+      let f = unless-zero (leb 30 room) 9 0 (e .1) in
       record {
         of-kind = a .0;
         of-size = b .0;

@@ -3,7 +3,7 @@ use mathlib.Core.Path.{_≡_, refl, sym, ap, _∙_}
 use mathlib.Core.Logic.{_⊎_, inl, inr}
 use mathlib.Core.Bool.{Bool, true, false, not, cond}
 use mathlib.Core.List.{List, [], _∷_}
-use Prim.Native.Nat.{ℕ, _+_, _-_, _%_, _≤_, _<_}
+use Prim.Native.Nat.{ℕ, _+_, _-_, _≤_, _<_}
 use native.Mathlib.Omega.{arith}
 use lib.Dec.{leb, ltb, eqb}
 use lib.IntN.{ℤ}
@@ -27,8 +27,7 @@ use Rattle.search.specs.declared.Phase.{Phase}
 use Rattle.search.specs.declared.Phase.the-variants.{Blanking, Level, Finished}
 use Rattle.search.proofs.Accepted.{close-facts, settle-facts, blank-accepted, blank-refused, settle-accepted, settle-refused, close-accepted, close-refused}
 use Rattle.search.proofs.Coherence.{Coherent, coherent-facts, facts-coherent}
-use Rattle.search.proofs.EntryLaws.{get-set-same, byte-inside}
-use Rattle.search.proofs.MarkLaws.{mark-unseen, mark-seen, mark-length, mark-other}
+use Rattle.search.proofs.MarkLaws.{mark-unseen, mark-seen, mark-length, mark-other, mark-new}
 
 -- a number that is set stays within a bound that both it and the old one meet
 pub set-fits : (xs : List ℕ) (j v i b : ℕ) → (i ≡ j → v ≤ b) → getD xs i 0 ≤ b → getD (set xs j v) i 0 ≤ b
@@ -54,9 +53,6 @@ pub mark-budget : (d i m : ℕ) (marks : Marks) → i < m → length (marks .seg
     → markOne d i marks .count + unseenIn m (markOne d i marks .segment) ≡ marks .count + unseenIn m (marks .segment)
 mark-budget d i m marks h long = go (eq-or-ne (entryAt (marks .segment) i) 3)
   where
-    new : entryAt (marks .segment) i ≡ 3 → entryAt (markOne d i marks .segment) i ≡ d % 3
-    new e = rw (mark-unseen d i marks e) (get-set-same (marks .segment) i (d % 3) (omega arith) (rw long (byte-inside i m h)))
-
     go : (entryAt (marks .segment) i ≡ 3) ⊎ (entryAt (marks .segment) i ≡ 3 → ⊥)
         → markOne d i marks .count + unseenIn m (markOne d i marks .segment) ≡ marks .count + unseenIn m (marks .segment)
     go (inl e) =
@@ -69,7 +65,7 @@ mark-budget d i m marks h long = go (eq-or-ne (entryAt (marks .segment) i) 3)
               m
               i
               h
-              (ne-eqb (entryAt (markOne d i marks .segment) i) 3 (λ q. omega (arith, new e)))
+              (ne-eqb (entryAt (markOne d i marks .segment) i) 3 (λ q. omega (arith, mark-new d i m marks h long e)))
               (eq-eqb (entryAt (marks .segment) i) 3 e)
               (λ u l ne. ap (λ (x : ℕ). eqb x 3) (sym (mark-other d i marks u ne))),
         )

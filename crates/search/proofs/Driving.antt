@@ -8,6 +8,7 @@ use native.Mathlib.Omega.{arith}
 use lib.Dec.{ltb}
 use lib.IntN.{ℤ}
 use borrow.Author.Tests.{ltb-true, ltb-false, lt-ltb, le-ltb}
+use Rattle.base.proofs.Radix.{digits-less}
 use Rattle.base.proofs.Tests.{test-cases, never, lt-or-ge}
 use Rattle.stacks.specs.Stack.{stackCount}
 use Rattle.search.specs.Build.{World, Call, own, doBlank, doExpand, doSettle, doClose, outcome, Outcome, lent, kept}
@@ -23,7 +24,7 @@ use Rattle.search.proofs.ExpandCases.{first-before, first-passes}
 use Rattle.search.proofs.Invariant.{Given, Blanks, Searches, Ended, Invariant}
 use Rattle.search.proofs.Shapes.{segments-is, stacks-is}
 use Rattle.search.proofs.Steps.{step-keeps}
-use Rattle.search.proofs.WorkLeft.{workLeft, levelsLeft, stacksLeft, logsLeft, digits-less, stacks-le, logs-le}
+use Rattle.search.proofs.WorkLeft.{workLeft, levelsLeft, stacksLeft, logsLeft, stacks-le, logs-le}
 
 -- ---- the driver's choice, case by case
 
@@ -206,11 +207,11 @@ work-most N S job =
     let most = suc (suc lastLevel) in
     omega (
       arith,
-      digits-less N S (suc (segmentCount N S)) (levels * suc N + stacksLeft N S job) (logsLeft N S job) (most * suc N) 0
+      digits-less (suc (segmentCount N S)) (levels * suc N + stacksLeft N S job) (logsLeft N S job) (most * suc N) 0
           (omega (arith, logs-le N S job))
           (omega (
             arith,
-            digits-less N S (suc N) levels (stacksLeft N S job) most 0 (omega (arith, stacks-le N S job)) (levels-most (job .phase)),
+            digits-less (suc N) levels (stacksLeft N S job) most 0 (omega (arith, stacks-le N S job)) (levels-most (job .phase)),
           )),
     )
 

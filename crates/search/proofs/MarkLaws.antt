@@ -44,6 +44,12 @@ module _ (d i : ℕ) (marks : Marks) where
       go (inl h) = rw (mark-unseen h) (get-set-other (marks .segment) i l (d % 3) (omega arith) ne)
       go (inr h) = rw (mark-seen h)
 
+-- an unseen one of m stacks is marked
+pub mark-new : (d i m : ℕ) (marks : Marks) → i < m → length (marks .segment) ≡ bytesFor m → entryAt (marks .segment) i ≡ 3
+    → entryAt (markOne d i marks .segment) i ≡ d % 3
+mark-new d i m marks h long e =
+    rw (mark-unseen d i marks e) (get-set-same (marks .segment) i (d % 3) (omega arith) (rw long (byte-inside i m h)))
+
 -- what is unseen after a mark was so before it, and the marked one is seen
 module _ {N d : ℕ} {e e′ : ℕ → ℕ} {v : ℕ} (marked : Marked N d e e′ v) where
   pub marked-before : (u : ℕ) → u < N → e′ u ≡ 3 → e u ≡ 3
@@ -85,16 +91,11 @@ module _ (N S : ℕ) (some : 0 < S) (segments : List (List ℕ)) (j : ℕ) (insi
         record {
           others = λ u h ne. go u ne (eq-or-ne (u / S) j);
           unseen = λ e. entry-place (markOne d i marks .segment) i fits
-              ∙ new (sym (entry-place (marks .segment) i fits) ∙ e);
+              ∙ mark-new d i (stacksIn N S j) marks fits bytes (sym (entry-place (marks .segment) i fits) ∙ e);
           seen = λ ne. ap (λ (m : Marks). entryIn S (set segments j (m .segment)) (j * S + i))
               (mark-seen d i marks (λ e. ne (entry-place (marks .segment) i fits ∙ e)));
         }
       where
-        new : entryAt (marks .segment) i ≡ 3 → entryAt (markOne d i marks .segment) i ≡ d % 3
-        new e =
-            rw (mark-unseen d i marks e)
-            (get-set-same (marks .segment) i (d % 3) (omega arith) (rw bytes (byte-inside i (stacksIn N S j) fits)))
-
         go : (u : ℕ) → (u ≡ j * S + i → ⊥) → (u / S ≡ j) ⊎ (u / S ≡ j → ⊥)
             → entryIn S (set segments j (markOne d i marks .segment)) u ≡ entryIn S (set segments j (marks .segment)) u
         go u ne (inl e) =

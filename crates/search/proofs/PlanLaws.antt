@@ -4,14 +4,13 @@ use mathlib.Core.Logic.{_⊎_, inl, inr}
 use mathlib.Core.Bool.{Bool, true, false, not, _&&_, cond, false≢true}
 use mathlib.Core.List.{List, [], _∷_, _++_}
 use Prim.Native.Nat.{ℕ, zero, suc, _+_, _-_, _%_, _<_, _≤_, zero-le}
-use native.Mathlib.Nat.{suc-ne-zero}
 use native.Mathlib.Omega.{arith}
 use lib.Dec.{leb, eqb}
 use lib.IntN.{ℤ}
 use lib.ListN.{length, length-append}
 use borrow.Author.Tests.{leb-true, le-leb, eqb-true, eq-eqb, ne-eqb}
 use Rattle.base.specs.Words.{unless, all}
-use Rattle.base.proofs.Tests.{and-right, and-both, test-cases, never}
+use Rattle.base.proofs.Tests.{unless-zero, and-right, and-both, test-cases, never}
 use Rattle.graph.specs.Walks.{isMove}
 use Rattle.graph.proofs.Moves.{isMove-cases, isMove-first, isMove-rest}
 use Rattle.graph.proofs.Depths.{Depths, nearer-label}
@@ -30,10 +29,6 @@ use Rattle.search.proofs.Fewest.{depth, turn-depths, stack-depth, depth
 
 -- ---- what an accepted call was given
 
-unless-zero : (ok : Bool) (r rest : ℕ) → unless ok (suc r) rest ≡ 0 → (ok ≡ true) × (rest ≡ 0)
-unless-zero true r rest h = (refl, h)
-unless-zero false r rest h = absurd (suc-ne-zero r h)
-
 pub record PlanFacts (kind n : ℕ) (wanted given : List ℤ) (table : List ℕ) (room : ℕ) : Type 0 where
   pub of-kind : isKind kind ≡ true
   pub of-size : isSize kind n ≡ true
@@ -44,6 +39,19 @@ pub record PlanFacts (kind n : ℕ) (wanted given : List ℤ) (table : List ℕ)
   pub plan : hasPlan kind n table wanted given ≡ true
 
 module _ (kind n : ℕ) (wanted given : List ℤ) (table : List ℕ) (room : ℕ) where
+  pub facts-plan : PlanFacts kind n wanted given table room → planRefusal kind n wanted given table room ≡ 0
+  unfolding planRefusal sizeRefusal
+  facts-plan f =
+      rw (
+        f .of-kind,
+        f .of-size,
+        f .goal,
+        f .start,
+        eq-eqb (length table) (bytesFor (stackCount kind n)) (f .bytes),
+        le-leb planLimit room (f .wide),
+        f .plan,
+      )
+
   pub plan-facts : planRefusal kind n wanted given table room ≡ 0 → PlanFacts kind n wanted given table room
   unfolding planRefusal sizeRefusal
   plan-facts h =
@@ -68,19 +76,6 @@ module _ (kind n : ℕ) (wanted given : List ℤ) (table : List ℕ) (room : ℕ
         wide = leb-true planLimit room (f .0);
         plan = g .0;
       }
-
-  pub facts-plan : PlanFacts kind n wanted given table room → planRefusal kind n wanted given table room ≡ 0
-  unfolding planRefusal sizeRefusal
-  facts-plan f =
-      rw (
-        f .of-kind,
-        f .of-size,
-        f .goal,
-        f .start,
-        eq-eqb (length table) (bytesFor (stackCount kind n)) (f .bytes),
-        le-leb planLimit room (f .wide),
-        f .plan,
-      )
 
 -- ---- a plan in the making, whatever the table holds
 

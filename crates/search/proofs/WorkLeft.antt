@@ -2,11 +2,11 @@
 use mathlib.Core.Path.{_≡_, sym, ap}
 use mathlib.Core.Bool.{Bool}
 use Prim.Native.Nat.{ℕ, suc, _+_, _-_, _*_, _/_, _%_, _≤_, _<_}
-use native.Mathlib.Nat.{suc-mul, mul-le-mul-right}
 use native.Mathlib.Omega.{arith}
 use lib.Dec.{leb, ltb}
 use borrow.Author.Tests.{lt-ltb, le-ltb, leb-true, le-leb, lt-leb}
 use Rattle.base.specs.Words.{tally, from}
+use Rattle.base.proofs.Radix.{digits-less}
 use Rattle.graph.proofs.Tally.{tally-le, tally-one-more, tally-falls}
 use Rattle.search.specs.Drive.{isPending}
 use Rattle.search.specs.JobState.{lastLevel, passedOf, waitingOf}
@@ -34,10 +34,6 @@ module _ (N S : ℕ) where
 
   unfoldable pub workLeft : Job → ℕ
   workLeft job = (levelsLeft (job .phase) * suc N + stacksLeft job) * suc (segmentCount N S) + logsLeft job
-
-  -- the first of two digits decides
-  pub digits-less : (m q r u v : ℕ) → r < m → q < u → q * m + r < u * m + v
-  digits-less m q r u v h l = omega (arith, suc-mul q m, mul-le-mul-right m l)
 
   pub stacks-le : (job : Job) → stacksLeft job ≤ N
   unfolding stacksLeft

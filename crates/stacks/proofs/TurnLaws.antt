@@ -19,6 +19,7 @@ use Rattle.base.specs.Words.{all, tally, from}
 use Rattle.stacks.specs.Stack.{isCoated, isSize, isStack, isUnused, orderOf}
 use Rattle.stacks.specs.Index.{smaller}
 use Rattle.stacks.specs.Turn.{firstTurn, lastTurn, isTurn, turnsOf, flip, turnOf, turnsFrom}
+use Rattle.stacks.proofs.Sizes.{size-least}
 use Rattle.stacks.proofs.Panes.{StackFacts, stack-facts, facts-stack, smaller-append, smaller-reverse, smaller-once}
 use Rattle.stacks.proofs.Numbering.{stack-panes}
 
@@ -43,6 +44,18 @@ first-pos kind = go (isCoated kind)
     go : (t : Bool) → 1 ≤ cond t 1 2
     go true = omega arith
     go false = omega arith
+
+-- a stack of one plain pane has no turn, and its first would be one past it
+first-two : (kind : ℕ) → firstTurn kind ≤ 2
+unfolding firstTurn
+first-two kind = go (isCoated kind)
+  where
+    go : (t : Bool) → cond t 1 2 ≤ 2
+    go true = omega arith
+    go false = omega arith
+
+pub first-inside : (kind n : ℕ) → isSize kind n ≡ true → firstTurn kind ≤ n + 1
+first-inside kind n size = omega (arith, first-two kind, size-least kind n size)
 
 -- the list of turns holds the turns and nothing else
 pub turns-length : (kind n : ℕ) → length (turnsOf kind n) ≡ suc n - firstTurn kind

@@ -10,8 +10,8 @@ use Rattle.stacks.specs.Index.{rankOf}
 use Rattle.stacks.specs.Stack.{isStack}
 use Rattle.stacks.proofs.Numbering.{unrank-stack, rank-unrank}
 use Rattle.stacks.proofs.Sizes.{size-twelve}
-use Rattle.stacks.proofs.TurnLaws.{first-pos}
-use Rattle.expand.proofs.Filling.{filledTo, first-within, filled-none, filled-more, filled-all}
+use Rattle.stacks.proofs.TurnLaws.{first-pos, first-inside}
+use Rattle.expand.proofs.Filling.{filledTo, filled-none, filled-more, filled-all}
 use Rattle.expand.proofs.children.children_of.Statement.{statement}
 use Rattle.expand.proofs.children.children_of.Tie as tie
 
@@ -34,7 +34,7 @@ loop-holds c =
     let size = s .pre .0 in
     let first = c .first-turn .ensures in (
       size-twelve (s .args .kind) (s .args .n) size,
-      omega (arith, first-within (s .args .kind) (s .args .n) size),
+      omega (arith, first-inside (s .args .kind) (s .args .n) size),
       omega arith,
       first-pos (s .args .kind),
       sym (filled-none (s .args .kind) (s .args .n) (s .args .index)),

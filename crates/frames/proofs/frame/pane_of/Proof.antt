@@ -1,13 +1,13 @@
 -- `frames::frame::pane_of` meets its contract: a number below 128 is an i8 with either sign.
-use mathlib.Core.Path.{_≡_, ap, _∙_, subst⁻¹}
-use Prim.Native.Nat.{ℕ, _/_, _%_}
+use mathlib.Core.Path.{ap, _∙_, subst⁻¹}
+use Prim.Native.Nat.{_/_, _%_}
 use native.Mathlib.Omega.{arith}
 use borrow.Author.Needs.{needs}
-use lib.IntN.{ℤ, pos, negℤ, _-ℤ_}
+use lib.IntN.{ℤ, pos}
 use mir.Syntax.{w8}
 use mir.Val.{SFits, toZ, ofZ}
 use mir.Facts.{toZ-ofZ, toZ-pos}
-use Rattle.perm.proofs.Signed.{zero-sub, neg-fits, pane-up, pane-down}
+use Rattle.perm.proofs.Signed.{byte-negated, neg-fits, pane-up, pane-down}
 use Rattle.frames.specs.Frame.{paneOf}
 use Rattle.frames.proofs.frame.pane_of.Statement.{statement}
 use Rattle.frames.proofs.frame.pane_of.Tie as tie
@@ -15,14 +15,10 @@ use Rattle.frames.proofs.frame.pane_of.Tie as tie
 cast-up : tie.Need-cast-up
 cast-up c = search needs
 
--- the number is read as it is, and so is its negation
-negated : (b : ℕ) → pos 0 -ℤ toZ w8 (b % 128) ≡ negℤ (pos (b % 128))
-negated b = ap (λ (y : ℤ). pos 0 -ℤ y) (toZ-pos w8 {n = b % 128} (omega arith)) ∙ zero-sub (pos (b % 128))
-
 sub-result : tie.Need-sub-result
 sub-result c =
     let b = c .before .args .byte in
-    subst⁻¹ (SFits w8) (negated b) (neg-fits w8 (pos (b % 128)) (omega arith))
+    subst⁻¹ (SFits w8) (byte-negated b) (neg-fits w8 (pos (b % 128)) (omega arith))
 
 returns : tie.Need-returns
 unfolding paneOf
@@ -34,7 +30,7 @@ returns-2 : tie.Need-returns-2
 unfolding paneOf
 returns-2 c =
     let b = c .before .args .byte in
-    ap (λ (y : ℤ). toZ w8 (ofZ w8 y)) (negated b)
+    ap (λ (y : ℤ). toZ w8 (ofZ w8 y)) (byte-negated b)
     ∙ toZ-ofZ (neg-fits w8 (pos (b % 128)) (omega arith))
     ∙ pane-down (b % 128) (b / 128) (omega arith)
 

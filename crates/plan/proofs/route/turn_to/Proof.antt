@@ -4,11 +4,11 @@ use Prim.Native.Nat.{_+_, _-_, _≤_}
 use native.Mathlib.Omega.{arith}
 use borrow.Author.Needs.{needs}
 use Rattle.base.specs.Words.{from}
-use Rattle.stacks.specs.Turn.{turnsOf, turnOf}
+use Rattle.stacks.specs.Turn.{turnsOf}
 use Rattle.stacks.proofs.Sizes.{size-twelve}
-use Rattle.stacks.proofs.TurnLaws.{turn-stack}
+use Rattle.stacks.proofs.TurnLaws.{turn-stack, first-inside}
 use Rattle.plan.specs.Routes.{firstTo}
-use Rattle.plan.proofs.Routes.{entry-inside, first-inside, untried-all, tried-all, tried-hit, tried-miss}
+use Rattle.plan.proofs.Routes.{entry-inside, untried-all, tried-all, tried-hit, tried-miss}
 use Rattle.plan.proofs.route.turn_to.Statement.{statement}
 use Rattle.plan.proofs.route.turn_to.Tie as tie
 
@@ -47,9 +47,8 @@ rank-turned-requires c κs =
 get-entry-requires : tie.Need-get-entry-requires Inv-loop μ-loop
 get-entry-requires c κs =
     let s = c .before .before .before .before .before in
-    let k = s .args .n + 1 - c .before .before .loop .left in
-    entry-inside (s .args .kind) (s .args .n) (turnOf (s .args .kind) k (s .args .stack)) (s .args .table .now) (c .rank-turned .result) (s .pre .0)
-    (turn-stack (s .args .kind) (s .args .n) (s .pre .0) k (s .args .stack) (omega arith) (s .pre .1)) (s .pre .3) (c .rank-turned .ensures)
+    entry-inside (s .args .kind) (s .args .n) _ (s .args .table .now) (c .rank-turned .result) (s .pre .0)
+    (turn-stack (s .args .kind) (s .args .n) (s .pre .0) _ (s .args .stack) (omega arith) (s .pre .1)) (s .pre .3) (c .rank-turned .ensures)
 
 returns : tie.Need-returns Inv-loop μ-loop
 returns c =
