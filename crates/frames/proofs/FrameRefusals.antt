@@ -252,12 +252,6 @@ overlong-first cs h = sym (first-none cs (overlong-none cs h))
 pub overlong-later : (kind n : ℕ) (cs : List ℕ) → 64 < length cs → laterRefusal kind n cs ≡ 16
 overlong-later kind n cs h = sym (later-none kind n cs (overlong-none cs h))
 
-pub kept-first-refusal : (cs : List ℕ) → firstRefusal (textOf (keptOf cs)) ≡ firstRefusal cs
-kept-first-refusal = kept-says firstRefusal 16 overlong-first
-
-pub kept-later-refusal : (kind n : ℕ) (cs : List ℕ) → laterRefusal kind n (textOf (keptOf cs)) ≡ laterRefusal kind n cs
-kept-later-refusal kind n = kept-says (laterRefusal kind n) 16 (overlong-later kind n)
-
 pub kept-first : (cs : List ℕ) → firstOf (textOf (keptOf cs)) ≡ firstOf cs
 unfolding firstOf
 kept-first = kept-says firstOf (firstWith 16 []) (λ ds h. rw (overlong-first ds h))

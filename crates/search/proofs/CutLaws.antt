@@ -6,11 +6,11 @@ use mathlib.Core.List.{List, [], _∷_, _++_, map, append-assoc}
 use Prim.Native.Nat.{ℕ, zero, suc, _+_, _*_, _/_, _%_, _≤_, _<_}
 use native.Mathlib.Nat.{zero-add, zero-mul, suc-mul, not-suc-le-zero}
 use native.Mathlib.Omega.{arith}
-use lib.ListN.{length, getD, set, take, drop, take-append-drop, length-take, length-drop, length-set, length-map, drop-of-length-le}
-use lib.Seq.{take-append-add, drop-append-seam, drop-append-add, take-at, drop-drop, getD-set-same, getD-set-other, ext-getD}
+use lib.ListN.{length, getD, set, take, drop, take-append-drop, length-take, length-drop, length-map, drop-of-length-le}
+use lib.Seq.{take-append-add, drop-append-seam, drop-append-add, take-at, drop-drop, ext-getD}
 use Rattle.base.specs.Words.{from}
 use Rattle.base.proofs.Lists.{from-length}
-use Rattle.base.proofs.Tests.{lt-or-ge, eq-or-ne}
+use Rattle.base.proofs.Tests.{lt-or-ge}
 use Rattle.search.specs.Drive.{cut}
 use Rattle.search.specs.Entries.{bytesFor}
 use Rattle.search.specs.Segments.{segmentCount, stacksIn, joined}
@@ -157,26 +157,3 @@ module _ (N S : ℕ) (some : 0 < S) (four : S % 4 ≡ 0) where
       cut-at (joined segs) j h
       ∙ ap (λ (l : List ℕ). take (bytesFor (stacksIn N S j)) l) (joined-from (S / 4) segs j (full-length N S segs whole) (omega (arith, whole .count)))
       ∙ take-at (getD segs j []) (joined (drop (suc j) segs)) (bytesFor (stacksIn N S j)) (whole .sizes j h))
-
-  -- a table whose segment j was replaced is cut into the segments with that one replaced
-  pub cut-replaced : (table : List ℕ) → length table ≡ bytesFor N → (j : ℕ) (new : List ℕ) → j < segmentCount N S
-      → length new ≡ bytesFor (stacksIn N S j)
-      → cut N S (take (j * (S / 4)) table ++ (new ++ drop (j * (S / 4) + bytesFor (stacksIn N S j)) table)) ≡ set (cut N S table) j new
-  cut-replaced table long j new h fits =
-      ap (cut N S) (sym (joined-replaced table long j new h))
-      ∙ cut-joined (set (cut N S table) j new)
-      (record {
-        some = some;
-        four = four;
-        count = length-set (cut N S table) j new ∙ cut-count table;
-        sizes = λ i l. size i l (eq-or-ne i j);
-      })
-    where
-      size : (i : ℕ) → i < segmentCount N S → (i ≡ j) ⊎ (i ≡ j → ⊥)
-          → length (getD (set (cut N S table) j new) i []) ≡ bytesFor (stacksIn N S i)
-      size i l (inl e) =
-          ap (λ (k : ℕ). length (getD (set (cut N S table) j new) k [])) e
-          ∙ ap length (getD-set-same (cut N S table) j new [] (omega (arith, cut-count table)))
-          ∙ fits
-          ∙ ap (λ (k : ℕ). bytesFor (stacksIn N S k)) (sym e)
-      size i l (inr ne) = ap length (getD-set-other (cut N S table) j i new [] ne) ∙ cut-segmented table long .sizes i l

@@ -9,7 +9,7 @@ use native.Mathlib.Omega.{arith}
 use lib.Arith.{digits-lt, digits-div, digits-mod}
 use lib.ListN.{length, getD, set, length-set, length-replicate, getD-replicate}
 use lib.Pow.{pow-add}
-use lib.Seq.{getD-set-same, getD-set-other, set-out, set-set, set-comm, set-getD}
+use lib.Seq.{getD-set-same, getD-set-other, set-out, set-set, set-comm}
 use Rattle.base.proofs.Tests.{lt-or-ge, eq-or-ne}
 use Rattle.search.specs.Entries.{digit, withDigit, entryAt, setEntry, nextEntry, bytesFor, blank}
 
@@ -121,10 +121,6 @@ withDigit-byte b k v h m n =
     let l : b / 4 ^ suc k < 4 ^ (4 - suc k) = div-lt-iff-lt-mul (place-pos (suc k)) .1 (rw (← e) h) in
     rw (with-rest b k v, e) (digits-lt l (rest-lt b k v n))
 
--- the digit that stands there changes nothing
-pub withDigit-own : (b k : ℕ) → withDigit b k (digit b k) ≡ b
-withDigit-own b k = omega (arith, withDigit-sum b k (digit b k))
-
 pub withDigit-twice : (b k v w : ℕ) → v < 4 → withDigit (withDigit b k v) k w ≡ withDigit b k w
 withDigit-twice b k v w h =
     omega (
@@ -187,22 +183,6 @@ get-set-other bytes i l v h ne = go (eq-or-ne (l / 4) (i / 4)) (lt-or-ge (i / 4)
         rw e
         (ap (λ (b : ℕ). digit b (l % 4)) (set-byte-same bytes i v m)
         ∙ digit-other (getD bytes (i / 4) 0) (i % 4) (l % 4) v h (λ q. ne (omega arith)))
-
--- bytes stay bytes
-pub set-bytes : (bytes : List ℕ) (i v : ℕ) → v < 4 → ((k : ℕ) → getD bytes k 0 < 256) → (k : ℕ) → getD (setEntry bytes i v) k 0 < 256
-set-bytes bytes i v h f k = go (eq-or-ne k (i / 4)) (lt-or-ge (i / 4) (length bytes))
-  where
-    go : (k ≡ i / 4) ⊎ (k ≡ i / 4 → ⊥) → (i / 4 < length bytes) ⊎ (length bytes ≤ i / 4) → getD (setEntry bytes i v) k 0 < 256
-    go (inr d) s = rw (set-byte-other bytes i v k d) (f k)
-    go (inl e) (inr m) = rw (set-past bytes i v m) (f k)
-    go (inl e) (inl m) =
-        rw (e, set-byte-same bytes i v m) (withDigit-byte (getD bytes (i / 4) 0) (i % 4) v (f (i / 4)) (omega arith) h)
-
--- the entry that stands there changes nothing
-pub set-own : (bytes : List ℕ) (i : ℕ) → setEntry bytes i (entryAt bytes i) ≡ bytes
-unfolding entryAt setEntry
-set-own bytes i =
-    ap (λ (b : ℕ). set bytes (i / 4) b) (withDigit-own (getD bytes (i / 4) 0) (i % 4)) ∙ set-getD bytes (i / 4) 0
 
 -- two settings within one byte are one store
 set-pair : (bytes : List ℕ) (i l v w : ℕ) → i / 4 ≡ l / 4 → l / 4 < length bytes
@@ -280,7 +260,3 @@ next-mod d = mod-add-mod d 3 1
 
 pub next-level : (d : ℕ) → 1 ≤ d → nextEntry ((d - 1) % 3) ≡ d % 3
 next-level d h = next-mod (d - 1) ∙ ap (λ (x : ℕ). x % 3) (let e : d - 1 + 1 ≡ d = omega arith in e)
-
-pub next-twice : (v : ℕ) → nextEntry (nextEntry v) ≡ (v + 2) % 3
-unfolding nextEntry
-next-twice v = mod-add-mod (v + 1) 3 1 ∙ ap (λ (x : ℕ). x % 3) (let e : v + 1 + 1 ≡ v + 2 = omega arith in e)

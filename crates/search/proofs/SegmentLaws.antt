@@ -6,12 +6,11 @@ use mathlib.Core.Logic.{_⊎_, inl, inr}
 use mathlib.Core.List.{List, [], _∷_, _++_, append-nil}
 use Prim.Native.Nat.{ℕ, zero, suc, _+_, _-_, _*_, _/_, _%_, _<_, _≤_, min}
 use native.Mathlib.Nat.{eq-zero-or-pos, mod-lt, div-add-mod', suc-mul, mul-assoc, mul-le-mul-right, le-mul-of-pos-right, not-suc-le-zero}
-use native.Mathlib.Numerals.{add-one}
 use native.Mathlib.Omega.{arith}
 use lib.Arith.{digits-div, digits-mod}
 use lib.Dec.{leb, eqb}
-use lib.ListN.{length, getD, set, take, drop, length-append, length-take, length-drop, List·getD-append}
-use lib.Seq.{take-take, take-suc-set, take-set-le, drop-set-lt, drop-set-add, getD-take, getD-drop, getD-append-add}
+use lib.ListN.{length, getD, take, drop, length-append, length-take, length-drop, List·getD-append}
+use lib.Seq.{take-take, getD-take, getD-drop, getD-append-add}
 use borrow.Author.Tests.{leb-true, eqb-true}
 use Rattle.base.proofs.Tests.{and-left, and-right, lt-or-ge}
 use Rattle.search.specs.Entries.{entryAt, bytesFor, digit}
@@ -111,14 +110,6 @@ module _ (N S : ℕ) (some : 0 < S) where
   unfolding stacksIn
   segment-some j h = omega (arith, segment-starts j h)
 
-  pub segment-none : (j : ℕ) → segmentCount N S ≤ j → stacksIn N S j ≡ 0
-  unfolding stacksIn
-  segment-none j h = go (lt-or-ge (j * S) N)
-    where
-      go : (j * S < N) ⊎ (N ≤ j * S) → min S (N - j * S) ≡ 0
-      go (inl l) = omega (arith, starts-segment j l)
-      go (inr l) = omega arith
-
   pub segment-full : (j : ℕ) → suc j < segmentCount N S → stacksIn N S j ≡ S
   unfolding stacksIn
   segment-full j h = omega (arith, segment-starts (suc j) h, suc-mul j S)
@@ -150,12 +141,6 @@ module _ (N S : ℕ) (some : 0 < S) where
   pub bytes-last : (j : ℕ) → S % 4 ≡ 0 → suc j ≡ segmentCount N S → bytesFor N ≡ j * (S / 4) + bytesFor (stacksIn N S j)
   unfolding bytesFor
   bytes-last j four e = omega (arith, segment-last j e, four-mul j S four)
-
-  pub spare-within : (i : ℕ) → S % 4 ≡ 0 → 0 < N → N ≤ i → i < 4 * bytesFor N
-      → i - (segmentCount N S - 1) * S < 4 * bytesFor (stacksIn N S (segmentCount N S - 1))
-  spare-within i four h l m =
-      let g = segmentCount N S - 1 in
-      omega (arith, bytes-last g four (last-segment h), segment-last g (last-segment h), four-mul g S four)
 
 -- lists of one length B, but for the last: what stands at a place of the whole, and how long it is
 joined-at : (B : ℕ) (segs : List (List ℕ)) (j k : ℕ) → ((i : ℕ) → suc i < length segs → length (getD segs i []) ≡ B)
@@ -255,34 +240,6 @@ log-length C t w log h = simp (length-take, length-drop) (omega arith)
 pub log-at : (C t w : ℕ) (log : List ℕ) (k : ℕ) → k < w → getD (logPart C t w log) k 0 ≡ getD log (t * C + k) 0
 unfolding logPart
 log-at C t w log k h = getD-take w (drop (t * C) log) k 0 h ∙ getD-drop (t * C) log k 0
-
--- an entry written in another segment's stretch is not seen
-pub log-other : (C t u w i v : ℕ) (log : List ℕ) → (u ≡ t → ⊥) → i < C → w ≤ C
-    → logPart C u w (set log (t * C + i) v) ≡ logPart C u w log
-unfolding logPart
-log-other C t u w i v log ne h l = go (lt-or-ge t u) (lt-or-ge u t)
-  where
-    go : (t < u) ⊎ (u ≤ t) → (u < t) ⊎ (t ≤ u) → take w (drop (u * C) (set log (t * C + i) v)) ≡ take w (drop (u * C) log)
-    go (inl m) s =
-        ap (λ (x : List ℕ). take w x)
-        (drop-set-lt (u * C) log (t * C + i) v (omega (arith, suc-mul t C, mul-le-mul-right C m)))
-    go (inr m) (inl n) =
-        let k = t * C + i - u * C in
-        let b = suc-mul u C in
-        let c = mul-le-mul-right C n in
-        ap (λ (x : ℕ). take w (drop (u * C) (set log x v))) (let e : t * C + i ≡ u * C + k = omega arith in e)
-        ∙ ap (λ (x : List ℕ). take w x) (drop-set-add (u * C) log k v)
-        ∙ take-set-le w (drop (u * C) log) k v (omega arith)
-    go (inr m) (inr n) = absurd (ne (omega arith))
-
--- an entry written just past the waiting part is appended to it
-pub log-append : (C t w v : ℕ) (log : List ℕ) → t * C + w < length log
-    → logPart C t (w + 1) (set log (t * C + w) v) ≡ logPart C t w log ++ (v ∷ [])
-unfolding logPart
-log-append C t w v log h =
-    rw (add-one w)
-    (ap (λ (x : List ℕ). take (suc w) x) (drop-set-add (t * C) log w v)
-    ∙ take-suc-set (drop (t * C) log) w v (rw length-drop (omega arith)))
 
 -- only a segment's own stretch matters
 pub log-same : (C t w : ℕ) (a b : List ℕ) → w ≤ C → take C (drop (t * C) a) ≡ take C (drop (t * C) b)
