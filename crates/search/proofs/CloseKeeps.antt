@@ -79,10 +79,15 @@ pub close-world : (w : World) → closeRefusal (w .job) ≡ 0
 unfolding closedWorld
 close-world w h = ap (λ (o : Answer). record { job = o .job; segments = w .segments; log = w .log }) (close-accepted (w .job) h)
 
+-- the counts that a level's Close leaves are those that were counted
+level-counts : (job : Job) (d : ℕ) → nextCounts job (Level d) ≡ job .counts
+unfolding nextCounts
+level-counts job d = refl
+
 next-counts-length : (job : Job) (p : Phase) → length (nextCounts job p) ≡ length (job .counts)
 unfolding nextCounts
 next-counts-length job Blanking = length-set (job .counts) 0 1
-next-counts-length job (Level d) = refl
+next-counts-length job (Level d) = ap length (level-counts job d)
 next-counts-length job (Finished d) = refl
 
 closed-passed : (w : World) (j : ℕ) → passedOf (closedWorld w .job) j ≡ 0
@@ -274,8 +279,9 @@ module _ {kind n : ℕ} {wanted : List ℤ} {S C : ℕ} (given : Given kind n wa
       count-whole = search .counts-here ∙ found-all (λ v. true) (search .level) (no-log none-waits) reached
 
       counts-stay : (i : ℕ) → countOf (closedWorld w .job) i ≡ countOf (w .job) i
-      unfolding closedWorld closed progressed countOf nextCounts
-      counts-stay i = ap (λ (p : Phase). getD (nextCounts (w .job) p) i 0) (search .phase-is)
+      unfolding closedWorld closed progressed countOf
+      counts-stay i =
+          ap (λ (p : Phase). getD (nextCounts (w .job) p) i 0) (search .phase-is) ∙ ap (λ (counts : List ℕ). getD counts i 0) (level-counts (w .job) d)
 
       level-spares : Spares kind n wanted S C (closedWorld w)
       unfolding closedWorld
