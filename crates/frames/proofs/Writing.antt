@@ -103,16 +103,6 @@ wrote text before after r e f =
     let within : r ≤ length after = omega (arith, ap length e, length-append text (drop (length text) before)) in
     record { front = e; count = f; within = within; part = sym (length-take-le r after within) }
 
--- the line's end
-pub over-end : (text out before : List ℕ) (at : ℕ) → at ≡ length text → length text < length out → before ≡ over text out
-    → Wrote (text ++ (10 ∷ [])) out (set before at 10) (at + 1)
-unfolding over
-over-end text out before at e h f =
-    wrote (text ++ (10 ∷ [])) out (set before at 10) (at + 1)
-    (rw (f, e, drop-cons out (length text) 0 h, length-append text (10 ∷ []), add-one (length text))
-    (set-append-seam text (getD out (length text) 0) (drop (suc (length text)) out) 10 ∙ sym (append-snoc text 10 (drop (suc (length text)) out))))
-    (ap (λ (k : ℕ). k + 1) e ∙ sym (length-append text (10 ∷ [])))
-
 -- ---- a line from some place on
 
 -- the digits of a line's bytes, and its end

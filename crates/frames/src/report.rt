@@ -77,22 +77,20 @@ pub fn write_turns(out: &mut [u8], turns: &[u8]) -> usize
 {
     let first = [turns.len() as u8];
     let at = hex::put_bytes(out, 0, &first);
-    let end = hex::put_bytes(out, at, turns);
-    out[end] = b'\n';
-    end + 1
+    put_line(out, at, turns)
 }
 
-// The longest plan has 30 turns.
-pub fn plan_length(count: u32) -> usize
-    ensures { λ r. ⌜ r ≡ min count 30 ⌝ }
+// How much is lent of what there is.
+pub fn least(wanted: usize, length: usize) -> usize
+    ensures { λ r. ⌜ r ≡ min wanted length ⌝ }
 {
-    if count < 30 { count as usize } else { 30 }
+    if wanted < length { wanted } else { length }
 }
 
 // A plan: the first count of the turns, all 30 where count is more.
 pub fn write_plan(out: &mut [u8; 512], turns: [u8; 30], count: u32) -> usize
     ensures { λ r. ⌜ Wrote (planLine (take count turns)) (now (out .entry)) (now (out .exit)) r ⌝ }
 {
-    let most = plan_length(count);
+    let most = least(count as usize, 30);
     write_turns(out, &turns[..most])
 }

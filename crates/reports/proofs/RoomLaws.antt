@@ -15,7 +15,7 @@ use Rattle.base.proofs.Tests.{lt-or-ge, and-left, and-right, and-fails-left, an
 use Rattle.stacks.specs.Stack.{isSize, stackCount}
 use Rattle.search.specs.Drive.{buildOf}
 use Rattle.search.specs.Entries.{bytesFor}
-use Rattle.search.specs.Segments.{segmentCount}
+use Rattle.search.specs.Segments.{segmentLimit, segmentCount}
 use Rattle.search.specs.declared.Answer.{Answer}
 use Rattle.frames.specs.Frame.{stackLimit, reportRoom}
 use Rattle.reports.specs.Text.{isReported, tableBytes, logWords, builtIn}
@@ -49,11 +49,11 @@ table-some kind n bytes h e =
 
 -- the log area: nothing where one of the tests fails
 pub log-none : (kind n S : ℕ) → (isReported kind n && ltb 0 S && leb (segmentCount (stackCount kind n) S) 64) ≡ false → 0 ≡ logWords kind n S
-unfolding logWords
+unfolding logWords segmentLimit
 log-none kind n S h = rw h
 
 pub log-unreported : (kind n S : ℕ) → isReported kind n ≡ false → 0 ≡ logWords kind n S
-unfolding logWords
+unfolding logWords segmentLimit
 log-unreported kind n S h = rw h
 
 pub log-empty : (kind n S : ℕ) → S ≡ 0 → 0 ≡ logWords kind n S
@@ -69,7 +69,7 @@ log-many kind n S l =
 
 pub log-some : (kind n S segments : ℕ) → isReported kind n ≡ true → 0 < S → segments ≡ segmentCount (stackCount kind n) S → segments ≤ 64
     → (segments * 16 ≡ logWords kind n S) × (segments * 16 ≤ 1024)
-unfolding logWords reportRoom
+unfolding logWords reportRoom segmentLimit
 log-some kind n S segments h p e l =
     (rw (e, h, lt-ltb 0 S p, le-leb (segmentCount (stackCount kind n) S) 64 (omega arith)), omega arith)
 

@@ -1,6 +1,8 @@
 -- What a report says (document 01, "The report").
 --   isReported kind n               the kinds and sizes that a report is made of
 --   tableBytes, logWords            how much of its table and log area the build of a first frame is lent
+--   builtIn                         the build of a first frame: the table that it leaves, and its job
+--   headText job                    the levels of a finished build and the deepest
 --   laterText kind n wanted table cs  what a later frame of characters cs is answered
 use mathlib.Core.Bool.{Bool, _&&_, cond}
 use mathlib.Core.List.{List, _++_}
@@ -13,7 +15,7 @@ use Rattle.search.specs.Entries.{bytesFor}
 use Rattle.search.specs.Drive.{buildOf}
 use Rattle.search.specs.JobState.{levelOf}
 use Rattle.search.specs.Plan.{planOf, planLimit}
-use Rattle.search.specs.Segments.{segmentCount}
+use Rattle.search.specs.Segments.{segmentLimit, segmentCount}
 use Rattle.search.specs.declared.Job.{Job}
 use Rattle.frames.specs.Frame.{stackLimit, reportRoom, laterOf}
 use Rattle.frames.specs.Report.{levelLines, deepestLine, planLine, refusalLine}
@@ -27,7 +29,7 @@ tableBytes kind n = cond (isReported kind n) (bytesFor (stackCount kind n)) 0
 unfoldable pub logWords : ℕ → ℕ → ℕ → ℕ
 logWords kind n S =
     let segments = segmentCount (stackCount kind n) S in
-    cond (isReported kind n && ltb 0 S && leb segments 64) (segments * reportRoom) 0
+    cond (isReported kind n && ltb 0 S && leb segments segmentLimit) (segments * reportRoom) 0
 
 -- the build of a frame's table, with C 16: what it leaves in a table that held anything, and its job
 unfoldable pub builtIn : ℕ → ℕ → List ℤ → ℕ → List ℕ → List ℕ × Job

@@ -20,7 +20,7 @@ pub fn build_in(kind: u8, n: u8, wanted: [i8; 12], size: u32, table: &mut [u8]) 
     ensures { λ r. ⌜ (now (table .exit), r) ≡ builtIn kind n wanted size (now (table .entry)) ⌝ }
 {
     let mut log = [0u32; 1024];
-    let bytes = room::least(room::table_bytes(kind, n), table.len());
+    let bytes = report::least(room::table_bytes(kind, n), table.len());
     let words = room::log_words(kind, n, size);
     let answer = build::build::build_table(
         kind,

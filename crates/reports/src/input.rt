@@ -9,6 +9,7 @@ use crate::later;
 use crate::room;
 use frames::Line;
 use frames::lines;
+use frames::report;
 
 pub fn is_start(stage: Stage) -> bool
     ensures { λ r. ⌜ r ≡ isStart stage ⌝ }
@@ -63,7 +64,7 @@ fn later_line(reader: Reader, table: &mut [u8], out: &mut [u8; 512]) -> Printed
 {
     let wanted = reader.wanted;
     let line = reader.line;
-    let bytes = room::least(room::table_bytes(reader.kind, reader.n), table.len());
+    let bytes = report::least(room::table_bytes(reader.kind, reader.n), table.len());
     let length = later::later_text(reader.kind, reader.n, wanted, &table[..bytes], line, out);
     Printed {
         reader: with_line(reader, lines::new_line()),

@@ -1,6 +1,6 @@
 // How much of the report's table and log area a first frame uses: nothing of either where it is none of those that are accepted.
 ghost use mathlib.Core.Path.{_≡_};
-ghost use Prim.Native.Nat.{_≤_, min};
+ghost use Prim.Native.Nat.{_≤_};
 ghost use Rattle.reports.specs.Text.{isReported, tableBytes, logWords};
 use perm::kind;
 use twobit::segment;
@@ -37,11 +37,4 @@ pub fn log_words(kind: u8, n: u8, size: u32) -> usize
         return 0;
     }
     (segments as usize) * 16
-}
-
-// How much is lent of what there is.
-pub fn least(wanted: usize, length: usize) -> usize
-    ensures { λ r. ⌜ r ≡ min wanted length ⌝ }
-{
-    if wanted < length { wanted } else { length }
 }

@@ -27,7 +27,7 @@ module _ (kind n : ℕ) (table : List ℕ) where
   unfoldable pub entryOf : List ℤ → ℕ
   entryOf s = entryAt table (rankOf kind n s)
 
-  -- the turns of a list that lead from s to a child with entry v
+  -- turn k leads from s to a child with entry v
   unfoldable pub leadsTo : List ℤ → ℕ → ℕ → Bool
   leadsTo s v k = eqb (entryOf (turnOf kind k s)) v
 

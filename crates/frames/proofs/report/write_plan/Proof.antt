@@ -12,8 +12,8 @@ use Rattle.frames.specs.Report.{planLine, Wrote}
 use Rattle.frames.proofs.report.write_plan.Statement.{statement}
 use Rattle.frames.proofs.report.write_plan.Tie as tie
 
-plan-length-requires : tie.Need-plan-length-requires
-plan-length-requires c κs = search needs
+least-requires : tie.Need-least-requires
+least-requires c κs = search needs
 
 array-share-prefix-turns : tie.Need-array-share-prefix-turns
 array-share-prefix-turns c = search needs
@@ -21,10 +21,10 @@ array-share-prefix-turns c = search needs
 slice-aggregate-write-turns : tie.Need-slice-aggregate-write-turns
 slice-aggregate-write-turns c =
     let a = c .before .before .before .args in
-    sym (length-take-le (c .before .before .plan-length .result) (a .t2) (omega (arith, c .before .before .plan-length .ensures)))
+    sym (length-take-le (c .before .before .least .result) (a .t2) (omega (arith, c .before .before .least .ensures)))
 
 write-turns-requires : tie.Need-write-turns-requires
-write-turns-requires c κs = omega (arith, slice-aggregate-write-turns c, c .before .before .plan-length .ensures)
+write-turns-requires c κs = omega (arith, slice-aggregate-write-turns c, c .before .before .least .ensures)
 
 -- a list of 30 has no more than 30
 take-thirty : (xs : List ℕ) (k : ℕ) → length xs ≡ 30 → take (min k 30) xs ≡ take k xs
@@ -37,7 +37,7 @@ take-thirty xs k e = go (lt-or-ge k 30)
 returns : tie.Need-returns
 returns c =
     let a = c .before .before .before .before .args in
-    let f = c .before .before .before .plan-length in
+    let f = c .before .before .before .least in
     subst (λ (l : List ℕ). Wrote (planLine l) (a .out .now) (c .write-turns .last .0) (c .write-turns .result))
     (rw (f .ensures) (take-thirty (a .t2) (a .count) (search needs))) (c .write-turns .ensures)
 
@@ -45,7 +45,7 @@ pub write-plan-spec : {M : Type 1} → statement M
 write-plan-spec =
     tie.close
     (tie.spec
-    plan-length-requires
+    least-requires
     array-share-prefix-turns
     slice-aggregate-write-turns
     write-turns-requires
