@@ -1,4 +1,4 @@
-/* Builds the table of plain 3 for the wanted stack 1 2 3, in two segments of S = 4, and plans document 01's frames from it.
+/* Builds the table of plain 3 for the wanted stack 1 2 3 call by call, in two segments of S = 4, and plans document 01's frames from it.
  *   rt staticlib hokrund
  *   cc -std=c99 -Iinclude examples/plan3.c target/staticlib/libhokrund.a -o target/plan3
  *   target/plan3 | cmp - examples/plan3.out */
@@ -7,17 +7,21 @@
 #include <stdlib.h>
 
 enum { KIND = HOKRUND_PLAIN, PANES = 3, S = 4, C = 16 };
-enum { N = HOKRUND_STACKS(KIND, PANES), G = HOKRUND_SEGMENT_COUNT(N, S) };
+/* N is no enum constant: that of coated 10 does not fit an int. */
+#define N HOKRUND_STACKS(KIND, PANES)
+#define G HOKRUND_SEGMENT_COUNT(N, S)
 
 /* The segments stand in the table itself. */
 static uint8_t table[HOKRUND_TABLE_BYTES(N)];
 static uint32_t logs[HOKRUND_LOG_WORDS(G, C)];
-#define SEGMENT(j) table + (j) * S / 4, HOKRUND_SEGMENT_BYTES(HOKRUND_SEGMENT_STACKS(N, S, j))
+
+/* Two arguments each, a pointer and its length: segment j, and the whole log area. */
+#define SEGMENT(j) table + HOKRUND_SEGMENT_START(S, j), HOKRUND_SEGMENT_BYTES(HOKRUND_SEGMENT_STACKS(N, S, j))
 #define LOGS logs, HOKRUND_LOG_WORDS(G, C)
 
 static HokrundJob next(uint8_t refusal, HokrundJob job)
 {
-    if (refusal != 0) {
+    if (refusal != HOKRUND_ACCEPTED) {
         printf("refused %d\n", refusal);
         exit(1);
     }
@@ -60,7 +64,7 @@ int main(void)
         printf("%d %d %d:", given[i].places[0], given[i].places[1], given[i].places[2]);
         for (uint32_t t = 0; t < p.turns; t++)
             printf(" %d", turns[t]);
-        printf(p.refusal != 0 ? " refused %d\n" : "\n", p.refusal);
+        printf(p.refusal != HOKRUND_ACCEPTED ? " refused %d\n" : "\n", p.refusal);
     }
     return 0;
 }

@@ -6,25 +6,31 @@
  * null, not even beside a length of 0; the elements may be read, and where the pointer is not const written, for that length; and two
  * buffers of one call do not overlap where one of them is written. That is the caller's part, and nothing checks it.
  *
- * What a call answers. Every other argument may have any value: the call does its work, or gives the number of the first refusal that
- * applies, in the order stated, as refusal. That number is 0 where the call did its work. A refusal changes nothing: what is lent stays as
+ * What a call answers. Every other argument may have any value: the call does its work, or gives the first refusal that applies, in the
+ * order stated, as refusal. That number is HOKRUND_ACCEPTED where the call did its work. A refusal changes nothing: what is lent stays as
  * it was, and the job comes back as it was given. Every other number of a refused answer is 0.
  *
- * A build: begin; blank each segment; close; then for each level expand each segment, settle a segment for which expand waits and expand
- * on, settle every segment, and close, until the phase is HOKRUND_FINISHED. examples/plan3.c is one. The segments in order are the table
- * that read_entry and plan take; as S is a multiple of 4, segment j may stand in it from byte j * S / 4 on.
+ * A build, by hokrund_build_table alone, or call by call: begin; blank each segment; close; then for each level expand each segment, settle
+ * a segment for which expand waits and expand on, settle every segment, and close, until the phase is HOKRUND_FINISHED.
+ * examples/coated.c is the first way, examples/plan3.c the second. The segments in order are the table that read_entry and plan take.
  *
- * Link target/staticlib/libhokrund.a, which `rt staticlib hokrund` makes. x86-64, C99 or later, or C++. */
+ * The archive is target/staticlib/libhokrund.a. `rt staticlib hokrund` proves the library and makes it; the gate, .ci/run, clears target/
+ * and leaves none. x86-64; C99 or later, or C++98 or later. */
 #ifndef HOKRUND_H
 #define HOKRUND_H
 
-#include <stdbool.h>
 #include <stddef.h>
 #include <stdint.h>
+#ifndef __cplusplus
+#include <stdbool.h>
+#endif
 
 #ifdef __cplusplus
 extern "C" {
 #endif
+
+/* Rises with every change of a function, a struct or a number that is declared here. */
+#define HOKRUND_VERSION 1
 
 /* Kinds: plain panes 1 to n, with n from 1 to 12; coated panes, minus for coat down, with n from 1 to 10. */
 #define HOKRUND_PLAIN 0
@@ -35,40 +41,81 @@ extern "C" {
 #define HOKRUND_LEVEL 1
 #define HOKRUND_FINISHED 2
 
+/* An entry of the table that no level has reached. */
+#define HOKRUND_UNSEEN 3
+
 /* What the structs hold, and the fewest bytes of plan's turn list. */
 #define HOKRUND_PLACES 12
 #define HOKRUND_SEGMENTS 64
 #define HOKRUND_LEVELS 32
 #define HOKRUND_TURN_LIST 30
 
-/* N, the stacks of a kind and n; G, the segments of N stacks by S; m, the stacks of segment j below G. */
-#define HOKRUND_FACTORIAL(n)                                                                                          \
-    ((n) < 2 ? 1u : (n) == 2 ? 2u : (n) == 3 ? 6u : (n) == 4 ? 24u : (n) == 5 ? 120u : (n) == 6 ? 720u                \
-     : (n) == 7 ? 5040u : (n) == 8 ? 40320u : (n) == 9 ? 362880u : (n) == 10 ? 3628800u : (n) == 11 ? 39916800u       \
-     : 479001600u)
-#define HOKRUND_STACKS(kind, n) (HOKRUND_FACTORIAL(n) << ((kind) == HOKRUND_COATED ? (n) : 0))
-#define HOKRUND_SEGMENT_COUNT(N, S) (((N) + (S) - 1u) / (S))
-#define HOKRUND_SEGMENT_STACKS(N, S, j) ((N) - (j) * (S) < (S) ? (N) - (j) * (S) : (S))
+/* Refusals. */
+#define HOKRUND_ACCEPTED 0              /* no refusal */
+#define HOKRUND_REFUSED_KIND 1          /* the kind is none */
+#define HOKRUND_REFUSED_PANES 2         /* n is outside its kind's range */
+#define HOKRUND_REFUSED_STACK 3         /* the twelve places are no stack of that kind and n */
+#define HOKRUND_REFUSED_INDEX_OR_TURN 4 /* the index is N or more; k is no turn of that kind and n */
+#define HOKRUND_REFUSED_SIZE 5          /* S is no multiple of 4 from 4 to 67108864, or G would be above 64 */
+#define HOKRUND_REFUSED_ROOM 6          /* C is not from 16 to 1048576 */
+#define HOKRUND_REFUSED_INCOHERENT 7    /* the job is not coherent: see HokrundJob */
+#define HOKRUND_REFUSED_PHASE 8         /* the job is in another phase */
+#define HOKRUND_REFUSED_SEGMENT 9       /* j is G or more */
+#define HOKRUND_REFUSED_LENGTH 10       /* a buffer has a wrong length */
+#define HOKRUND_REFUSED_PASSED 11       /* all stacks of the segment are passed */
+#define HOKRUND_REFUSED_OFFSET 12       /* an offset that waits in the log is m or more */
+#define HOKRUND_REFUSED_NOT_READY 13    /* a segment has stacks not passed or entries waiting */
+#define HOKRUND_REFUSED_LAST_LEVEL 14   /* level 31 brought stacks */
+#define HOKRUND_REFUSED_NO_PLAN 15      /* the table leads from the given stack nowhere, or not in 30 turns */
 
-/* The sizes of what is lent: the bytes of a segment of m stacks, and of the table of all N; the numbers of the log area of G logs of C. */
+/* The macros below compute in 64 bits, whatever integers they are given, and are constant where their arguments are. They evaluate an argument
+ * more than once. */
+
+/* N, the stacks of a kind and n: n! if plain, n! x 2^n if coated, and 0 where there is no such kind or n. */
+#define HOKRUND_STACKS(kind, n)                                                                                       \
+    ((kind) == HOKRUND_PLAIN && (n) != 0 ? HOKRUND_FACTORIAL(n)                                                       \
+     : (kind) == HOKRUND_COATED && (n) != 0 && (n) < 11 ? HOKRUND_FACTORIAL(n) << ((n) & 15) : (uint64_t)0)
+
+/* n! for n from 0 to 12, and 0 for any other n. */
+#define HOKRUND_FACTORIAL(n)                                                                                          \
+    ((uint64_t)((n) == 0 || (n) == 1 ? 1 : (n) == 2 ? 2 : (n) == 3 ? 6 : (n) == 4 ? 24 : (n) == 5 ? 120               \
+     : (n) == 6 ? 720 : (n) == 7 ? 5040 : (n) == 8 ? 40320 : (n) == 9 ? 362880 : (n) == 10 ? 3628800                  \
+     : (n) == 11 ? 39916800 : (n) == 12 ? 479001600 : 0))
+
+/* G, the segments of N stacks by an S above 0. m, the stacks of segment j: those with index from j x S to just below the lesser of
+ * (j + 1) x S and N; 0 from segment G up. */
+#define HOKRUND_SEGMENT_COUNT(N, S) (((uint64_t)(N) + (uint64_t)(S) - 1) / (uint64_t)(S))
+#define HOKRUND_SEGMENT_STACKS(N, S, j)                                                                               \
+    ((uint64_t)(j) >= HOKRUND_SEGMENT_COUNT(N, S) ? (uint64_t)0                                                       \
+     : (uint64_t)(j) + 1 == HOKRUND_SEGMENT_COUNT(N, S) ? (uint64_t)(N) - (uint64_t)(j) * (uint64_t)(S)               \
+     : (uint64_t)(S))
+
+/* The sizes of what is lent: the bytes of a segment of m stacks, and of the table of all N; the numbers of the log area of G logs of C.
+ * Where segment j starts in the table: every segment before it is full, and S is a multiple of 4. */
 #define HOKRUND_SEGMENT_BYTES(m) (((size_t)(m) + 3) / 4)
 #define HOKRUND_TABLE_BYTES(N) HOKRUND_SEGMENT_BYTES(N)
-#define HOKRUND_LOG_WORDS(G, C) ((size_t)(G) * (C))
+#define HOKRUND_LOG_WORDS(G, C) ((size_t)(G) * (size_t)(C))
+#define HOKRUND_SEGMENT_START(S, j) ((size_t)(j) * ((size_t)(S) / 4))
 
 /* A stack, top first; the places from n on are 0. */
 typedef struct HokrundStack {
     int8_t places[HOKRUND_PLACES];
 } HokrundStack;
 
-/* A build. size is S, the stacks of a segment; room is C, the places of a log. level is 0 in Blanking. */
+/* A build. It is coherent when
+ *   begin would accept kind, n, wanted, size and room;
+ *   phase is HOKRUND_BLANKING and level 0, HOKRUND_LEVEL and level 1 to 31, or HOKRUND_FINISHED and level 0 to 30;
+ *   passed is at most m of its segment and waiting at most C, and both are 0 from segment G up;
+ *   each count is at most 2^60.
+ * The job of an accepted begin is coherent, and so is every job that the calls after it give. */
 typedef struct HokrundJob {
     uint8_t kind;
     uint8_t n;
     uint8_t phase;
     uint8_t level;
     HokrundStack wanted;
-    uint32_t size;
-    uint32_t room;
+    uint32_t size;                      /* S, the stacks of a segment */
+    uint32_t room;                      /* C, the places of a log */
     uint32_t passed[HOKRUND_SEGMENTS];  /* of each segment, the stacks passed in this phase */
     uint32_t waiting[HOKRUND_SEGMENTS]; /* of each segment, the entries that wait in its log */
     uint64_t counts[HOKRUND_LEVELS];    /* of each level, the stacks at exactly that many turns */
@@ -89,7 +136,7 @@ typedef struct HokrundAnswer {
     HokrundJob job;
 } HokrundAnswer;
 
-/* Passed where waits is false; else Waiting, for segment on. */
+/* Passed where waits is false, and on is then 0; else Waiting, for segment on. */
 typedef struct HokrundExpanded {
     uint8_t refusal;
     bool waits;
@@ -114,103 +161,107 @@ typedef struct HokrundPlanned {
     uint32_t turns;
 } HokrundPlanned;
 
-/* Index of a stack: its place from 0 in the order of all N.
- * 1 no kind; 2 n outside its kind's range; 3 no stack of that kind and n. */
+/* Index of a stack: its place from 0 in the order of all N. The order is lexicographic, from the top: plain 1 2 3, 1 3 2, 2 1 3, 2 3 1,
+ * 3 1 2, 3 2 1 are 0 to 5. Coated stacks are ordered by their panes without the coats first, and then by the coats, as bits of which the
+ * top pane's is the highest, 1 for coat down: +2 -1 is 5.
+ * Refused 1, 2, 3. */
 HokrundIndexed hokrund_index_of_stack(uint8_t kind, uint8_t n, HokrundStack stack);
 
 /* Stack at an index.
- * 1 no kind; 2 n; 4 the index is N or more. */
+ * Refused 1, 2, 4. */
 HokrundStacked hokrund_stack_at_index(uint8_t kind, uint8_t n, uint32_t index);
 
 /* Turn: the order of the top k panes is reversed, and each changes sign if coated. k is 2 to n if plain, 1 to n if coated.
- * 1 no kind; 2 n; 3 no stack; 4 no turn. */
+ * Refused 1, 2, 3, 4. */
 HokrundStacked hokrund_turn(uint8_t kind, uint8_t n, HokrundStack stack, uint8_t k);
 
-/* Begin: a job in Blanking with nothing passed, waiting or counted. Refused, a job of zeros, which every call refuses 7.
- * 1 no kind; 2 n; 3 wanted is no stack; 5 size is no multiple of 4 from 4 to 67108864, or makes more than 64 segments; 6 room is not from
- * 16 to 1048576. */
+/* Begin: a job in Blanking with nothing passed, waiting or counted. Beside a refusal stands a job of zeros, which every call refuses 7.
+ * Refused 1, 2, 3 for wanted, 5, 6. */
 HokrundAnswer hokrund_begin(uint8_t kind, uint8_t n, HokrundStack wanted, uint32_t size, uint32_t room);
 
-/* The calls on a job start with 7: the job is not coherent, as no job is that begin and the calls after it give. A phase number that is
- * none, and a level other than 0 in Blanking, are refused so too. */
+/* In the calls on a job length must be HOKRUND_SEGMENT_BYTES(m) of segment j, and words HOKRUND_LOG_WORDS(G, C), of the whole log area.
+ * A segment has an entry for each of its stacks, the fewest turns modulo 3 or HOKRUND_UNSEEN: that of stack i is in byte i / 4, at the two
+ * bits of weight 2 x 4^(i mod 4) and 4^(i mod 4), or (segment[i / 4] >> (2 * (i % 4))) & 3. Spare entries of the last byte are 3. */
 
 /* Blank: all entries of segment j become 3, and that of the wanted stack, if here, 0; its stacks are passed.
- * 7; 8 the phase is not Blanking; 9 no segment j; 10 length is not HOKRUND_SEGMENT_BYTES(m); 11 all stacks passed. */
+ * Refused 7, 8 when not Blanking, 9, 10, 11. */
 HokrundAnswer hokrund_blank(HokrundJob job, uint32_t j, uint8_t *segment, size_t length);
 
 /* Expand: from the first stack not passed, the children of each stack of the level before are marked, if in this segment and unseen, or
  * appended to their segment's log. It stops before a stack whose children outnumber the free places of a log, and waits for the lowest
  * such segment: settle that one and expand again. Only the job, this segment and the ends of the other segments' logs change.
- * 7; 8 the phase is not Level; 9 no segment j; 10 length is not HOKRUND_SEGMENT_BYTES(m); 10 words is not HOKRUND_LOG_WORDS(G, C);
- * 11 all stacks passed. */
+ * Refused 7, 8 when not Level, 9, 10 for the segment, 10 for the log area, 11. */
 HokrundExpanded hokrund_expand(HokrundJob job, uint32_t j, uint8_t *segment, size_t length, uint32_t *log, size_t words);
 
-/* Settle: in log order, each unseen entry that segment j's log names is marked; the log is then empty.
- * 7; 8 the phase is not Level; 9 no segment j; 10 length; 10 words; 12 the log names an offset of m or more. */
+/* Settle: in log order, each unseen entry that segment j's log names is marked; the log is then empty. An empty log is accepted.
+ * Refused 7, 8 when not Level, 9, 10 for the segment, 10 for the log area, 12. */
 HokrundAnswer hokrund_settle(HokrundJob job, uint32_t j, uint8_t *segment, size_t length, const uint32_t *log, size_t words);
 
-/* Look: where the entries stand that wait in segment j's log, for display.
- * 7; 9 no segment j; 10 words. */
+/* Look: where the entries stand that wait in segment j's log, for display. In any phase.
+ * Refused 7, 9, 10. */
 HokrundLook hokrund_look(HokrundJob job, uint32_t j, const uint32_t *log, size_t words);
 
 /* Close: Blanking becomes Level 1; a level that brought nothing new ends the search, any other makes way for the next.
- * 7; 8 the phase is Finished; 13 a segment has stacks not passed or entries waiting; 14 level 31 brought stacks. */
+ * Refused 7, 8 when Finished, 13, 14. */
 HokrundAnswer hokrund_close(HokrundJob job);
 
-/* Read an entry of the table: the fewest turns modulo 3, or 3 for unseen.
- * 1 no kind; 2 n; 10 length is not HOKRUND_TABLE_BYTES(N); 4 the index is N or more. */
+/* Build the whole table: a build from begin to Finished, in a table of HOKRUND_TABLE_BYTES(N) bytes and a log area of
+ * HOKRUND_LOG_WORDS(G, C) numbers that hold anything. The job is the finished one, with the deepest level and the counts; of zeros beside a
+ * refusal. It returns when the build has ended; by the calls above a build can be stopped after any of them, saved and gone on with.
+ * Refused 1, 2, 3 for wanted, 5, 6, 10 for the table, 10 for the log area. */
+HokrundAnswer hokrund_build_table(uint8_t kind, uint8_t n, HokrundStack wanted, uint32_t size, uint32_t room, uint8_t *table,
+                                  size_t length, uint32_t *log, size_t words);
+
+/* Read an entry of the table.
+ * Refused 1, 2, 10 when length is not HOKRUND_TABLE_BYTES(N), 4. */
 HokrundEntry hokrund_read_entry(uint8_t kind, uint8_t n, const uint8_t *table, size_t length, uint32_t index);
 
-/* Plan: the turns that take the given stack to the wanted one come to the front of list, and turns is how many; the rest of list stays.
- * 1 no kind; 2 n; 3 wanted is no stack; 3 given is none; 10 length is not HOKRUND_TABLE_BYTES(N); 10 room is under HOKRUND_TURN_LIST;
- * 15 the table leads nowhere: the given stack is unseen, the wanted stack's entry is not 0, no turn leads nearer, or 30 do not suffice. */
+/* Plan: turns that take the given stack to the wanted one come to the front of list, and turns is how many; the rest of list stays. From the
+ * table of a finished build for the same wanted stack no list of turns is shorter, and no stack is refused 15. From any other table of that
+ * length an accepted plan still arrives, but need not be the shortest.
+ * Refused 1, 2, 3 for wanted, 3 for given, 10 when length is not HOKRUND_TABLE_BYTES(N), 10 when slots is under HOKRUND_TURN_LIST, 15: the
+ * given stack is unseen, the wanted stack's entry is not 0, no turn leads nearer, or 30 do not suffice. */
 HokrundPlanned hokrund_plan(uint8_t kind, uint8_t n, HokrundStack wanted, HokrundStack given, const uint8_t *table, size_t length,
-                            uint8_t *list, size_t room);
+                            uint8_t *list, size_t slots);
 
-/* The layout that the library was compiled for; C99 has no way to hold a compiler to it. */
-#if defined(__cplusplus) || (defined(__STDC_VERSION__) && __STDC_VERSION__ >= 201112L)
-#ifdef __cplusplus
-#define HOKRUND_ASSERT(test) static_assert(test, #test)
-#else
-#define HOKRUND_ASSERT(test) _Static_assert(test, #test)
-#endif
-#define HOKRUND_SIZE(type, bytes) HOKRUND_ASSERT(sizeof(type) == (bytes))
-#define HOKRUND_FIELD(type, field, offset) HOKRUND_ASSERT(offsetof(type, field) == (offset))
-HOKRUND_SIZE(size_t, 8);
-HOKRUND_SIZE(bool, 1);
-HOKRUND_SIZE(HokrundStack, 12);
-HOKRUND_FIELD(HokrundJob, kind, 0);
-HOKRUND_FIELD(HokrundJob, n, 1);
-HOKRUND_FIELD(HokrundJob, phase, 2);
-HOKRUND_FIELD(HokrundJob, level, 3);
-HOKRUND_FIELD(HokrundJob, wanted, 4);
-HOKRUND_FIELD(HokrundJob, size, 16);
-HOKRUND_FIELD(HokrundJob, room, 20);
-HOKRUND_FIELD(HokrundJob, passed, 24);
-HOKRUND_FIELD(HokrundJob, waiting, 280);
-HOKRUND_FIELD(HokrundJob, counts, 536);
-HOKRUND_SIZE(HokrundJob, 792);
-HOKRUND_FIELD(HokrundIndexed, index, 4);
-HOKRUND_SIZE(HokrundIndexed, 8);
-HOKRUND_FIELD(HokrundStacked, stack, 1);
-HOKRUND_SIZE(HokrundStacked, 13);
-HOKRUND_FIELD(HokrundAnswer, job, 8);
-HOKRUND_SIZE(HokrundAnswer, 800);
-HOKRUND_FIELD(HokrundExpanded, waits, 1);
-HOKRUND_FIELD(HokrundExpanded, on, 4);
-HOKRUND_FIELD(HokrundExpanded, job, 8);
-HOKRUND_SIZE(HokrundExpanded, 800);
-HOKRUND_FIELD(HokrundLook, start, 8);
-HOKRUND_FIELD(HokrundLook, length, 16);
-HOKRUND_SIZE(HokrundLook, 24);
-HOKRUND_FIELD(HokrundEntry, entry, 1);
-HOKRUND_SIZE(HokrundEntry, 2);
-HOKRUND_FIELD(HokrundPlanned, turns, 4);
-HOKRUND_SIZE(HokrundPlanned, 8);
+/* The layout that the library was compiled for. An array that may not be declared, as C99 and C++98 have no other assertion. */
+#define HOKRUND_ASSERT(test) extern const char hokrund_layout[(test) ? 1 : -1]
+#define HOKRUND_ASSERT_SIZE(type, bytes) HOKRUND_ASSERT(sizeof(type) == (bytes))
+#define HOKRUND_ASSERT_FIELD(type, field, offset) HOKRUND_ASSERT(offsetof(type, field) == (offset))
+HOKRUND_ASSERT_SIZE(size_t, 8);
+HOKRUND_ASSERT_SIZE(bool, 1);
+HOKRUND_ASSERT_SIZE(HokrundStack, 12);
+HOKRUND_ASSERT_FIELD(HokrundJob, kind, 0);
+HOKRUND_ASSERT_FIELD(HokrundJob, n, 1);
+HOKRUND_ASSERT_FIELD(HokrundJob, phase, 2);
+HOKRUND_ASSERT_FIELD(HokrundJob, level, 3);
+HOKRUND_ASSERT_FIELD(HokrundJob, wanted, 4);
+HOKRUND_ASSERT_FIELD(HokrundJob, size, 16);
+HOKRUND_ASSERT_FIELD(HokrundJob, room, 20);
+HOKRUND_ASSERT_FIELD(HokrundJob, passed, 24);
+HOKRUND_ASSERT_FIELD(HokrundJob, waiting, 280);
+HOKRUND_ASSERT_FIELD(HokrundJob, counts, 536);
+HOKRUND_ASSERT_SIZE(HokrundJob, 792);
+HOKRUND_ASSERT_FIELD(HokrundIndexed, index, 4);
+HOKRUND_ASSERT_SIZE(HokrundIndexed, 8);
+HOKRUND_ASSERT_FIELD(HokrundStacked, stack, 1);
+HOKRUND_ASSERT_SIZE(HokrundStacked, 13);
+HOKRUND_ASSERT_FIELD(HokrundAnswer, job, 8);
+HOKRUND_ASSERT_SIZE(HokrundAnswer, 800);
+HOKRUND_ASSERT_FIELD(HokrundExpanded, waits, 1);
+HOKRUND_ASSERT_FIELD(HokrundExpanded, on, 4);
+HOKRUND_ASSERT_FIELD(HokrundExpanded, job, 8);
+HOKRUND_ASSERT_SIZE(HokrundExpanded, 800);
+HOKRUND_ASSERT_FIELD(HokrundLook, start, 8);
+HOKRUND_ASSERT_FIELD(HokrundLook, length, 16);
+HOKRUND_ASSERT_SIZE(HokrundLook, 24);
+HOKRUND_ASSERT_FIELD(HokrundEntry, entry, 1);
+HOKRUND_ASSERT_SIZE(HokrundEntry, 2);
+HOKRUND_ASSERT_FIELD(HokrundPlanned, turns, 4);
+HOKRUND_ASSERT_SIZE(HokrundPlanned, 8);
 #undef HOKRUND_ASSERT
-#undef HOKRUND_SIZE
-#undef HOKRUND_FIELD
-#endif
+#undef HOKRUND_ASSERT_SIZE
+#undef HOKRUND_ASSERT_FIELD
 
 #ifdef __cplusplus
 }

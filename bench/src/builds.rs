@@ -4,7 +4,7 @@ use std::fmt;
 use std::time::Instant;
 
 use outside::build::{ordered, size_for, Build, Fields, Order};
-use outside::linked::Library;
+use outside::linked::{Library, JOB_BYTES};
 use outside::rng::Rng;
 use outside::system::*;
 
@@ -96,7 +96,7 @@ impl Subject {
             _ => {
                 let measures = self.fields().measures().expect("the subject is right");
                 let table: usize = (0..measures.segments).map(|j| measures.bytes_of(j)).sum();
-                (table + 4 * measures.log_numbers() + size_of::<Job>()) as u64
+                (table + 4 * measures.log_numbers() + JOB_BYTES) as u64
             }
         }
     }

@@ -4,7 +4,7 @@ use outside::build::{Build, Order, Refused};
 use outside::cases::{Family, FAMILIES};
 use outside::checks;
 use outside::compare::{compare, Tally};
-use outside::paper::{self, Paper};
+use outside::paper::{self, PAPER};
 use outside::rng::Rng;
 use outside::system::Phase;
 
@@ -25,8 +25,9 @@ pub fn check(seed: u64) -> Result<(), String> {
             Family::Tables => 10_000,
             Family::Lists => 500,
             Family::Large => 200,
+            Family::Whole => 200,
         };
-        compare(&Paper, &Fast, family, seed, 0..cases, &mut tally)?;
+        compare(&PAPER, &Fast, family, seed, 0..cases, &mut tally)?;
         println!("compared {family:?}: {cases} cases, seed {seed}");
     }
     println!("{} calls\n{tally}", tally.calls());

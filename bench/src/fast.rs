@@ -155,6 +155,7 @@ fn coherent(job: &Job) -> Result<Shape, u8> {
         Phase::Blanking => true,
         Phase::Level(d) => (1..=LAST_LEVEL).contains(&d),
         Phase::Finished(deepest) => deepest < LAST_LEVEL,
+        Phase::NoPhase(..) => false,
     };
     let (inside, beyond) = (0..shape.segments, shape.segments as usize..SEGMENTS);
     let right = phase

@@ -1,15 +1,15 @@
--- Laws of `tally`, the count of the elements that pass a test, of `all`, and of a list with one element taken out.
-use mathlib.Core.Path.{_≡_, refl, sym, ap, _∙_, subst}
+-- Laws of `tally`, the count of the elements that pass a test, of `all`, of `total`, and of a list with one element taken out.
+use mathlib.Core.Path.{_≡_, refl, sym, ap, ap₂, _∙_, subst}
 use mathlib.Core.Bool.{Bool, true, false, _&&_, cond, and-true, and-assoc, and-comm}
 use mathlib.Core.List.{List, [], _∷_, _++_, map, reverse, reverse-cons}
 use Prim.Native.Nat.{ℕ, zero, suc, _+_, _≤_, _<_}
-use native.Mathlib.Nat.{zero-add, le-refl, le-of-suc-le-suc, not-suc-le-zero}
+use native.Mathlib.Nat.{zero-add, add-zero, add-suc, suc-add, add-assoc, le-refl, le-of-suc-le-suc, not-suc-le-zero}
 use native.Mathlib.Numerals.{one-add}
 use native.Mathlib.Omega.{arith}
 use lib.ListN.{length, getD, take, replicate}
 use Rattle.base.proofs.Tests.{and-left, and-right, and-both}
 use Rattle.base.proofs.Lists.{from-length, getD-from}
-use Rattle.base.specs.Words.{all, tally, from, without}
+use Rattle.base.specs.Words.{all, tally, total, from, without}
 
 module _ {A : Type 0} (p : A → Bool) where
   pub tally-append : (xs ys : List A) → tally p (xs ++ ys) ≡ tally p xs + tally p ys
@@ -137,3 +137,16 @@ below-all p n h = at-all p (from 0 n) 0 (λ i l. go i (rw from-length at l))
   where
     go : (i : ℕ) → i < n → p (getD (from 0 n) i 0) ≡ true
     go i l = subst (λ (x : ℕ). p x ≡ true) (sym (getD-from 0 n i 0 l ∙ zero-add i)) (h i l)
+
+pub total-append : (xs ys : List ℕ) → total (xs ++ ys) ≡ total xs + total ys
+unfolding total
+total-append [] ys = sym (zero-add (total ys))
+total-append (x ∷ xs) ys = ap (λ (m : ℕ). x + m) (total-append xs ys) ∙ sym (add-assoc x (total xs) (total ys))
+
+-- a list by its elements
+pub total-from : (xs : List ℕ) (f : ℕ → ℕ) (a : ℕ) → ((i : ℕ) → i < length xs → getD xs i 0 ≡ f (a + i)) → total xs ≡ total (map f (from a (length xs)))
+unfolding total from
+total-from [] f a h = refl
+total-from (x ∷ xs) f a h =
+    ap₂ (λ (m k : ℕ). m + k) (h 0 (omega arith) ∙ ap f (add-zero a))
+    (total-from xs f (suc a) (λ i l. h (suc i) (omega arith) ∙ ap f (add-suc a i ∙ sym (suc-add a i))))

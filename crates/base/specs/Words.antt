@@ -2,8 +2,10 @@
 --   unless ok r rest   the refusal r where ok fails, else what rest says: a row of these is an ordered list of refusals
 --   all p xs           p holds of each element
 --   tally p xs         how many elements p holds of
+--   total xs           the sum of a list
 --   fact n             n!
 --   from a n           the n numbers a, a + 1, ..
+--   firstFrom p a n    the first of them that passes a test, and a + n where none does
 --   without i xs       xs with the element at place i taken out
 use mathlib.Core.Bool.{Bool, true, false, _&&_, cond}
 use mathlib.Core.List.{List, [], _∷_, _++_}
@@ -26,6 +28,10 @@ module _ {A : Type 0} where
   unfoldable pub without : ℕ → List A → List A
   without i xs = take i xs ++ drop (suc i) xs
 
+unfoldable pub total : List ℕ → ℕ
+total [] = 0
+total (x ∷ xs) = x + total xs
+
 unfoldable pub fact : ℕ → ℕ
 fact zero = 1
 fact (suc n) = suc n * fact n
@@ -33,3 +39,7 @@ fact (suc n) = suc n * fact n
 unfoldable pub from : ℕ → ℕ → List ℕ
 from a zero = []
 from a (suc n) = a ∷ from (suc a) n
+
+unfoldable pub firstFrom : (ℕ → Bool) → ℕ → ℕ → ℕ
+firstFrom p a zero = a
+firstFrom p a (suc n) = cond (p a) a (firstFrom p (suc a) n)

@@ -9,7 +9,7 @@ use Rattle.search.specs.Build.{Call, own, doBlank, doExpand, doSettle, doClose,
 use Rattle.search.specs.Close.{closeOf}
 use Rattle.search.specs.Drive.{firstOpen, firstPending, nextCall, advanced, held, laid}
 use Rattle.search.specs.Entries.{bytesFor}
-use Rattle.search.specs.JobState.{isBlanking, isCoherent, segmentsOf, stacksAll}
+use Rattle.search.specs.JobState.{isBlanking, isCoherent, segmentCountOf, stackCountOf}
 use Rattle.search.specs.Promise.{rightBytes, rightWords}
 use Rattle.search.specs.declared.Answer.{Answer}
 use Rattle.search.specs.declared.Job.{Job}
@@ -27,7 +27,7 @@ module _ (job : Job) (table log : List ℕ) where
   unfolding advanced held
   chosen call e = ap (λ (c : Calls). laid (outcome (held job table log) c .world)) (sym e)
 
-  pub advance-blanks : (j : ℕ) → j ≡ firstOpen job → isBlanking (job .phase) ≡ true → firstOpen job < segmentsOf job
+  pub advance-blanks : (j : ℕ) → j ≡ firstOpen job → isBlanking (job .phase) ≡ true → firstOpen job < segmentCountOf job
       → (out : List ℕ × Job) → out ≡ blankedIn job j table → (out .0, log, out .1) ≡ laid (advanced (held job table log))
   unfolding laid outcome lent kept held blankedIn partOf withPart
   advance-blanks j at blanking h out e =
@@ -35,14 +35,14 @@ module _ (job : Job) (table log : List ℕ) where
       ∙ chosen (doBlank (firstOpen job) own) (next-blank job blanking h)
 
   module _ (blanked : isBlanking (job .phase) ≡ false) where
-    pub advance-settles : (j : ℕ) → j ≡ firstPending job → firstPending job < segmentsOf job
+    pub advance-settles : (j : ℕ) → j ≡ firstPending job → firstPending job < segmentCountOf job
         → (out : List ℕ × Job) → out ≡ settledIn job j table log → (out .0, log, out .1) ≡ laid (advanced (held job table log))
     unfolding laid outcome lent kept held settledIn partOf withPart
     advance-settles j at h out e =
         ap (λ (o : List ℕ × Job). (o .0, log, o .1)) (e ∙ ap (λ (i : ℕ). settledIn job i table log) at)
         ∙ chosen (doSettle (firstPending job) own own) (next-settle job blanked h)
 
-    pub advance-expands : (j : ℕ) → j ≡ firstOpen job → segmentsOf job ≤ firstPending job → firstOpen job < segmentsOf job
+    pub advance-expands : (j : ℕ) → j ≡ firstOpen job → segmentCountOf job ≤ firstPending job → firstOpen job < segmentCountOf job
         → (out : List ℕ × List ℕ × Job) → out ≡ expandedIn job j table log → out ≡ laid (advanced (held job table log))
     unfolding laid outcome lent kept held expandedIn partOf withPart
     advance-expands j at h l out e =
@@ -50,19 +50,19 @@ module _ (job : Job) (table log : List ℕ) where
         ∙ ap (λ (i : ℕ). expandedIn job i table log) at
         ∙ chosen (doExpand (firstOpen job) own own) (next-expand job blanked h l)
 
-  module _ (coherent : isCoherent job ≡ true) (long : length table ≡ bytesFor (stacksAll job)) (answer : Answer) (closes : answer ≡ closeOf job) where
+  module _ (coherent : isCoherent job ≡ true) (long : length table ≡ bytesFor (stackCountOf job)) (answer : Answer) (closes : answer ≡ closeOf job) where
     closed : nextCall {bytes = rightBytes (job .kind) (job .n) (job .size)} {words = rightWords (job .kind) (job .n) (job .size) (job .room)} job ≡ doClose
         → (table, log, answer .job) ≡ laid (advanced (held job table log))
     unfolding laid outcome held
     closed e =
         ap (λ (a : Answer). (table, log, a .job)) closes
         ∙ ap (λ (t : List ℕ). (t, log, closeOf job .job))
-        (sym (joined-cut (stacksAll job) (job .size) (omega (arith, sizes job coherent .least)) (sizes job coherent .four) table long))
+        (sym (joined-cut (stackCountOf job) (job .size) (omega (arith, sizes job coherent .least)) (sizes job coherent .four) table long))
         ∙ chosen doClose e
 
-    pub advance-opens : isBlanking (job .phase) ≡ true → segmentsOf job ≤ firstOpen job → (table, log, answer .job) ≡ laid (advanced (held job table log))
+    pub advance-opens : isBlanking (job .phase) ≡ true → segmentCountOf job ≤ firstOpen job → (table, log, answer .job) ≡ laid (advanced (held job table log))
     advance-opens blanking h = closed (next-level job blanking h)
 
-    pub advance-closes : isBlanking (job .phase) ≡ false → segmentsOf job ≤ firstPending job → segmentsOf job ≤ firstOpen job
+    pub advance-closes : isBlanking (job .phase) ≡ false → segmentCountOf job ≤ firstPending job → segmentCountOf job ≤ firstOpen job
         → (table, log, answer .job) ≡ laid (advanced (held job table log))
     advance-closes blanked h l = closed (next-close job blanked h l)

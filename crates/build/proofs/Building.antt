@@ -16,6 +16,7 @@ use Rattle.search.specs.Segments.{joined}
 use Rattle.search.specs.declared.Answer.{Answer}
 use Rattle.search.specs.declared.Job.{Job}
 use Rattle.search.proofs.Coherence.{given-begin}
+use Rattle.search.proofs.Terms.{termsWith}
 use Rattle.search.proofs.WholeTable.{Accepts, Driving, driving-begins, driving-ends}
 
 -- a Begin of zeros answers a job of zeros, refused or not
@@ -41,7 +42,7 @@ module _ (kind n : ℕ) (wanted : List ℤ) (S C : ℕ) (table₀ log₀ : List 
   pub begin-accepted : Accepts kind n wanted S C (length table₀) (length log₀) → beginOf kind n wanted S C .job ≡ begun kind n wanted S C
   unfolding beginOf
   begin-accepted accepts =
-      ap (λ (r : ℕ). cond (eqb r 0) (begun kind n wanted S C) (begun 0 0 (replicate 12 (pos 0)) 0 0)) (given-begin kind n wanted S C (accepts .given))
+      ap (λ (r : ℕ). cond (eqb r 0) (begun kind n wanted S C) (begun 0 0 (replicate 12 (pos 0)) 0 0)) (given-begin (termsWith kind n wanted S C) (accepts .given))
 
   pub build-begins : (job : Job) → job ≡ begun kind n wanted S C → Accepts kind n wanted S C (length table₀) (length log₀)
       → Driving kind n (job .wanted) S C table₀ log₀ job table₀ log₀

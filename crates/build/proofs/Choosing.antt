@@ -5,7 +5,7 @@ use Prim.Native.Nat.{ℕ, _+_, _≤_, _<_}
 use native.Mathlib.Omega.{arith}
 use borrow.Author.Count.{below-more}
 use Rattle.expand.proofs.Lowest.{first-is}
-use Rattle.search.specs.Expand.{firstFrom}
+use Rattle.base.specs.Words.{firstFrom}
 
 -- no number below j passes, and n numbers are tried
 pub record Seeks (p : ℕ → Bool) (n j : ℕ) : Type 0 where

@@ -8,7 +8,7 @@ use native.Mathlib.Omega.{arith}
 use borrow.Rule.Slice.PartMut.{midOf, putMid, post-is}
 use lib.ListN.{length, take, drop}
 use Rattle.search.specs.Entries.{bytesFor}
-use Rattle.search.specs.JobState.{stacksAll, segmentsOf, stacksOf, isCoherent}
+use Rattle.search.specs.JobState.{stackCountOf, segmentCountOf, stackCountAt, isCoherent}
 use Rattle.search.specs.declared.Answer.{Answer}
 use Rattle.search.specs.declared.Expanded.{Expanded}
 use Rattle.search.specs.declared.Job.{Job}
@@ -18,44 +18,44 @@ use Rattle.search.proofs.CutLaws.{segment-within, cut-at, joined-replaced}
 use Rattle.search.proofs.SegmentLaws.{SegmentSizeFacts, segment-size-facts}
 use Rattle.build.specs.Part.{partOf, withPart, expandedIn}
 
-pub sizes : (job : Job) → isCoherent job ≡ true → SegmentSizeFacts (stacksAll job) (job .size)
-unfolding stacksAll
+pub sizes : (job : Job) → isCoherent job ≡ true → SegmentSizeFacts (stackCountOf job) (job .size)
+unfolding stackCountOf
 sizes job coherent =
-    segment-size-facts (stacksAll job) (job .size)
+    segment-size-facts (stackCountOf job) (job .size)
     (begin-given (job .kind) (job .n) (job .wanted) (job .size) (job .room) (coherent-facts job coherent .begins) .segments)
 
-module _ (job : Job) (j : ℕ) (coherent : isCoherent job ≡ true) (inside : j < segmentsOf job) where
+module _ (job : Job) (j : ℕ) (coherent : isCoherent job ≡ true) (inside : j < segmentCountOf job) where
   -- at most 64 segments of 2^24 bytes
   pub start-small : j * (job .size / 4) ≤ 1073741824
-  unfolding segmentsOf
+  unfolding segmentCountOf
   start-small =
       let a : j ≤ 64 = omega (arith, sizes job coherent .few) in
       let b : job .size / 4 ≤ 16777216 = omega (arith, sizes job coherent .most) in
       omega (arith, mul-le-mul a b)
 
-  module _ (start end : ℕ) (table : List ℕ) (long : length table ≡ bytesFor (stacksAll job)) (starts : start ≡ j * (job .size / 4))
-      (ends : end ≡ j * (job .size / 4) + bytesFor (stacksOf job j)) where
+  module _ (start end : ℕ) (table : List ℕ) (long : length table ≡ bytesFor (stackCountOf job)) (starts : start ≡ j * (job .size / 4))
+      (ends : end ≡ j * (job .size / 4) + bytesFor (stackCountAt job j)) where
     some : 0 < job .size
     some = omega (arith, sizes job coherent .least)
 
     pub part-within : end ≤ length table
-    unfolding segmentsOf stacksOf
-    part-within = omega (arith, segment-within (stacksAll job) (job .size) some (sizes job coherent .four) j inside)
+    unfolding segmentCountOf stackCountAt
+    part-within = omega (arith, segment-within (stackCountOf job) (job .size) some (sizes job coherent .four) j inside)
 
     part-is : midOf start (end - start) table ≡ partOf job j table
-    unfolding partOf segmentsOf stacksOf
+    unfolding partOf segmentCountOf stackCountAt
     part-is =
-        ap (λ (k : ℕ). take k (drop start table)) (let e : end - start ≡ bytesFor (stacksOf job j) = omega arith in e)
-        ∙ ap (λ (a : ℕ). take (bytesFor (stacksOf job j)) (drop a table)) starts
-        ∙ sym (cut-at (stacksAll job) (job .size) some (sizes job coherent .four) table j inside)
+        ap (λ (k : ℕ). take k (drop start table)) (let e : end - start ≡ bytesFor (stackCountAt job j) = omega arith in e)
+        ∙ ap (λ (a : ℕ). take (bytesFor (stackCountAt job j)) (drop a table)) starts
+        ∙ sym (cut-at (stackCountOf job) (job .size) some (sizes job coherent .four) table j inside)
 
     put-is : (new : List ℕ) → putMid start (end - start) table new ≡ withPart job j table new
-    unfolding withPart segmentsOf stacksOf
+    unfolding withPart segmentCountOf stackCountAt
     put-is new =
         ap (λ (l : List ℕ). take start table ++ (new ++ l)) (post-is start end table (omega arith))
         ∙ ap (λ (a : ℕ). take a table ++ (new ++ drop end table)) starts
         ∙ ap (λ (b : ℕ). take (j * (job .size / 4)) table ++ (new ++ drop b table)) ends
-        ∙ sym (joined-replaced (stacksAll job) (job .size) some (sizes job coherent .four) table long j new inside)
+        ∙ sym (joined-replaced (stackCountOf job) (job .size) some (sizes job coherent .four) table long j new inside)
 
     -- Blank or Settle on the part
     pub answered-in : (call : List ℕ → List ℕ × Answer) (after : List ℕ) (answer : Answer)

@@ -5,7 +5,7 @@ use lib.ListN.{getD, set}
 use Rattle.search.specs.Blank.{blankOf}
 use Rattle.search.specs.Drive.{cut}
 use Rattle.search.specs.Expand.{expandOf}
-use Rattle.search.specs.JobState.{stacksAll}
+use Rattle.search.specs.JobState.{stackCountOf}
 use Rattle.search.specs.Segments.{joined}
 use Rattle.search.specs.Settle.{settleOf}
 use Rattle.search.specs.declared.Job.{Job}
@@ -13,10 +13,10 @@ use Rattle.search.specs.declared.Job.{Job}
 module _ (job : Job) (j : ℕ) (table : List ℕ) where
   -- segment j, and the table with another one
   unfoldable pub partOf : List ℕ
-  partOf = getD (cut (stacksAll job) (job .size) table) j []
+  partOf = getD (cut (stackCountOf job) (job .size) table) j []
 
   unfoldable pub withPart : List ℕ → List ℕ
-  withPart segment = joined (set (cut (stacksAll job) (job .size) table) j segment)
+  withPart segment = joined (set (cut (stackCountOf job) (job .size) table) j segment)
 
   -- the table and the job after the call; after Expand, the log area too
   unfoldable pub blankedIn : List ℕ × Job

@@ -4,7 +4,7 @@ ghost use mathlib.Core.Path.{_≡_};
 ghost use lib.ListN.{length};
 ghost use Rattle.search.specs.Drive.{advanced, held, laid};
 ghost use Rattle.search.specs.Entries.{bytesFor};
-ghost use Rattle.search.specs.JobState.{isCoherent, stacksAll};
+ghost use Rattle.search.specs.JobState.{isCoherent, stackCountOf};
 use crate::choose;
 use crate::part;
 use calls::close;
@@ -13,11 +13,11 @@ use job::phase;
 use search::Job;
 
 // In Blanking a segment is blanked; in a level a log is settled, or else a segment expanded; with nothing left the phase is closed.
-pub fn advance(job: Job, table: &mut [u8], log: &mut [u32]) -> Job
-    requires { ⌜ (isCoherent job ≡ true) × (length (now table) ≡ bytesFor (stacksAll job)) ⌝ }
+pub(crate) fn advance(job: Job, table: &mut [u8], log: &mut [u32]) -> Job
+    requires { ⌜ (isCoherent job ≡ true) × (length (now table) ≡ bytesFor (stackCountOf job)) ⌝ }
     ensures { λ r. ⌜ (now (table .exit), now (log .exit), r) ≡ laid (advanced (held job (now (table .entry)) (now (log .entry)))) ⌝ }
 {
-    let segments = coherence::segments_of(job);
+    let segments = coherence::segment_count_of(job);
     let first = choose::first_open(job);
     let phase = job.phase;
     if phase::is_blanking(phase) {

@@ -12,7 +12,7 @@ use search::Answer;
 use search::Job;
 use twobit::segment;
 
-pub fn build_refusal(
+fn build_refusal(
     kind: u8,
     n: u8,
     wanted: [i8; 12],

@@ -7,15 +7,15 @@ use job::coherence;
 use search::Job;
 
 // The first with stacks that are not passed.
-pub fn first_open(job: Job) -> u32
+pub(crate) fn first_open(job: Job) -> u32
     requires { ⌜ isCoherent job ≡ true ⌝ }
     ensures { λ r. ⌜ r ≡ firstOpen job ⌝ }
 {
-    let segments = coherence::segments_of(job);
+    let segments = coherence::segment_count_of(job);
     let passed = job.passed;
     let mut j: u32 = 0;
     while j < segments {
-        if passed[j as usize] < coherence::stacks_of(job, j) {
+        if passed[j as usize] < coherence::stack_count_at(job, j) {
             return j;
         }
         j += 1;
@@ -24,11 +24,11 @@ pub fn first_open(job: Job) -> u32
 }
 
 // The first with entries waiting.
-pub fn first_pending(job: Job) -> u32
+pub(crate) fn first_pending(job: Job) -> u32
     requires { ⌜ isCoherent job ≡ true ⌝ }
     ensures { λ r. ⌜ r ≡ firstPending job ⌝ }
 {
-    let segments = coherence::segments_of(job);
+    let segments = coherence::segment_count_of(job);
     let waiting = job.waiting;
     let mut t: u32 = 0;
     while t < segments {

@@ -1,5 +1,5 @@
 // Code: Build the whole table.
-pub mod advance;
+mod advance;
 pub mod build;
-pub mod choose;
-pub mod part;
+mod choose;
+mod part;

@@ -4,7 +4,7 @@ ghost use mathlib.Core.Path.{_≡_};
 ghost use Prim.Native.Nat.{_+_, _*_, _/_, _<_};
 ghost use lib.ListN.{length};
 ghost use Rattle.search.specs.Entries.{bytesFor};
-ghost use Rattle.search.specs.JobState.{isCoherent, segmentsOf, stacksAll, stacksOf};
+ghost use Rattle.search.specs.JobState.{isCoherent, segmentCountOf, stackCountOf, stackCountAt};
 ghost use Rattle.build.specs.Part.{blankedIn, settledIn, expandedIn};
 use calls::blank;
 use calls::settle;
@@ -14,7 +14,7 @@ use twobit::segment;
 
 // Where segment j starts in the table. Every segment before it is full.
 fn part_start(job: Job, j: u32) -> usize
-    requires { ⌜ (isCoherent job ≡ true) × (j < segmentsOf job) ⌝ }
+    requires { ⌜ (isCoherent job ≡ true) × (j < segmentCountOf job) ⌝ }
     ensures { λ r. ⌜ r ≡ j * (job .size / 4) ⌝ }
 {
     (j as usize) * ((job.size / 4) as usize)
@@ -22,16 +22,16 @@ fn part_start(job: Job, j: u32) -> usize
 
 // Where it ends.
 fn part_end(job: Job, j: u32) -> usize
-    requires { ⌜ (isCoherent job ≡ true) × (j < segmentsOf job) ⌝ }
-    ensures { λ r. ⌜ r ≡ j * (job .size / 4) + bytesFor (stacksOf job j) ⌝ }
+    requires { ⌜ (isCoherent job ≡ true) × (j < segmentCountOf job) ⌝ }
+    ensures { λ r. ⌜ r ≡ j * (job .size / 4) + bytesFor (stackCountAt job j) ⌝ }
 {
     let start = part_start(job, j);
-    let m = coherence::stacks_of(job, j);
+    let m = coherence::stack_count_at(job, j);
     start + (segment::bytes_for(m) as usize)
 }
 
-pub fn blank_part(job: Job, j: u32, table: &mut [u8]) -> Job
-    requires { ⌜ (isCoherent job ≡ true) × (j < segmentsOf job) × (length (now table) ≡ bytesFor (stacksAll job)) ⌝ }
+pub(crate) fn blank_part(job: Job, j: u32, table: &mut [u8]) -> Job
+    requires { ⌜ (isCoherent job ≡ true) × (j < segmentCountOf job) × (length (now table) ≡ bytesFor (stackCountOf job)) ⌝ }
     ensures { λ r. ⌜ (now (table .exit), r) ≡ blankedIn job j (now (table .entry)) ⌝ }
 {
     let start = part_start(job, j);
@@ -40,8 +40,8 @@ pub fn blank_part(job: Job, j: u32, table: &mut [u8]) -> Job
     answer.job
 }
 
-pub fn settle_part(job: Job, j: u32, table: &mut [u8], log: &[u32]) -> Job
-    requires { ⌜ (isCoherent job ≡ true) × (j < segmentsOf job) × (length (now table) ≡ bytesFor (stacksAll job)) ⌝ }
+pub(crate) fn settle_part(job: Job, j: u32, table: &mut [u8], log: &[u32]) -> Job
+    requires { ⌜ (isCoherent job ≡ true) × (j < segmentCountOf job) × (length (now table) ≡ bytesFor (stackCountOf job)) ⌝ }
     ensures { λ r. ⌜ (now (table .exit), r) ≡ settledIn job j (now (table .entry)) (now (log .entry)) ⌝ }
 {
     let start = part_start(job, j);
@@ -50,8 +50,8 @@ pub fn settle_part(job: Job, j: u32, table: &mut [u8], log: &[u32]) -> Job
     answer.job
 }
 
-pub fn expand_part(job: Job, j: u32, table: &mut [u8], log: &mut [u32]) -> Job
-    requires { ⌜ (isCoherent job ≡ true) × (j < segmentsOf job) × (length (now table) ≡ bytesFor (stacksAll job)) ⌝ }
+pub(crate) fn expand_part(job: Job, j: u32, table: &mut [u8], log: &mut [u32]) -> Job
+    requires { ⌜ (isCoherent job ≡ true) × (j < segmentCountOf job) × (length (now table) ≡ bytesFor (stackCountOf job)) ⌝ }
     ensures { λ r. ⌜ (now (table .exit), now (log .exit), r) ≡ expandedIn job j (now (table .entry)) (now (log .entry)) ⌝ }
 {
     let start = part_start(job, j);

@@ -1,8 +1,12 @@
 // A plain breadth-first search, one byte a stack: the fewest turns, or 255 for unseen.
+ghost use Prim.Native.Nat.{_≤_};
+ghost use lib.ListN.{length};
 use crate::stack;
 
 // 1 where the stack at index i was unseen and is now marked, else 0.
-fn reach(bytes: &mut [u8], i: usize, mark: u8) -> u64 {
+fn reach(bytes: &mut [u8], i: usize, mark: u8) -> u64
+    ensures { λ r. ⌜ r ≤ 1 ⌝ }
+{
     if i >= bytes.len() {
         return 0;
     }
@@ -19,21 +23,27 @@ fn no_turn(kind: u8) -> usize {
 }
 
 // Marks the children of the stack at index i, and answers how many were unseen.
-fn spread(kind: u8, n: usize, bytes: &mut [u8], i: usize, mark: u8) -> u64 {
+fn spread(kind: u8, n: usize, bytes: &mut [u8], i: usize, mark: u8) -> u64
+    requires { ⌜ n ≤ 12 ⌝ }
+    ensures { λ r. ⌜ r ≤ n ⌝ }
+{
     let parent = stack::unrank(kind, n, i);
     let mut found: u64 = 0;
     let least = no_turn(kind);
     let mut k = n;
     while k > least {
         let child = stack::rank(kind, n, stack::turned(kind, parent, k));
-        found = std::num::wrapping_add_u64(found, reach(bytes, child, mark));
+        found += reach(bytes, child, mark);
         k -= 1;
     }
     found
 }
 
 // What spread does where the stack at index i is at d turns.
-fn spread_from(kind: u8, n: usize, bytes: &mut [u8], i: usize, d: u8) -> u64 {
+fn spread_from(kind: u8, n: usize, bytes: &mut [u8], i: usize, d: u8) -> u64
+    requires { ⌜ n ≤ 12 ⌝ }
+    ensures { λ r. ⌜ r ≤ n ⌝ }
+{
     if i >= bytes.len() {
         return 0;
     }
@@ -47,11 +57,13 @@ fn spread_from(kind: u8, n: usize, bytes: &mut [u8], i: usize, d: u8) -> u64 {
 }
 
 // Searches the level after d, and answers how many stacks it has.
-fn level(kind: u8, n: usize, bytes: &mut [u8], d: u8) -> u64 {
+fn level(kind: u8, n: usize, bytes: &mut [u8], d: u8) -> u64
+    requires { ⌜ (n ≤ 12) × (length (now bytes) ≤ 65536) ⌝ }
+{
     let mut found: u64 = 0;
     let mut i: usize = 0;
     while i < bytes.len() {
-        found = std::num::wrapping_add_u64(found, spread_from(kind, n, bytes, i, d));
+        found += spread_from(kind, n, bytes, i, d);
         i += 1;
     }
     found
@@ -66,7 +78,9 @@ fn clear(bytes: &mut [u8]) {
 }
 
 // Fills the bytes from the stack at index goal, and answers how many stacks each level has.
-pub fn search(kind: u8, n: usize, bytes: &mut [u8], goal: usize) -> [u64; 32] {
+pub fn search(kind: u8, n: usize, bytes: &mut [u8], goal: usize) -> [u64; 32]
+    requires { ⌜ (n ≤ 12) × (length (now bytes) ≤ 65536) ⌝ }
+{
     clear(bytes);
     let mut counts = [0u64; 32];
     counts[0] = reach(bytes, goal, 0);

@@ -1,8 +1,12 @@
 // The library's answers beside the search's. Each function answers how many differ.
+ghost use Prim.Native.Nat.{_≤_};
+ghost use lib.ListN.{length};
 use crate::stack;
 
 // 1 where the stack at index i has another entry than its d turns modulo 3, else 0.
-fn entry_differs(kind: u8, n: u8, table: &[u8], i: u32, d: u8) -> u64 {
+fn entry_differs(kind: u8, n: u8, table: &[u8], i: u32, d: u8) -> u64
+    ensures { λ r. ⌜ r ≤ 1 ⌝ }
+{
     let read = plan::read::read_entry(kind, n, table, i);
     if read.refusal != 0 {
         return 1;
@@ -13,21 +17,21 @@ fn entry_differs(kind: u8, n: u8, table: &[u8], i: u32, d: u8) -> u64 {
     0
 }
 
-pub fn entries(kind: u8, n: u8, table: &[u8], bytes: &[u8]) -> u64 {
-    if bytes.len() > 65536 {
-        return 1;
-    }
+pub fn entries(kind: u8, n: u8, table: &[u8], bytes: &[u8]) -> u64
+    requires { ⌜ length (now bytes) ≤ 65536 ⌝ }
+{
     let mut differ: u64 = 0;
     let mut i: usize = 0;
     while i < bytes.len() {
-        let one = entry_differs(kind, n, table, i as u32, bytes[i]);
-        differ = std::num::wrapping_add_u64(differ, one);
+        differ += entry_differs(kind, n, table, i as u32, bytes[i]);
         i += 1;
     }
     differ
 }
 
-fn count_differs(a: u64, b: u64) -> u64 {
+fn count_differs(a: u64, b: u64) -> u64
+    ensures { λ r. ⌜ r ≤ 1 ⌝ }
+{
     if a == b { 0 } else { 1 }
 }
 
@@ -35,7 +39,7 @@ pub fn counts(a: [u64; 32], b: [u64; 32]) -> u64 {
     let mut differ: u64 = 0;
     let mut d: usize = 0;
     while d < 32 {
-        differ = std::num::wrapping_add_u64(differ, count_differs(a[d], b[d]));
+        differ += count_differs(a[d], b[d]);
         d += 1;
     }
     differ
@@ -57,7 +61,10 @@ fn follow(kind: u8, given: [u8; 12], list: &[u8], turns: usize) -> [u8; 12] {
 }
 
 // 1 where the plan from the stack at index i has not d turns or leads elsewhere than to the stack at index goal, else 0.
-fn plan_differs(kind: u8, n: u8, goal: usize, table: &[u8], i: usize, d: u8) -> u64 {
+fn plan_differs(kind: u8, n: u8, goal: usize, table: &[u8], i: usize, d: u8) -> u64
+    requires { ⌜ n ≤ 12 ⌝ }
+    ensures { λ r. ⌜ r ≤ 1 ⌝ }
+{
     let panes = n as usize;
     let wanted = stack::unrank(kind, panes, goal);
     let given = stack::unrank(kind, panes, i);
@@ -78,12 +85,13 @@ fn plan_differs(kind: u8, n: u8, goal: usize, table: &[u8], i: usize, d: u8) -> 
     0
 }
 
-pub fn plans(kind: u8, n: u8, goal: usize, table: &[u8], bytes: &[u8]) -> u64 {
+pub fn plans(kind: u8, n: u8, goal: usize, table: &[u8], bytes: &[u8]) -> u64
+    requires { ⌜ n ≤ 12 ⌝ }
+{
     let mut differ: u64 = 0;
     let mut i: usize = 0;
     while i < bytes.len() {
-        let one = plan_differs(kind, n, goal, table, i, bytes[i]);
-        differ = std::num::wrapping_add_u64(differ, one);
+        differ += plan_differs(kind, n, goal, table, i, bytes[i]);
         i += 1;
     }
     differ

@@ -1,4 +1,7 @@
 // A plain breadth-first search on one byte a stack, compared with the library: each entry, each level count, and the plan from each stack.
+ghost use Prim.Native.Nat.{_≤_};
+ghost use lib.ListN.{length};
+
 mod breadth;
 mod compare;
 mod stack;
@@ -13,7 +16,9 @@ fn print_differences(
     counts: [u64; 32],
     table: &[u8],
     bytes: &mut [u8],
-) {
+)
+    requires { ⌜ (n ≤ 12) × (length (now bytes) ≤ 65536) ⌝ }
+{
     let found = breadth::search(kind, n as usize, bytes, goal);
     print::field(b"entries", bytes.len() as u64);
     print::field(b"differ", compare::entries(kind, n, table, bytes));
@@ -24,7 +29,9 @@ fn print_differences(
 }
 
 // The comparison on as much of the table and of the bytes as the stacks take.
-fn compare_in(kind: u8, n: u8, goal: usize, counts: [u64; 32], table: &[u8], bytes: &mut [u8]) {
+fn compare_in(kind: u8, n: u8, goal: usize, counts: [u64; 32], table: &[u8], bytes: &mut [u8])
+    requires { ⌜ n ≤ 12 ⌝ }
+{
     let stacks = stack::total(kind, n as usize);
     if stacks > 65536 {
         return;
@@ -47,13 +54,15 @@ fn compare_in(kind: u8, n: u8, goal: usize, counts: [u64; 32], table: &[u8], byt
 }
 
 // A build to the stack at index goal, compared with the search from it.
-fn compare_build(kind: u8, n: u8, goal: usize, size: u32, order: u8) {
+fn compare_build(kind: u8, n: u8, goal: usize, size: u32, order: u8)
+    requires { ⌜ n ≤ 12 ⌝ }
+{
     let mut table = [0u8; 11520];
     let mut bytes = [0u8; 65536];
     let mut log = [0u32; 1024];
     let wanted = stack::places(stack::unrank(kind, n as usize, goal));
     let built = build::build(kind, n, wanted, size, 16, order, &mut table, &mut log);
-    print::size(kind, n);
+    print::kind_and_n(kind, n);
     print::field(b"wanted", goal as u64);
     print::verdict(built.refusal);
     let job = built.job;

@@ -1,38 +1,26 @@
-// Stacks, their numbering and turns, written apart from the library. A pane is a byte, 128 more for coat down. Every number stays below
-// 65,536, the remainder by which only keeps the proof short.
-ghost use Prim.Native.Nat.{_≤_};
+// Stacks, their numbering and turns, written apart from the library. A pane is a byte, 128 more for coat down. A stack has twelve places, so
+// that n is at most 12.
+ghost use Prim.Native.Nat.{_≤_, _<_, _^_};
 
-// How many orders n panes have.
-fn orders(n: usize) -> usize {
-    if n > 12 {
-        return 0;
-    }
+// In how many ways pane k can be put into a stack of the smaller ones: between any two, and with a coat either way.
+fn ways(kind: u8, k: usize) -> usize
+    requires { ⌜ k ≤ 12 ⌝ }
+    ensures { λ r. ⌜ r ≤ 24 ⌝ }
+{
+    if kind == 0 { k } else { 2 * k }
+}
+
+// How many stacks there are.
+pub fn total(kind: u8, n: usize) -> usize
+    requires { ⌜ n ≤ 12 ⌝ }
+{
     let mut product: usize = 1;
     let mut k: usize = 0;
     while k < n {
         k += 1;
-        product = (product % 65536) * k;
+        product *= ways(kind, k);
     }
     product
-}
-
-// A number doubled n times.
-fn doubled(n: usize, number: usize) -> usize {
-    let mut product = number;
-    let mut p = n;
-    while p > 0 {
-        product = (product % 65536) * 2;
-        p -= 1;
-    }
-    product
-}
-
-// How many stacks there are.
-pub fn total(kind: u8, n: usize) -> usize {
-    if kind == 0 {
-        return orders(n);
-    }
-    doubled(n, orders(n))
 }
 
 // 1 where pane a is smaller than pane b, else 0.
@@ -44,14 +32,9 @@ fn smaller(a: u8, b: u8) -> usize
 
 // The panes below place p that are smaller than the one there.
 fn smaller_below(stack: [u8; 12], n: usize, p: usize) -> usize
-    ensures { λ r. ⌜ r ≤ 12 ⌝ }
+    requires { ⌜ (n ≤ 12) × (p < n) ⌝ }
+    ensures { λ r. ⌜ r < 12 ⌝ }
 {
-    if n > 12 {
-        return 0;
-    }
-    if p >= n {
-        return 0;
-    }
     let pane = stack[p];
     let mut found: usize = 0;
     let mut q = p + 1;
@@ -62,15 +45,15 @@ fn smaller_below(stack: [u8; 12], n: usize, p: usize) -> usize
     found
 }
 
-// The place of the order among all orders.
-fn rank_order(stack: [u8; 12], n: usize) -> usize {
-    if n > 12 {
-        return 0;
-    }
+// The place of the order among all orders. Each pane is at most one more digit to the base 12.
+fn rank_order(stack: [u8; 12], n: usize) -> usize
+    requires { ⌜ n ≤ 12 ⌝ }
+    ensures { λ r. ⌜ r < 12 ^ 12 ⌝ }
+{
     let mut rank: usize = 0;
     let mut p: usize = 0;
     while p < n {
-        rank = (rank % 65536) * (n - p) + smaller_below(stack, n, p);
+        rank = rank * (n - p) + smaller_below(stack, n, p);
         p += 1;
     }
     rank
@@ -83,28 +66,26 @@ fn coat(pane: u8) -> usize
     if pane < 128 { 0 } else { 1 }
 }
 
-pub fn rank(kind: u8, n: usize, stack: [u8; 12]) -> usize {
-    if n > 12 {
-        return 0;
-    }
+pub fn rank(kind: u8, n: usize, stack: [u8; 12]) -> usize
+    requires { ⌜ n ≤ 12 ⌝ }
+{
     let mut rank = rank_order(stack, n);
     if kind == 0 {
         return rank;
     }
     let mut p: usize = 0;
     while p < n {
-        rank = (rank % 65536) * 2 + coat(stack[p]);
+        rank = rank * 2 + coat(stack[p]);
         p += 1;
     }
     rank
 }
 
 // Makes room for the pane at place p: those below it that are not smaller become one larger.
-fn make_room(stack: [u8; 12], p: usize) -> [u8; 12] {
+fn make_room(stack: [u8; 12], p: usize) -> [u8; 12]
+    requires { ⌜ p < 12 ⌝ }
+{
     let mut next = stack;
-    if p >= 12 {
-        return next;
-    }
     let pane = stack[p];
     let mut q = p + 1;
     while q < 12 {
@@ -126,16 +107,15 @@ fn raised(other: u8, pane: u8) -> u8 {
 }
 
 // The order at a place, from the bottom up: each pane is put before those below it by how many of them are smaller.
-fn order_at(n: usize, index: usize) -> [u8; 12] {
+fn order_at(n: usize, index: usize) -> [u8; 12]
+    requires { ⌜ n ≤ 12 ⌝ }
+{
     let mut stack = [0u8; 12];
-    if n > 12 {
-        return stack;
-    }
     let mut left = index;
     let mut p = n;
     while p > 0 {
         p -= 1;
-        stack[p] = (left % (n - p) % 12) as u8 + 1;
+        stack[p] = (left % (n - p)) as u8 + 1;
         left /= n - p;
         let roomy = make_room(stack, p);
         stack = roomy;
@@ -144,11 +124,10 @@ fn order_at(n: usize, index: usize) -> [u8; 12] {
 }
 
 // The coats of an index, from the bottom up.
-fn coated(stack: [u8; 12], n: usize, index: usize) -> [u8; 12] {
+fn coated(stack: [u8; 12], n: usize, index: usize) -> [u8; 12]
+    requires { ⌜ n ≤ 12 ⌝ }
+{
     let mut next = stack;
-    if n > 12 {
-        return next;
-    }
     let mut left = index;
     let mut p = n;
     while p > 0 {
@@ -170,7 +149,9 @@ fn halved(n: usize, index: usize) -> usize {
     left
 }
 
-pub fn unrank(kind: u8, n: usize, index: usize) -> [u8; 12] {
+pub fn unrank(kind: u8, n: usize, index: usize) -> [u8; 12]
+    requires { ⌜ n ≤ 12 ⌝ }
+{
     if kind == 0 {
         return order_at(n, index);
     }
@@ -184,6 +165,7 @@ fn flipped(kind: u8, pane: u8) -> u8 {
     if pane < 128 { pane + 128 } else { pane - 128 }
 }
 
+// Turn k. Where a plan names more panes than there are places, nothing is turned.
 pub fn turned(kind: u8, stack: [u8; 12], k: usize) -> [u8; 12] {
     let mut next = stack;
     if k > 12 {

@@ -12,9 +12,10 @@ use lib.ListN.{length, getD, set, drop, drop-of-length-le}
 use lib.Seq.{drop-cons}
 use Rattle.base.proofs.Counting.{all-at}
 use Rattle.search.specs.Entries.{entryAt, setEntry, unseen, nextEntry}
-use Rattle.search.specs.Expand.{Marks, markOne}
-use Rattle.search.specs.JobState.{countLimit, levelOf, stacksOf, waitingOf, countOf, progressed}
-use Rattle.search.specs.Settle.{pending, settleRefusal, markAll, settleOf}
+use Rattle.search.specs.JobState.{countLimit, levelOf, stackCountAt, waitingOf, countOf, progressed}
+use Rattle.search.specs.Settle.{settleRefusal, settleOf}
+use Rattle.search.specs.Marks.{Marks, markOne, markAll}
+use Rattle.search.specs.Logs.{pending}
 use Rattle.search.specs.declared.Answer.{Answer}
 use Rattle.search.specs.declared.Job.{Job}
 use Rattle.search.proofs.Accepted.{LevelFacts, settle-facts, settle-accepted}
@@ -83,9 +84,9 @@ module _ (job : Job) (j : ℕ) (segment log : List ℕ) (accepted : settleRefusa
     pub offset-inside : (k : ℕ) → k < length offsets → getD offsets k 0 / 4 < length segment
     offset-inside k h =
         rw (settle-given .long)
-        (byte-inside (getD offsets k 0) (stacksOf job j)
-        (ltb-true (getD offsets k 0) (stacksOf job j)
-        (all-at (λ i. ltb i (stacksOf job j)) offsets k 0 (rw e (settle-facts job j (length segment) log accepted .1)) h)))
+        (byte-inside (getD offsets k 0) (stackCountAt job j)
+        (ltb-true (getD offsets k 0) (stackCountAt job j)
+        (all-at (λ i. ltb i (stackCountAt job j)) offsets k 0 (rw e (settle-facts job j (length segment) log accepted .1)) h)))
 
     -- the count has room for all of them
     pub count-room : (d : ℕ) → countOf job d + length offsets < 2 ^ 64

@@ -5,7 +5,7 @@ ghost use Prim.Native.Nat.{_<_};
 ghost use lib.ListN.{length, set};
 ghost use Rattle.search.specs.Blank.{blankRefusal, blanked, blankOf};
 ghost use Rattle.search.specs.Entries.{bytesFor};
-ghost use Rattle.search.specs.JobState.{isCoherent, segmentsOf, stacksOf, progressed};
+ghost use Rattle.search.specs.JobState.{isCoherent, segmentCountOf, stackCountAt, progressed};
 use job::coherence;
 use job::phase;
 use perm::numbering;
@@ -22,8 +22,8 @@ fn blank_refusal(job: Job, j: u32, bytes: usize) -> u8
     }
     let phase = job.phase;
     let in_blanking = phase::is_blanking(phase);
-    let segments = coherence::segments_of(job);
-    let stacks = coherence::stacks_of(job, j);
+    let segments = coherence::segment_count_of(job);
+    let stacks = coherence::stack_count_at(job, j);
     let length = segment::bytes_for(stacks) as usize;
     let passed = job.passed;
     if !in_blanking {
@@ -43,7 +43,7 @@ fn blank_refusal(job: Job, j: u32, bytes: usize) -> u8
 
 // All entries become 3, and that of the wanted stack, if here, 0.
 fn blank_entries(job: Job, j: u32, segment: &mut [u8])
-    requires { ⌜ (isCoherent job ≡ true) × (length (now segment) ≡ bytesFor (stacksOf job j)) ⌝ }
+    requires { ⌜ (isCoherent job ≡ true) × (length (now segment) ≡ bytesFor (stackCountAt job j)) ⌝ }
     ensures { λ _. ⌜ now (segment .exit) ≡ blanked job j ⌝ }
 {
     entry::blank_bytes(segment);
@@ -58,10 +58,10 @@ fn blank_entries(job: Job, j: u32, segment: &mut [u8])
 
 // The job with all stacks of segment j passed.
 fn pass_all(job: Job, j: u32) -> Job
-    requires { ⌜ (isCoherent job ≡ true) × (j < segmentsOf job) ⌝ }
-    ensures { λ r. ⌜ r ≡ progressed job (job .phase) (set (job .passed) j (stacksOf job j)) (job .waiting) (job .counts) ⌝ }
+    requires { ⌜ (isCoherent job ≡ true) × (j < segmentCountOf job) ⌝ }
+    ensures { λ r. ⌜ r ≡ progressed job (job .phase) (set (job .passed) j (stackCountAt job j)) (job .waiting) (job .counts) ⌝ }
 {
-    let m = coherence::stacks_of(job, j);
+    let m = coherence::stack_count_at(job, j);
     let mut next = job;
     next.passed[j as usize] = m;
     next

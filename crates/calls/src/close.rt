@@ -5,7 +5,7 @@ ghost use Prim.Native.Nat.{_+_, _-_, _≤_};
 ghost use lib.Dec.{eqb};
 ghost use Rattle.search.specs.Close.{isReady, isPastLast, closeRefusal, nextPhase, nextCounts, closed, closeOf};
 ghost use Rattle.search.specs.JobState.{isCoherent};
-ghost use Rattle.search.specs.Segments.{stacksIn};
+ghost use Rattle.search.specs.Segments.{stackCountIn};
 ghost use Rattle.search.specs.declared.Phase.the-variants.{Level, Finished};
 use job::coherence;
 use job::phase;
@@ -17,9 +17,9 @@ use twobit::segment;
 
 // Segment j has all its stacks passed and no entry waiting.
 fn is_done(count: u32, size: u32, j: u32, passed: u32, waiting: u32) -> bool
-    ensures { λ r. ⌜ r ≡ (eqb passed (stacksIn count size j) && eqb waiting 0) ⌝ }
+    ensures { λ r. ⌜ r ≡ (eqb passed (stackCountIn count size j) && eqb waiting 0) ⌝ }
 {
-    if passed != segment::stacks_in(count, size, j) {
+    if passed != segment::stack_count_in(count, size, j) {
         return false;
     }
     waiting == 0

@@ -3,9 +3,9 @@ ghost use mathlib.Core.Bool.{true};
 ghost use mathlib.Core.Path.{_≡_};
 ghost use Prim.Native.Nat.{_<_};
 ghost use lib.ListN.{length};
-ghost use Rattle.search.specs.JobState.{isCoherent, segmentsOf, logLength};
+ghost use Rattle.search.specs.JobState.{isCoherent, segmentCountOf, logLength};
 ghost use Rattle.search.specs.Look.{lookRefusal, lookOf};
-ghost use Rattle.search.specs.Settle.{pending};
+ghost use Rattle.search.specs.Logs.{pending};
 use job::coherence;
 use search::Job;
 
@@ -15,7 +15,7 @@ fn look_refusal(job: Job, j: u32, words: usize) -> u8
     if !coherence::is_coherent(job) {
         return 7;
     }
-    let segments = coherence::segments_of(job);
+    let segments = coherence::segment_count_of(job);
     let area = coherence::log_length(job);
     if segments <= j {
         return 9;
@@ -28,7 +28,7 @@ fn look_refusal(job: Job, j: u32, words: usize) -> u8
 
 // The waiting part of segment j's log: a part of the log area itself, from j × C on.
 pub(crate) fn waiting_part<'a>(job: Job, j: u32, log: &'a [u32]) -> &'a [u32]
-    requires { ⌜ (isCoherent job ≡ true) × (j < segmentsOf job) × (length (now log) ≡ logLength job) ⌝ }
+    requires { ⌜ (isCoherent job ≡ true) × (j < segmentCountOf job) × (length (now log) ≡ logLength job) ⌝ }
     ensures { λ r. ⌜ now r ≡ pending job j (now (log .entry)) ⌝ }
 {
     let waiting = job.waiting;

@@ -1,14 +1,14 @@
 // Settle a segment: apply its log.
 ghost use mathlib.Core.Bool.{true};
 ghost use mathlib.Core.Path.{_≡_};
-ghost use Prim.Native.Nat.{ℕ, _+_, _/_, _^_, _<_};
+ghost use Prim.Native.Nat.{_+_, _/_, _^_, _<_};
 ghost use lib.Dec.{ltb};
-ghost use lib.ListN.{length, getD, set};
+ghost use lib.ListN.{length, set};
 ghost use Rattle.base.specs.Words.{all};
-ghost use Rattle.calls.specs.Marked.{marksOf};
-ghost use Rattle.search.specs.Expand.{markOne};
-ghost use Rattle.search.specs.JobState.{isCoherent, levelOf, segmentsOf, progressed};
-ghost use Rattle.search.specs.Settle.{settleRefusal, markAll, settleOf};
+ghost use Rattle.calls.specs.Marked.{marksOf, OffsetsFit};
+ghost use Rattle.search.specs.JobState.{isCoherent, levelOf, segmentCountOf, progressed};
+ghost use Rattle.search.specs.Settle.{settleRefusal, settleOf};
+ghost use Rattle.search.specs.Marks.{markOne, markAll};
 use crate::look;
 use job::coherence;
 use job::level;
@@ -37,7 +37,7 @@ fn settle_refusal(job: Job, j: u32, bytes: usize, log: &[u32]) -> u8
     if refusal != 0 {
         return refusal;
     }
-    let stacks = coherence::stacks_of(job, j);
+    let stacks = coherence::stack_count_at(job, j);
     if !offsets_fit(look::waiting_part(job, j, log), stacks) {
         return 12;
     }
@@ -57,7 +57,7 @@ fn mark_one(segment: &mut [u8], i: u32, label: u8, count: u64) -> u64
 
 // Each unseen entry at one of the offsets, in order, becomes label; the count comes back with one more for each.
 fn mark_all(segment: &mut [u8], offsets: &[u32], label: u8, counted: u64) -> u64
-    requires { ⌜ (label < 3) × ((k : ℕ) → k < length (now offsets) → getD (now offsets) k 0 / 4 < length (now segment)) × (counted + length (now offsets) < 2 ^ 64) ⌝ }
+    requires { ⌜ OffsetsFit label (now offsets) counted (now segment) ⌝ }
     ensures { λ r. ⌜ marksOf (now (segment .exit)) r ≡ markAll label (now (offsets .entry)) (marksOf (now (segment .entry)) counted) ⌝ }
 {
     let mut count = counted;
@@ -71,7 +71,7 @@ fn mark_all(segment: &mut [u8], offsets: &[u32], label: u8, counted: u64) -> u64
 
 // The job with no entry waiting for segment j, and another count of its level.
 fn emptied(job: Job, j: u32, count: u64) -> Job
-    requires { ⌜ (isCoherent job ≡ true) × (j < segmentsOf job) ⌝ }
+    requires { ⌜ (isCoherent job ≡ true) × (j < segmentCountOf job) ⌝ }
     ensures { λ r. ⌜ r ≡ progressed job (job .phase) (job .passed) (set (job .waiting) j 0) (set (job .counts) (levelOf (job .phase)) count) ⌝ }
 {
     let phase = job.phase;

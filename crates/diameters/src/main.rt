@@ -38,7 +38,7 @@ fn measure(kind: u8, n: u8, size: u32, room: u32, order: u8) {
     let mut log = [0u32; 65536];
     let wanted = build::ordered(n);
     let built = build::build(kind, n, wanted, size, room, order, &mut table, &mut log);
-    print::size(kind, n);
+    print::kind_and_n(kind, n);
     print::field(
         b"segments",
         build::segments_for(build::stack_count(kind, n), size) as u64,

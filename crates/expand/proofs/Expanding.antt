@@ -7,22 +7,24 @@ use Prim.Native.Nat.{ℕ, zero, suc, _+_, _-_, _*_, _%_, _<_, _≤_}
 use native.Mathlib.Nat.{le-of-lt}
 use native.Mathlib.Omega.{arith}
 use lib.Dec.{ltb, eqb}
-use lib.ListN.{length, getD, set, List·getD-eq-default}
+use lib.ListN.{length, getD, List·getD-eq-default}
 use borrow.Author.Tests.{lt-ltb, le-ltb}
-use Rattle.base.specs.Words.{unless}
+use Rattle.base.specs.Words.{unless, firstFrom}
 use Rattle.base.proofs.Tests.{lt-or-ge}
 use Rattle.job.proofs.Rows.{level-refuses, level-goes-on}
 use Rattle.stacks.specs.Turn.{turnsOf}
 use Rattle.search.specs.Entries.{entryAt, nextEntry}
-use Rattle.search.specs.Expand.{Expansion, levelRefusal, expandRefusal, childrenOf, lacksRoom, firstFrom, placeChild, placeAll, passOne, waitFor, expandStack, expandNext, expandRun, expansion, expandedJob, expandOf}
-use Rattle.search.specs.JobState.{isCoherent, levelOf, stacksAll, segmentsOf, stacksOf, logLength, passedOf, waitingOf, countOf, progressed}
+use Rattle.search.specs.Expand.{Expansion, isParent, expandRefusal, childrenOf, placeChild, placeAll, passOne, waitFor, expandStack, expandNext, expandRun, expansion, expandedJob, expandOf}
+use Rattle.search.specs.JobState.{isCoherent, levelOf, stackCountOf, segmentCountOf, stackCountAt, logLength, passedOf, waitingOf, countOf}
 use Rattle.search.specs.Segments.{segmentLimit}
+use Rattle.search.specs.Level.{levelRefusal}
+use Rattle.search.specs.Logs.{lacksRoom}
 use Rattle.search.specs.declared.Expanded.{Expanded}
 use Rattle.search.specs.declared.Job.{Job}
 use Rattle.search.proofs.Accepted.{LevelFacts, expand-facts, expand-accepted}
 use Rattle.search.proofs.Coherence.{begin-given, coherent-facts}
 use Rattle.search.proofs.EntryLaws.{next-level}
-use Rattle.expand.specs.Scan.{ScanFits, RunFits, running, reachedWith, scanJob, scanOf}
+use Rattle.expand.specs.Scan.{ScanFits, RunFits, Runs, running, reachedWith, scanJob, scanOf}
 use Rattle.expand.specs.declared.run.Reached.{Reached}
 use Rattle.expand.specs.declared.scan.Scan.{Scan}
 
@@ -31,27 +33,27 @@ use Rattle.expand.specs.declared.scan.Scan.{Scan}
 -- r is what the row that Settle shares answers
 module _ (job : Job) (j bytes logs : ℕ) {r : ℕ} (e : r ≡ levelRefusal job j bytes logs 0) where
   abbrev rest : ℕ
-  rest = unless (ltb (passedOf job j) (stacksOf job j)) 11 0
+  rest = unless (ltb (passedOf job j) (stackCountAt job j)) 11 0
 
   pub refusal-level : (r ≡ 0 → ⊥) → r ≡ expandRefusal job j bytes logs
   unfolding expandRefusal
   refusal-level = level-refuses job j bytes logs rest r e
 
-  module _ {m : ℕ} (all : m ≡ stacksOf job j) (none : r ≡ 0) where
+  module _ {m : ℕ} (all : m ≡ stackCountAt job j) (none : r ≡ 0) where
     pub refusal-passed : m ≤ passedOf job j → 11 ≡ expandRefusal job j bytes logs
     unfolding expandRefusal
     refusal-passed l =
-        ap (λ (t : Bool). unless t 11 0) (sym (le-ltb (passedOf job j) (stacksOf job j) (omega arith)))
+        ap (λ (t : Bool). unless t 11 0) (sym (le-ltb (passedOf job j) (stackCountAt job j) (omega arith)))
         ∙ level-goes-on job j bytes logs rest r e none
 
     pub refusal-none : passedOf job j < m → 0 ≡ expandRefusal job j bytes logs
     unfolding expandRefusal
     refusal-none l =
-        ap (λ (t : Bool). unless t 11 0) (sym (lt-ltb (passedOf job j) (stacksOf job j) (omega arith)))
+        ap (λ (t : Bool). unless t 11 0) (sym (lt-ltb (passedOf job j) (stackCountAt job j) (omega arith)))
         ∙ level-goes-on job j bytes logs rest r e none
 
 -- ---- the scan, as the code fills it
-pub scan-is : (job : Job) (j : ℕ) {segments turns level mark : ℕ} → segments ≡ segmentsOf job → turns ≡ length (turnsOf (job .kind) (job .n))
+pub scan-is : (job : Job) (j : ℕ) {segments turns level mark : ℕ} → segments ≡ segmentCountOf job → turns ≡ length (turnsOf (job .kind) (job .n))
     → level ≡ levelOf (job .phase) → 1 ≤ level → mark ≡ nextEntry ((level - 1) % 3)
     → _≡_ {A = Scan} (record {
       kind = job .kind;
@@ -77,14 +79,14 @@ module _ (job : Job) (j : ℕ) where
   place-same (c ∷ children) e = place-same children (placeChild job j c e)
 
   next-same : (e : Expansion) → expandNext (scanJob (scanOf job j)) j e ≡ expandNext job j e
-  unfolding expandNext expandStack passOne waitFor scanJob scanOf levelOf segmentsOf stacksAll
+  unfolding isParent expandNext expandStack passOne waitFor scanJob scanOf levelOf segmentCountOf stackCountOf
   next-same e =
       let children = childrenOf (job .kind) (job .n) (j * job .size + e .at) in
-      let t = firstFrom (lacksRoom (job .size) (job .room) j (e .logs .waiting) children) 0 (segmentsOf job) in
+      let t = firstFrom (lacksRoom (job .size) (job .room) j (e .logs .waiting) children) 0 (segmentCountOf job) in
       ap
       (λ (x : Expansion). cond (e .waits) e
       (cond (eqb (entryAt (e .marks .segment) (e .at)) ((levelOf (job .phase) - 1) % 3))
-      (cond (ltb t (segmentsOf job)) (waitFor job j t e) (passOne job j x))
+      (cond (ltb t (segmentCountOf job)) (waitFor job j t e) (passOne job j x))
       (passOne job j e)))
       (place-same children e)
 
@@ -99,12 +101,12 @@ module _ (job : Job) (j : ℕ) where
   abbrev answer : Expansion → List ℕ × List ℕ × Expanded
   answer x = (x .marks .segment, x .logs .log, record { refusal = 0; waits = x .waits; on = x .on; job = expandedJob job j x })
 
-  scan-fits : isCoherent job ≡ true → j < segmentsOf job → ScanFits (scanOf job j)
-  unfolding scanJob scanOf segmentsOf stacksAll levelOf
+  scan-fits : isCoherent job ≡ true → j < segmentCountOf job → ScanFits (scanOf job j)
+  unfolding scanJob scanOf segmentCountOf stackCountOf levelOf
   scan-fits coherent inside =
       let given = begin-given (job .kind) (job .n) (job .wanted) (job .size) (job .room) (coherent-facts job coherent .begins) in
       record {
-        is-size = given .size;
+        is-pane-count = given .in-range;
         size-fits = given .segments;
         room-fits = given .room;
         segments-are = refl;
@@ -123,7 +125,7 @@ module _ (job : Job) (j : ℕ) where
       at-most false = omega arith
 
       go : (t < 64) ⊎ (64 ≤ t) → getD (job .waiting) t 0 ≤ job .room
-      go (inl h) = omega (arith, coherent-facts job coherent .waiting-fits t h, at-most (ltb t (segmentsOf job)))
+      go (inl h) = omega (arith, coherent-facts job coherent .waiting-fits t h, at-most (ltb t (segmentCountOf job)))
       go (inr h) =
           let past : length (job .waiting) ≤ t = omega arith in
           rw (List·getD-eq-default (job .waiting) 0 past) (omega arith)
@@ -132,11 +134,11 @@ module _ (job : Job) (j : ℕ) where
     pub call-facts : LevelFacts job j (length segment) (length log)
     call-facts = expand-facts job j (length segment) (length log) accepted .0
 
-    module _ {scan : Scan} {stacks : ℕ} (is : scan ≡ scanOf job j) (all : stacks ≡ stacksOf job j) where
+    module _ {scan : Scan} {stacks : ℕ} (is : scan ≡ scanOf job j) (all : stacks ≡ stackCountAt job j) where
       -- what a run over the segment asks
       pub run-given : length (job .waiting) ≡ 64
           → RunFits scan (getD (job .passed) j 0) stacks (getD (job .counts) (scan .level) 0) segment log (job .waiting)
-      unfolding scanJob scanOf stacksOf stacksAll segmentsOf logLength levelOf passedOf countOf
+      unfolding scanJob scanOf stackCountAt stackCountOf segmentCountOf logLength levelOf passedOf countOf
       run-given long =
           let f = call-facts in
           rw (is, all)
@@ -148,21 +150,21 @@ module _ (job : Job) (j : ℕ) where
             few = coherent-facts job (f .coherent) .counts-fit (levelOf (job .phase));
           })
 
-      run-is : expandRun (scanJob scan) (scan .j) (stacks - getD (job .passed) j 0)
-          (running (getD (job .passed) j 0) segment (getD (job .counts) (scan .level) 0) log (job .waiting))
-          ≡ expansion job j segment log
+      -- the call as the run begins
+      abbrev before : ℕ → Expansion
+      before = running segment (getD (job .counts) (scan .level) 0) log (job .waiting)
+
+      run-is : expandRun (scanJob scan) (scan .j) (stacks - getD (job .passed) j 0) (before (getD (job .passed) j 0)) ≡ expansion job j segment log
       unfolding scanOf expansion passedOf countOf
       run-is =
           rw (is, all)
-          (run-same (stacksOf job j - passedOf job j)
-          (running (passedOf job j) segment (countOf job (levelOf (job .phase))) log (job .waiting)))
+          (run-same (stackCountAt job j - passedOf job j)
+          (running segment (countOf job (levelOf (job .phase))) log (job .waiting) (passedOf job j)))
 
       -- the answer, from how far the run came and what it leaves
       pub answer-is : (reached : Reached) {segment′ log′ waiting′ : List ℕ} {next : Job}
-          → reachedWith reached segment′ log′ waiting′
-          ≡ expandRun (scanJob scan) (scan .j) (stacks - getD (job .passed) j 0)
-          (running (getD (job .passed) j 0) segment (getD (job .counts) (scan .level) 0) log (job .waiting))
-          → next ≡ progressed job (job .phase) (set (job .passed) j (reached .at)) waiting′ (set (job .counts) (levelOf (job .phase)) (reached .count))
+          → Runs scan (getD (job .passed) j 0) stacks before (reachedWith reached segment′ log′ waiting′)
+          → next ≡ expandedJob job j (reachedWith reached [] [] waiting′)
           → _≡_ {A = List ℕ × List ℕ × Expanded} (segment′, log′, record { refusal = 0; waits = reached .waits; on = reached .on; job = next }) (expandOf job j segment log)
       unfolding expandedJob
       answer-is reached run e = rw e (ap answer (run ∙ run-is) ∙ sym (expand-accepted job j segment log accepted))

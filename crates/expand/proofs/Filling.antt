@@ -9,9 +9,9 @@ use lib.ListN.{length, getD, set, take, replicate}
 use lib.Seq.{take-suc, take-all, set-at, append-snoc, length-take-le}
 use Rattle.base.proofs.Lists.{getD-from, getD-map}
 use Rattle.stacks.specs.Index.{rankOf, stackAt}
-use Rattle.stacks.specs.Stack.{isSize}
+use Rattle.stacks.specs.Stack.{isPaneCount}
 use Rattle.stacks.specs.Turn.{firstTurn, lastTurn, turnsOf, turnOf}
-use Rattle.stacks.proofs.Sizes.{size-twelve}
+use Rattle.stacks.proofs.KindLaws.{panes-twelve}
 use Rattle.stacks.proofs.TurnLaws.{turns-length, turns-count}
 use Rattle.search.specs.Expand.{childrenOf}
 use Rattle.search.proofs.Children.{children-length}
@@ -33,14 +33,14 @@ module _ (kind n v : ℕ) where
   unfolding filledTo
   filled-none = refl
 
-  pub filled-more : (children : List ℕ) (k i r : ℕ) → isSize kind n ≡ true → children ≡ filledTo kind n v i → k ≡ firstTurn kind + i → k ≤ n
+  pub filled-more : (children : List ℕ) (k i r : ℕ) → isPaneCount kind n ≡ true → children ≡ filledTo kind n v i → k ≡ firstTurn kind + i → k ≤ n
       → r ≡ rankOf kind n (turnOf kind k (stackAt kind n v)) → set children i r ≡ filledTo kind n v (i + 1)
   unfolding filledTo
   filled-more children k i r size e at l h =
       let xs = childrenOf kind n v in
       let within : i < length (turnsOf kind n) = omega (arith, turns-length kind n) in
       let inside : i < length xs = omega (arith, children-length kind n v) in
-      let few : i < 12 = omega (arith, turns-count kind n, size-twelve kind n size) in
+      let few : i < 12 = omega (arith, turns-count kind n, panes-twelve kind n size) in
       let same : r ≡ getD xs i 0 = h ∙ ap (λ (q : ℕ). rankOf kind n (turnOf kind q (stackAt kind n v))) at ∙ sym (child-at i within) in
       let zeros : 12 - i ≡ suc (12 - suc i) = omega arith in
       rw (e, zeros, add-one i, take-suc xs i 0 inside, ← same)

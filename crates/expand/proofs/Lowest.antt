@@ -12,10 +12,10 @@ use lib.ListN.{length, getD, take, length-take}
 use lib.Seq.{take-suc, getD-take}
 use borrow.Author.Tests.{le-ltb, eqb-true, eq-eqb, ne-eqb}
 use borrow.Author.Count.{below-more}
-use Rattle.base.specs.Words.{tally}
+use Rattle.base.specs.Words.{tally, firstFrom}
 use Rattle.base.proofs.Counting.{tally-append}
 use Rattle.base.proofs.Tests.{lt-or-ge, never, not-is-false}
-use Rattle.search.specs.Expand.{fallingIn, lacksRoom, firstFrom}
+use Rattle.search.specs.Logs.{fallingIn, lacksRoom}
 use Rattle.expand.specs.declared.scan.Scan.{Scan}
 use Rattle.search.proofs.ExpandCases.{first-before, first-passes, room-lacks, falling-le}
 

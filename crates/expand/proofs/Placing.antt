@@ -12,16 +12,18 @@ use lib.ListN.{length, getD, set, take, drop, length-set, length-take, length-dr
 use lib.Seq.{getD-set-same, getD-set-other, set-out, getD-take, drop-cons}
 use Rattle.base.proofs.Tests.{lt-or-ge, eq-or-ne}
 use Rattle.search.specs.Entries.{entryAt}
-use Rattle.search.specs.Expand.{Marks, Expansion, markOne, logOne, fallingIn, placeChild, placeAll}
-use Rattle.search.specs.JobState.{levelOf, stacksAll, stacksOf}
-use Rattle.search.specs.Segments.{stacksIn}
+use Rattle.search.specs.Expand.{Expansion, placeChild, placeAll}
+use Rattle.search.specs.JobState.{levelOf, stackCountOf, stackCountAt}
+use Rattle.search.specs.Segments.{stackCountIn}
+use Rattle.search.specs.Marks.{Marks, markOne}
+use Rattle.search.specs.Logs.{logOne, fallingIn}
 use Rattle.search.proofs.EntryLaws.{byte-inside}
 use Rattle.search.proofs.ExpandCases.{falling-here, falling-elsewhere, falling-le, place-here, place-elsewhere}
 use Rattle.search.proofs.MarkLaws.{mark-unseen, mark-seen, mark-length}
 use Rattle.search.proofs.SegmentLaws.{stack-segment, stack-offset}
 use Rattle.twobit.specs.Mark.{Marked}
 use Rattle.twobit.proofs.Marking.{mark-one}
-use Rattle.expand.specs.Scan.{LentFits, HasRoom, ChildFits, ChildrenFit, running, scanJob}
+use Rattle.expand.specs.Scan.{LentFits, HasRoom, ChildFits, ChildrenFit, PlacesChild, PlacesAll, running, scanJob}
 use Rattle.expand.specs.declared.scan.Scan.{Scan}
 use Rattle.expand.proofs.Fitting.{ScanFacts, scan-facts}
 
@@ -38,15 +40,15 @@ module _ {scan : Scan} {child count : ℕ} {segment log waiting : List ℕ} (g :
   facts = scan-facts scan (g .fit)
 
   child-segment : child / scan .size < scan .segments
-  child-segment = rw (g .fit .segments-are) (stack-segment (stacksAll (scanJob scan)) (scan .size) (facts .some) child (g .below))
+  child-segment = rw (g .fit .segments-are) (stack-segment (stackCountOf (scanJob scan)) (scan .size) (facts .some) child (g .below))
 
   -- a child of this segment has its entry in the segment's bytes
   pub child-byte : child / scan .size ≡ scan .j → child % scan .size / 4 < length segment
-  unfolding stacksAll stacksOf scanJob
+  unfolding stackCountOf stackCountAt scanJob
   child-byte e =
       rw (g .lent .bytes, ← e)
-      (byte-inside (child % scan .size) (stacksIn (stacksAll (scanJob scan)) (scan .size) (child / scan .size))
-      (stack-offset (stacksAll (scanJob scan)) (scan .size) (facts .some) child (g .below)))
+      (byte-inside (child % scan .size) (stackCountIn (stackCountOf (scanJob scan)) (scan .size) (child / scan .size))
+      (stack-offset (stackCountOf (scanJob scan)) (scan .size) (facts .some) child (g .below)))
 
   pub log-place : (child / scan .size ≡ scan .j → ⊥) → LogPlace scan child log waiting
   log-place ne =
@@ -66,13 +68,12 @@ module _ {scan : Scan} {child count : ℕ} {segment log waiting : List ℕ} (g :
   -- the leaf that marks, with one more where it says so
   pub placed-here : {after : List ℕ} {fresh : Bool} {counted : ℕ} → child / scan .size ≡ scan .j
       → Marked segment (child % scan .size) (scan .mark) after fresh → counted ≡ cond fresh (count + 1) count
-      → (at : ℕ) → running at after counted log waiting
-      ≡ placeChild (scanJob scan) (scan .j) child (running at segment count log waiting)
+      → PlacesChild scan child (running segment count log waiting) (running after counted log waiting)
   unfolding scanJob levelOf
   placed-here {after} {fresh} e m c at =
       rw c
       (sym
-      (place-here (scanJob scan) (scan .j) child (running at segment count log waiting) e
+      (place-here (scanJob scan) (scan .j) child (running segment count log waiting at) e
       ∙ ap (λ (marks : Marks). record { at = at; waits = false; on = 0; marks = marks; logs = record { log = log; waiting = waiting } })
       (mark-one (scan .level) (child % scan .size) count segment after fresh (rw (← g .fit .mark-is) m))))
 
@@ -82,8 +83,8 @@ module _ {scan : Scan} {child count : ℕ} {segment log waiting : List ℕ} (g :
       let start = t * scan .room in
       let k = length log - start in
       after ≡ set (midOf start k log) (getD waiting t 0) (child % scan .size)
-      → (at : ℕ) → running at segment count (putMid start k log after) (set waiting t (getD waiting t 0 + 1))
-      ≡ placeChild (scanJob scan) (scan .j) child (running at segment count log waiting))
+      → PlacesChild scan child (running segment count log waiting)
+      (running segment count (putMid start k log after) (set waiting t (getD waiting t 0 + 1))))
   unfolding scanJob logOne
   placed-elsewhere ne e at =
       let t = child / scan .size in
@@ -91,10 +92,10 @@ module _ {scan : Scan} {child count : ℕ} {segment log waiting : List ℕ} (g :
       let k = length log - start in
       let w = getD waiting t 0 in
       let p = log-place ne in
-      ap (λ (xs : List ℕ). running at segment count xs (set waiting t (w + 1)))
+      ap (λ (xs : List ℕ). running segment count xs (set waiting t (w + 1)) at)
       (ap (putMid start k log) e
       ∙ set-mid-at start k w log (child % scan .size) (simp (length-take, length-drop) (omega arith)))
-      ∙ sym (place-elsewhere (scanJob scan) (scan .j) child (running at segment count log waiting) ne)
+      ∙ sym (place-elsewhere (scanJob scan) (scan .j) child (running segment count log waiting at) ne)
 
 set-most : (xs : List ℕ) (i v : ℕ) → getD xs i 0 ≤ v → getD (set xs i v) i 0 ≤ v
 set-most xs i v h = go (lt-or-ge i (length xs))
@@ -211,8 +212,8 @@ pub record PlacedTo (scan : Scan) (array : List ℕ) (segment₀ : List ℕ) (co
   pub fits : LentFits scan segment log waiting
   pub room : HasRoom scan waiting (drop i (childrenIn scan array))
   pub counted : count ≤ count₀ + i
-  pub placed : (at : ℕ) → placeAll (scanJob scan) (scan .j) (childrenIn scan array) (running at segment₀ count₀ log₀ waiting₀)
-      ≡ placeAll (scanJob scan) (scan .j) (drop i (childrenIn scan array)) (running at segment count log waiting)
+  pub placed : (at : ℕ) → placeAll (scanJob scan) (scan .j) (childrenIn scan array) (running segment₀ count₀ log₀ waiting₀ at)
+      ≡ placeAll (scanJob scan) (scan .j) (drop i (childrenIn scan array)) (running segment count log waiting at)
 
 module _ {scan : Scan} {array : List ℕ} {segment₀ : List ℕ} {count₀ : ℕ} {log₀ waiting₀ : List ℕ} where
   pub placed-none : ChildrenFit scan array count₀ segment₀ log₀ waiting₀ → length array ≡ 12
@@ -231,14 +232,13 @@ module _ {scan : Scan} {array : List ℕ} {segment₀ : List ℕ} {count₀ : �
   module _ {segment : List ℕ} {count : ℕ} {log waiting : List ℕ} {i : ℕ}
       (p : PlacedTo scan array segment₀ count₀ log₀ waiting₀ segment count log waiting i) where
     pub placed-end : scan .turns ≤ i
-        → (at : ℕ) → running at segment count log waiting
-        ≡ placeAll (scanJob scan) (scan .j) (childrenIn scan array) (running at segment₀ count₀ log₀ waiting₀)
+        → PlacesAll scan array (running segment₀ count₀ log₀ waiting₀) (running segment count log waiting)
     unfolding placeAll
     placed-end h at =
         let all : length (childrenIn scan array) ≤ i = omega (arith, length-take (scan .turns) array) in
         sym
         (p .placed at
-        ∙ ap (λ (xs : List ℕ). placeAll (scanJob scan) (scan .j) xs (running at segment count log waiting))
+        ∙ ap (λ (xs : List ℕ). placeAll (scanJob scan) (scan .j) xs (running segment count log waiting at))
         (drop-of-length-le (childrenIn scan array) all))
 
     module _ (inside : i < scan .turns) where
@@ -277,12 +277,11 @@ module _ {scan : Scan} {array : List ℕ} {segment₀ : List ℕ} {count₀ : �
           }
 
       pub placed-more : {segment′ : List ℕ} {count′ : ℕ} {log′ waiting′ : List ℕ}
-          → ((at : ℕ) → running at segment′ count′ log′ waiting′
-          ≡ placeChild (scanJob scan) (scan .j) (getD array i 0) (running at segment count log waiting))
+          → PlacesChild scan (getD array i 0) (running segment count log waiting) (running segment′ count′ log′ waiting′)
           → PlacedTo scan array segment₀ count₀ log₀ waiting₀ segment′ count′ log′ waiting′ (i + 1)
       unfolding placeAll
       placed-more step =
-          let before = running 0 segment count log waiting in
+          let before = running segment count log waiting 0 in
           let rest = drop (i + 1) (childrenIn scan array) in
           let next = place-fits scan (getD array i 0) rest before (p .fits) room-left in
           record {
@@ -298,6 +297,6 @@ module _ {scan : Scan} {array : List ℕ} {segment₀ : List ℕ} {count₀ : �
               ap (λ (e : Expansion). e .marks .count) (step 0),
             );
             placed = λ at. p .placed at
-                ∙ ap (λ (xs : List ℕ). placeAll (scanJob scan) (scan .j) xs (running at segment count log waiting)) left
+                ∙ ap (λ (xs : List ℕ). placeAll (scanJob scan) (scan .j) xs (running segment count log waiting at)) left
                 ∙ ap (placeAll (scanJob scan) (scan .j) rest) (sym (step at));
           }

@@ -11,16 +11,18 @@ use lib.Seq.{take-at, getD-append-add}
 use borrow.Author.Tests.{lt-ltb, le-ltb, eq-eqb, ne-eqb}
 use Rattle.base.proofs.Lists.{replicate-zero}
 use Rattle.base.proofs.Tests.{lt-or-ge}
+use Rattle.base.specs.Words.{firstFrom}
 use Rattle.stacks.specs.Stack.{stackCount}
-use Rattle.stacks.proofs.Sizes.{count-pos}
+use Rattle.stacks.proofs.KindLaws.{count-pos}
 use Rattle.search.specs.Entries.{entryAt}
-use Rattle.search.specs.Expand.{Expansion, childrenOf, fallingIn, lacksRoom, firstFrom, placeAll, passOne, waitFor, expandStack, expandNext, expandRun}
-use Rattle.search.specs.JobState.{countLimit, levelOf, stacksAll, segmentsOf, stacksOf}
+use Rattle.search.specs.Expand.{Expansion, isParent, childrenOf, placeAll, passOne, waitFor, expandStack, expandNext, expandRun}
+use Rattle.search.specs.JobState.{countLimit, levelOf, stackCountOf, segmentCountOf, stackCountAt}
+use Rattle.search.specs.Logs.{fallingIn, lacksRoom}
 use Rattle.search.proofs.Children.{children-length, children-inside}
 use Rattle.search.proofs.EntryLaws.{byte-inside}
 use Rattle.search.proofs.ExpandCases.{first-before, room-enough}
-use Rattle.search.proofs.SegmentLaws.{segment-stack, segment-starts, stack-segment, stacksIn-le}
-use Rattle.expand.specs.Scan.{ScanFits, LentFits, HasRoom, WaitingFits, ChildrenFit, RunFits, running, reachedWith, scanJob}
+use Rattle.search.proofs.SegmentLaws.{segment-stack, segment-starts, stack-segment, stackCountIn-le}
+use Rattle.expand.specs.Scan.{ScanFits, LentFits, HasRoom, WaitingFits, ChildrenFit, RunFits, PlacesAll, Runs, running, reachedWith, scanJob}
 use Rattle.expand.specs.declared.run.Reached.{Reached}
 use Rattle.expand.specs.declared.scan.Scan.{Scan}
 use Rattle.expand.proofs.Fitting.{ScanFacts, scan-facts}
@@ -35,17 +37,17 @@ module _ (scan : Scan) (fit : ScanFits scan) where
   facts : ScanFacts scan
   facts = scan-facts scan fit
 
-  segments-of : segmentsOf (scanJob scan) ≡ scan .segments
-  unfolding segmentsOf stacksAll scanJob
-  segments-of = sym (fit .segments-are)
+  segment-count-of : segmentCountOf (scanJob scan) ≡ scan .segments
+  unfolding segmentCountOf stackCountOf scanJob
+  segment-count-of = sym (fit .segments-are)
 
   -- the segment's first index fits, and so does each of its stacks'
-  pub base-inside : scan .j * scan .size < stacksAll (scanJob scan)
-  base-inside = segment-starts (stacksAll (scanJob scan)) (scan .size) (facts .some) (scan .j) (rw (← fit .segments-are) (fit .inside))
+  pub base-inside : scan .j * scan .size < stackCountOf (scanJob scan)
+  base-inside = segment-starts (stackCountOf (scanJob scan)) (scan .size) (facts .some) (scan .j) (rw (← fit .segments-are) (fit .inside))
 
-  stack-inside : (at : ℕ) → at < stacksOf (scanJob scan) (scan .j) → scan .j * scan .size + at < stacksAll (scanJob scan)
-  unfolding stacksOf scanJob
-  stack-inside at h = segment-stack (stacksAll (scanJob scan)) (scan .size) (facts .some) (scan .j) at h
+  stack-inside : (at : ℕ) → at < stackCountAt (scanJob scan) (scan .j) → scan .j * scan .size + at < stackCountOf (scanJob scan)
+  unfolding stackCountAt scanJob
+  stack-inside at h = segment-stack (stackCountOf (scanJob scan)) (scan .size) (facts .some) (scan .j) at h
 
   -- ---- the children of the stack at index v, as the array of twelve has them
   module _ (v : ℕ) (array : List ℕ)
@@ -56,8 +58,8 @@ module _ (scan : Scan) (fit : ScanFits scan) where
         ∙ take-at (childrenOf (scan .kind) (scan .n) v) (replicate (12 - length (childrenOf (scan .kind) (scan .n) v)) 0) (scan .turns)
         (children-length (scan .kind) (scan .n) v ∙ sym (fit .turns-are))
 
-    pub array-below : v < stacksAll (scanJob scan) → (i : ℕ) → getD array i 0 < stacksAll (scanJob scan)
-    unfolding stacksAll scanJob
+    pub array-below : v < stackCountOf (scanJob scan) → (i : ℕ) → getD array i 0 < stackCountOf (scanJob scan)
+    unfolding stackCountOf scanJob
     array-below h i = rw filled (go (lt-or-ge i (length cs)))
       where
         cs : List ℕ
@@ -70,7 +72,7 @@ module _ (scan : Scan) (fit : ScanFits scan) where
         none k = replicate-zero (12 - length cs) k
 
         go : (i < length cs) ⊎ (length cs ≤ i) → getD (cs ++ zeros) i 0 < stackCount (scan .kind) (scan .n)
-        go (inl l) = rw (List·getD-append cs zeros 0 i l) (children-inside (scan .kind) (scan .n) v (fit .is-size) h i l)
+        go (inl l) = rw (List·getD-append cs zeros 0 i l) (children-inside (scan .kind) (scan .n) v (fit .is-pane-count) h i l)
         go (inr l) =
             let at : i ≡ length cs + (i - length cs) = omega arith in
             rw (at, getD-append-add cs zeros (i - length cs) 0, none (i - length cs)) (count-pos (scan .kind) (scan .n))
@@ -78,7 +80,7 @@ module _ (scan : Scan) (fit : ScanFits scan) where
   -- ---- room
 
   -- where no segment lacks room, each has it: a child falls in no segment from G up
-  pub room-found : (waiting children : List ℕ) → WaitingFits scan waiting → ((i : ℕ) → i < length children → getD children i 0 < stacksAll (scanJob scan))
+  pub room-found : (waiting children : List ℕ) → WaitingFits scan waiting → ((i : ℕ) → i < length children → getD children i 0 < stackCountOf (scanJob scan))
       → scan .segments ≤ firstFrom (lacksRoom (scan .size) (scan .room) (scan .j) waiting children) 0 (scan .segments)
       → HasRoom scan waiting children
   room-found waiting children most inside all t ne = go (lt-or-ge t (scan .segments)) (lt-or-ge 0 (fallingIn (scan .size) t children))
@@ -95,40 +97,40 @@ module _ (scan : Scan) (fit : ScanFits scan) where
           )
       go (inr h) (inl l) =
           let q = falling-place (scan .size) t children l in
-          let low = stack-segment (stacksAll (scanJob scan)) (scan .size) (facts .some) (getD children (q .0) 0) (inside (q .0) (q .1)) in
+          let low = stack-segment (stackCountOf (scanJob scan)) (scan .size) (facts .some) (getD children (q .0) 0) (inside (q .0) (q .1)) in
           absurd (omega (arith, q .2, fit .segments-are))
       go (inr h) (inr l) = omega (arith, most t)
 
   -- ---- one stack
   module _ (at : ℕ) (segment : List ℕ) (count : ℕ) (log waiting : List ℕ) where
     pub next-skips : (entryAt segment at ≡ scan .from → ⊥)
-        → expandNext (scanJob scan) (scan .j) (running at segment count log waiting) ≡ running (suc at) segment count log waiting
-    unfolding expandNext passOne scanJob levelOf
+        → expandNext (scanJob scan) (scan .j) (running segment count log waiting at) ≡ running segment count log waiting (suc at)
+    unfolding isParent expandNext passOne scanJob levelOf
     next-skips ne = rw (ne-eqb (entryAt segment at) ((scan .level - 1) % 3) (λ e. ne (e ∙ sym (fit .from-is))))
 
     module _ (due : entryAt segment at ≡ scan .from) (full : ℕ)
         (lowest : full ≡ firstFrom (lacksRoom (scan .size) (scan .room) (scan .j) waiting (childrenAt scan at)) 0 (scan .segments)) where
       pub next-waits : full < scan .segments
-          → expandNext (scanJob scan) (scan .j) (running at segment count log waiting)
+          → expandNext (scanJob scan) (scan .j) (running segment count log waiting at)
           ≡ reachedWith (record { at = at; waits = true; on = full; count = count }) segment log waiting
-      unfolding expandNext expandStack waitFor scanJob levelOf
+      unfolding isParent expandNext expandStack waitFor scanJob levelOf
       next-waits h =
           rw (
             eq-eqb (entryAt segment at) ((scan .level - 1) % 3) (due ∙ fit .from-is),
-            segments-of,
+            segment-count-of,
             ← lowest,
             lt-ltb full (scan .segments) h,
           )
 
       pub next-places : (segment′ : List ℕ) (count′ : ℕ) (log′ waiting′ : List ℕ) → scan .segments ≤ full
-          → running at segment′ count′ log′ waiting′
-          ≡ placeAll (scanJob scan) (scan .j) (childrenAt scan at) (running at segment count log waiting)
-          → expandNext (scanJob scan) (scan .j) (running at segment count log waiting) ≡ running (suc at) segment′ count′ log′ waiting′
-      unfolding expandNext expandStack passOne scanJob levelOf
+          → running segment′ count′ log′ waiting′ at
+          ≡ placeAll (scanJob scan) (scan .j) (childrenAt scan at) (running segment count log waiting at)
+          → expandNext (scanJob scan) (scan .j) (running segment count log waiting at) ≡ running segment′ count′ log′ waiting′ (suc at)
+      unfolding isParent expandNext expandStack passOne scanJob levelOf
       next-places segment′ count′ log′ waiting′ h e =
           rw (
             eq-eqb (entryAt segment at) ((scan .level - 1) % 3) (due ∙ fit .from-is),
-            segments-of,
+            segment-count-of,
             ← lowest,
             le-ltb full (scan .segments) h,
             ← e,
@@ -152,8 +154,8 @@ pub record RunTo (scan : Scan) (first stacks : ℕ) (segment₀ : List ℕ) (cou
   pub within : at ≤ stacks
   pub fits : LentFits scan segment log waiting
   pub counted : count ≤ countLimit + 12 * at
-  pub run : expandRun (scanJob scan) (scan .j) (stacks - first) (running first segment₀ count₀ log₀ waiting₀)
-      ≡ expandRun (scanJob scan) (scan .j) (stacks - at) (running at segment count log waiting)
+  pub run : expandRun (scanJob scan) (scan .j) (stacks - first) (running segment₀ count₀ log₀ waiting₀ first)
+      ≡ expandRun (scanJob scan) (scan .j) (stacks - at) (running segment count log waiting at)
 
 module _ {scan : Scan} {first stacks : ℕ} {segment₀ : List ℕ} {count₀ : ℕ} {log₀ waiting₀ : List ℕ} where
   pub run-none : RunFits scan first stacks count₀ segment₀ log₀ waiting₀
@@ -162,22 +164,20 @@ module _ {scan : Scan} {first stacks : ℕ} {segment₀ : List ℕ} {count₀ : 
 
   module _ {segment : List ℕ} {count : ℕ} {log waiting : List ℕ} {at : ℕ}
       (r : RunTo scan first stacks segment₀ count₀ log₀ waiting₀ segment count log waiting at) where
-    pub run-end : stacks ≤ at
-        → running at segment count log waiting
-        ≡ expandRun (scanJob scan) (scan .j) (stacks - first) (running first segment₀ count₀ log₀ waiting₀)
+    pub run-end : stacks ≤ at → Runs scan first stacks (running segment₀ count₀ log₀ waiting₀) (running segment count log waiting at)
     unfolding expandRun
     run-end h =
         sym
         (r .run
-        ∙ ap (λ (n : ℕ). expandRun (scanJob scan) (scan .j) n (running at segment count log waiting))
+        ∙ ap (λ (n : ℕ). expandRun (scanJob scan) (scan .j) n (running segment count log waiting at))
         (let e : stacks - at ≡ 0 = omega arith in e))
 
     -- there are few enough stacks that the count stays far below its type's end
     few : count ≤ 2 ^ 61
-    unfolding countLimit stacksOf scanJob
+    unfolding countLimit stackCountAt scanJob
     few =
         let facts : ScanFacts scan = scan-facts scan (r .given .fit) in
-        omega (arith, r .counted, r .within, r .given .all, stacksIn-le (stacksAll (scanJob scan)) (scan .size) (facts .some) (scan .j))
+        omega (arith, r .counted, r .within, r .given .all, stackCountIn-le (stackCountOf (scanJob scan)) (scan .size) (facts .some) (scan .j))
 
     -- the same values by other names
     pub run-same : {segment′ : List ℕ} {count′ : ℕ} {log′ waiting′ : List ℕ} → segment′ ≡ segment → log′ ≡ log → waiting′ ≡ waiting
@@ -188,23 +188,23 @@ module _ {scan : Scan} {first stacks : ℕ} {segment₀ : List ℕ} {count₀ : 
       pub run-byte : at / 4 < length segment
       run-byte = rw (r .fits .bytes, ← (r .given .all)) (byte-inside at stacks more)
 
-      inside : scan .j * scan .size + at < stacksAll (scanJob scan)
+      inside : scan .j * scan .size + at < stackCountOf (scanJob scan)
       inside = stack-inside scan (r .given .fit) at (rw (← (r .given .all)) more)
 
       pub run-inside : scan .j * scan .size + at < stackCount (scan .kind) (scan .n)
-      unfolding stacksAll scanJob
+      unfolding stackCountOf scanJob
       run-inside = inside
 
-      run-next : expandRun (scanJob scan) (scan .j) (stacks - first) (running first segment₀ count₀ log₀ waiting₀)
-          ≡ expandRun (scanJob scan) (scan .j) (stacks - suc at) (expandNext (scanJob scan) (scan .j) (running at segment count log waiting))
+      run-next : expandRun (scanJob scan) (scan .j) (stacks - first) (running segment₀ count₀ log₀ waiting₀ first)
+          ≡ expandRun (scanJob scan) (scan .j) (stacks - suc at) (expandNext (scanJob scan) (scan .j) (running segment count log waiting at))
       unfolding expandRun
       run-next =
           r .run
-          ∙ ap (λ (n : ℕ). expandRun (scanJob scan) (scan .j) n (running at segment count log waiting))
+          ∙ ap (λ (n : ℕ). expandRun (scanJob scan) (scan .j) n (running segment count log waiting at))
           (let e : stacks - at ≡ suc (stacks - suc at) = omega arith in e)
 
       run-more : {segment′ : List ℕ} {count′ : ℕ} {log′ waiting′ : List ℕ} → LentFits scan segment′ log′ waiting′ → count′ ≤ count + 12
-          → expandNext (scanJob scan) (scan .j) (running at segment count log waiting) ≡ running (suc at) segment′ count′ log′ waiting′
+          → expandNext (scanJob scan) (scan .j) (running segment count log waiting at) ≡ running segment′ count′ log′ waiting′ (suc at)
           → RunTo scan first stacks segment₀ count₀ log₀ waiting₀ segment′ count′ log′ waiting′ (at + 1)
       run-more fits counted step =
           record {
@@ -216,9 +216,8 @@ module _ {scan : Scan} {first stacks : ℕ} {segment₀ : List ℕ} {count₀ : 
           }
 
       run-waits : (reached : Reached) → reached .waits ≡ true
-          → expandNext (scanJob scan) (scan .j) (running at segment count log waiting) ≡ reachedWith reached segment log waiting
-          → reachedWith reached segment log waiting
-          ≡ expandRun (scanJob scan) (scan .j) (stacks - first) (running first segment₀ count₀ log₀ waiting₀)
+          → expandNext (scanJob scan) (scan .j) (running segment count log waiting at) ≡ reachedWith reached segment log waiting
+          → Runs scan first stacks (running segment₀ count₀ log₀ waiting₀) (reachedWith reached segment log waiting)
       run-waits reached waits step =
           sym
           (run-next
@@ -237,19 +236,19 @@ module _ {scan : Scan} {first stacks : ℕ} {segment₀ : List ℕ} {count₀ : 
             lowest ∙ ap (λ (cs : List ℕ). firstFrom (lacksRoom (scan .size) (scan .room) (scan .j) waiting cs) 0 (scan .segments)) children
 
         pub run-blocked : full < scan .segments
-            → reachedWith (record { at = at; waits = true; on = full; count = count }) segment log waiting
-            ≡ expandRun (scanJob scan) (scan .j) (stacks - first) (running first segment₀ count₀ log₀ waiting₀)
+            → Runs scan first stacks (running segment₀ count₀ log₀ waiting₀)
+            (reachedWith (record { at = at; waits = true; on = full; count = count }) segment log waiting)
         run-blocked h =
             run-waits (record { at = at; waits = true; on = full; count = count }) refl
             (next-waits scan (r .given .fit) at segment count log waiting due full lowest-children h)
 
         module _ (enough : scan .segments ≤ full) where
           room : HasRoom scan waiting (take (scan .turns) array)
-          unfolding stacksAll scanJob
+          unfolding stackCountOf scanJob
           room =
               rw children
               (room-found scan (r .given .fit) waiting (childrenAt scan at) (r .fits .most)
-              (children-inside (scan .kind) (scan .n) (scan .j * scan .size + at) (r .given .fit .is-size) inside)
+              (children-inside (scan .kind) (scan .n) (scan .j * scan .size + at) (r .given .fit .is-pane-count) inside)
               (rw (← lowest-children) enough))
 
           pub run-children : ChildrenFit scan array count segment log waiting
@@ -263,11 +262,10 @@ module _ {scan : Scan} {first stacks : ℕ} {segment₀ : List ℕ} {count₀ : 
               }
 
           pub run-placed : {segment′ : List ℕ} {count′ : ℕ} {log′ waiting′ : List ℕ}
-              → ((at : ℕ) → running at segment′ count′ log′ waiting′
-              ≡ placeAll (scanJob scan) (scan .j) (take (scan .turns) array) (running at segment count log waiting))
+              → PlacesAll scan array (running segment count log waiting) (running segment′ count′ log′ waiting′)
               → RunTo scan first stacks segment₀ count₀ log₀ waiting₀ segment′ count′ log′ waiting′ (at + 1)
           run-placed {segment′} {count′} {log′} {waiting′} step =
-              let before = running at segment count log waiting in
+              let before = running segment count log waiting at in
               run-more
               (subst (Fits scan) (sym (step at)) (all-fits scan (take (scan .turns) array) before (r .fits) room))
               (omega (

@@ -2,22 +2,24 @@
 --   scanOf       what a call on segment j of a job copies
 --   scanJob      the job that a scan stands for
 --   ScanFits     what holds of a scan
---   running      how far a call has come, where it does not wait
+--   running      a call that does not wait, from what it is lent and the count, at a stack
 --   LentFits     what holds of what is lent
 --   HasRoom      the logs have places for children
 --   ChildFits, ChildrenFit, RunFits   what placing one child, placing all and a run ask
---   reachedWith  how far a call came
+--   PlacesChild, PlacesAll, Runs      what each leaves of what it was lent
+--   reachedWith  how far a call came, with what it leaves
 use mathlib.Core.Path.{_≡_}
 use mathlib.Core.Bool.{true, false}
 use mathlib.Core.List.{List, [], _∷_}
 use Prim.Native.Nat.{ℕ, _+_, _-_, _*_, _%_, _^_, _<_, _≤_}
 use lib.ListN.{length, getD, take}
-use Rattle.stacks.specs.Stack.{isSize}
+use Rattle.stacks.specs.Stack.{isPaneCount}
 use Rattle.stacks.specs.Turn.{turnsOf}
 use Rattle.search.specs.Entries.{bytesFor}
-use Rattle.search.specs.Expand.{Expansion, fallingIn}
-use Rattle.search.specs.JobState.{countLimit, levelOf, stacksAll, segmentsOf, stacksOf}
+use Rattle.search.specs.Expand.{Expansion, placeChild, placeAll, expandRun}
+use Rattle.search.specs.JobState.{countLimit, levelOf, stackCountOf, segmentCountOf, stackCountAt}
 use Rattle.search.specs.Segments.{segmentCount, isSegmentSize, isLogRoom}
+use Rattle.search.specs.Logs.{fallingIn}
 use Rattle.search.specs.declared.Job.{Job}
 use Rattle.search.specs.declared.Phase.the-variants.{Level}
 use Rattle.expand.specs.declared.run.Reached.{Reached}
@@ -31,7 +33,7 @@ scanOf job j =
       n = job .n;
       size = job .size;
       room = job .room;
-      segments = segmentsOf job;
+      segments = segmentCountOf job;
       turns = length (turnsOf (job .kind) (job .n));
       j = j;
       level = d;
@@ -55,18 +57,17 @@ scanJob scan =
     }
 
 pub record ScanFits (scan : Scan) : Type 0 where
-  pub is-size : isSize (scan .kind) (scan .n) ≡ true
-  pub size-fits : isSegmentSize (stacksAll (scanJob scan)) (scan .size) ≡ true
+  pub is-pane-count : isPaneCount (scan .kind) (scan .n) ≡ true
+  pub size-fits : isSegmentSize (stackCountOf (scanJob scan)) (scan .size) ≡ true
   pub room-fits : isLogRoom (scan .room) ≡ true
-  pub segments-are : scan .segments ≡ segmentCount (stacksAll (scanJob scan)) (scan .size)
+  pub segments-are : scan .segments ≡ segmentCount (stackCountOf (scanJob scan)) (scan .size)
   pub turns-are : scan .turns ≡ length (turnsOf (scan .kind) (scan .n))
   pub inside : scan .j < scan .segments
   pub from-is : scan .from ≡ (scan .level - 1) % 3
   pub mark-is : scan .mark ≡ scan .level % 3
 
--- a call at a stack that it does not wait before, from the count and what is lent
-abbrev pub running : ℕ → List ℕ → ℕ → List ℕ → List ℕ → Expansion
-running at segment count log waiting =
+abbrev pub running : List ℕ → ℕ → List ℕ → List ℕ → ℕ → Expansion
+running segment count log waiting at =
     record {
       at = at;
       waits = false;
@@ -85,7 +86,7 @@ HasRoom scan waiting children = (t : ℕ) → (t ≡ scan .j → ⊥) → getD w
 
 -- what is lent has its right length
 pub record LentFits (scan : Scan) (segment log waiting : List ℕ) : Type 0 where
-  pub bytes : length segment ≡ bytesFor (stacksOf (scanJob scan) (scan .j))
+  pub bytes : length segment ≡ bytesFor (stackCountAt (scanJob scan) (scan .j))
   pub places : length log ≡ scan .segments * scan .room
   pub logs : length waiting ≡ 64
   pub most : WaitingFits scan waiting
@@ -95,7 +96,7 @@ pub record LentFits (scan : Scan) (segment log waiting : List ℕ) : Type 0 wher
 pub record ChildFits (scan : Scan) (child count : ℕ) (segment log waiting : List ℕ) : Type 0 where
   pub fit : ScanFits scan
   pub lent : LentFits scan segment log waiting
-  pub below : child < stacksAll (scanJob scan)
+  pub below : child < stackCountOf (scanJob scan)
   pub room : HasRoom scan waiting (child ∷ [])
   pub few : count ≤ 2 ^ 62
 
@@ -103,18 +104,17 @@ pub record ChildFits (scan : Scan) (child count : ℕ) (segment log waiting : Li
 pub record ChildrenFit (scan : Scan) (array : List ℕ) (count : ℕ) (segment log waiting : List ℕ) : Type 0 where
   pub fit : ScanFits scan
   pub lent : LentFits scan segment log waiting
-  pub below : (i : ℕ) → getD array i 0 < stacksAll (scanJob scan)
+  pub below : (i : ℕ) → getD array i 0 < stackCountOf (scanJob scan)
   pub room : HasRoom scan waiting (take (scan .turns) array)
   pub few : count ≤ 2 ^ 61
 
 pub record RunFits (scan : Scan) (first stacks count : ℕ) (segment log waiting : List ℕ) : Type 0 where
   pub fit : ScanFits scan
   pub lent : LentFits scan segment log waiting
-  pub all : stacks ≡ stacksOf (scanJob scan) (scan .j)
+  pub all : stacks ≡ stackCountAt (scanJob scan) (scan .j)
   pub within : first ≤ stacks
   pub few : count ≤ countLimit
 
--- how far a call came, with what it leaves of what it was lent
 abbrev pub reachedWith : Reached → List ℕ → List ℕ → List ℕ → Expansion
 reachedWith reached segment log waiting =
     record {
@@ -124,3 +124,15 @@ reachedWith reached segment log waiting =
       marks = record { segment = segment; count = reached .count };
       logs = record { log = log; waiting = waiting };
     }
+
+-- what they leave, as a call before and after it. Placing is the same at whichever stack
+
+abbrev pub PlacesChild : Scan → ℕ → (ℕ → Expansion) → (ℕ → Expansion) → Type 0
+PlacesChild scan child before after = (at : ℕ) → after at ≡ placeChild (scanJob scan) (scan .j) child (before at)
+
+abbrev pub PlacesAll : Scan → List ℕ → (ℕ → Expansion) → (ℕ → Expansion) → Type 0
+PlacesAll scan array before after = (at : ℕ) → after at ≡ placeAll (scanJob scan) (scan .j) (take (scan .turns) array) (before at)
+
+-- over the stacks from first on
+abbrev pub Runs : Scan → ℕ → ℕ → (ℕ → Expansion) → Expansion → Type 0
+Runs scan first stacks before reached = reached ≡ expandRun (scanJob scan) (scan .j) (stacks - first) (before first)

@@ -5,14 +5,14 @@ ghost use mathlib.Core.Path.{_≡_};
 ghost use Prim.Native.Nat.{_-_, _<_};
 ghost use lib.ListN.{length, replicate};
 ghost use Rattle.search.specs.Expand.{childrenOf};
-ghost use Rattle.stacks.specs.Stack.{isSize, stackCount};
+ghost use Rattle.stacks.specs.Stack.{isPaneCount, stackCount};
 ghost use Rattle.stacks.specs.Turn.{turnsOf};
 use perm::kind;
 use perm::numbering;
 
 // How many turns a kind and n have, which is how many children each stack has.
-pub fn turn_count(kind: u8, n: u8) -> u32
-    requires { ⌜ isSize kind n ≡ true ⌝ }
+pub(crate) fn turn_count(kind: u8, n: u8) -> u32
+    requires { ⌜ isPaneCount kind n ≡ true ⌝ }
     ensures { λ r. ⌜ r ≡ length (turnsOf kind n) ⌝ }
 {
     let last = (n as u32) + 1;
@@ -21,8 +21,8 @@ pub fn turn_count(kind: u8, n: u8) -> u32
 }
 
 // The indexes of the children of the stack at an index, by rising k, and zeros after them.
-pub fn children_of(kind: u8, n: u8, index: u32) -> [u32; 12]
-    requires { ⌜ (isSize kind n ≡ true) × (index < stackCount kind n) ⌝ }
+pub(crate) fn children_of(kind: u8, n: u8, index: u32) -> [u32; 12]
+    requires { ⌜ (isPaneCount kind n ≡ true) × (index < stackCount kind n) ⌝ }
     ensures { λ r. ⌜ r ≡ childrenOf kind n index ++ replicate (12 - length (childrenOf kind n index)) 0 ⌝ }
 {
     let stack = numbering::unrank(kind, n, index);

@@ -1,12 +1,12 @@
 // Expand a segment. The job's fields are copied to a Scan and its waiting numbers to a local, so that no function that runs for a stack
 // or a child takes the job.
 ghost use mathlib.Core.Bool.{true};
+ghost use mathlib.Core.List.{[]};
 ghost use mathlib.Core.Path.{_≡_};
 ghost use Prim.Native.Nat.{_<_};
-ghost use lib.ListN.{set};
-ghost use Rattle.search.specs.Expand.{expandRefusal, expandOf};
-ghost use Rattle.search.specs.JobState.{isCoherent, isLevel, levelOf, segmentsOf, progressed};
-ghost use Rattle.expand.specs.Scan.{scanOf};
+ghost use Rattle.search.specs.Expand.{expandRefusal, expandedJob, expandOf};
+ghost use Rattle.search.specs.JobState.{isCoherent, isLevel, segmentCountOf};
+ghost use Rattle.expand.specs.Scan.{scanOf, reachedWith};
 use crate::children;
 use crate::run;
 use crate::run::Reached;
@@ -18,7 +18,7 @@ use search::Expanded;
 use search::Job;
 use twobit::entry;
 
-pub fn expand_refusal(job: Job, j: u32, bytes: usize, words: usize) -> u8
+fn expand_refusal(job: Job, j: u32, bytes: usize, words: usize) -> u8
     ensures { λ r. ⌜ r ≡ expandRefusal job j bytes words ⌝ }
 {
     let refusal = level::level_refusal(job, j, bytes, words);
@@ -26,7 +26,7 @@ pub fn expand_refusal(job: Job, j: u32, bytes: usize, words: usize) -> u8
         return refusal;
     }
     let passed = job.passed;
-    if coherence::stacks_of(job, j) <= passed[j as usize] {
+    if coherence::stack_count_at(job, j) <= passed[j as usize] {
         return 11;
     }
     0
@@ -44,7 +44,7 @@ fn scan_of(job: Job, j: u32) -> Scan
         n: job.n,
         size: job.size,
         room: job.room,
-        segments: coherence::segments_of(job),
+        segments: coherence::segment_count_of(job),
         turns: children::turn_count(job.kind, job.n),
         j,
         level,
@@ -53,10 +53,10 @@ fn scan_of(job: Job, j: u32) -> Scan
     }
 }
 
-// The job as a run over segment j leaves it.
-fn advanced(job: Job, j: u32, reached: Reached, waiting: [u32; 64]) -> Job
-    requires { ⌜ (isCoherent job ≡ true) × (j < segmentsOf job) ⌝ }
-    ensures { λ r. ⌜ r ≡ progressed job (job .phase) (set (job .passed) j (reached .at)) waiting (set (job .counts) (levelOf (job .phase)) (reached .count)) ⌝ }
+// The job as a run over segment j leaves it; what the run left in the segment and the log area does not matter.
+fn expanded_job(job: Job, j: u32, reached: Reached, waiting: [u32; 64]) -> Job
+    requires { ⌜ (isCoherent job ≡ true) × (j < segmentCountOf job) ⌝ }
+    ensures { λ r. ⌜ r ≡ expandedJob job j (reachedWith reached [] [] waiting) ⌝ }
 {
     let phase = job.phase;
     let level = phase::level_of(phase);
@@ -81,7 +81,7 @@ pub fn expand(job: Job, j: u32, segment: &mut [u8], log: &mut [u32]) -> Expanded
         };
     }
     let scan = scan_of(job, j);
-    let stacks = coherence::stacks_of(job, j);
+    let stacks = coherence::stack_count_at(job, j);
     let passed = job.passed;
     let counts = job.counts;
     let level = scan.level;
@@ -95,7 +95,7 @@ pub fn expand(job: Job, j: u32, segment: &mut [u8], log: &mut [u32]) -> Expanded
         log,
         &mut waiting,
     );
-    let next = advanced(job, j, reached, waiting);
+    let next = expanded_job(job, j, reached, waiting);
     Expanded {
         refusal: 0,
         waits: reached.waits,

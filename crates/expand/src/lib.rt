@@ -1,7 +1,7 @@
 // Code: Expand, with the children of a stack and the logs that they are appended to.
-pub mod children;
+mod children;
 pub mod expand;
-pub mod logs;
-pub mod place;
-pub mod run;
-pub mod scan;
+mod logs;
+mod place;
+mod run;
+mod scan;

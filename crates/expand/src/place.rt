@@ -1,16 +1,12 @@
 // A stack's children, each to its place: marked in this segment, or logged for another.
-ghost use mathlib.Core.Path.{_≡_};
-ghost use Prim.Native.Nat.{ℕ};
-ghost use lib.ListN.{take};
-ghost use Rattle.search.specs.Expand.{placeChild, placeAll};
-ghost use Rattle.expand.specs.Scan.{ChildFits, ChildrenFit, running, scanJob};
+ghost use Rattle.expand.specs.Scan.{ChildFits, ChildrenFit, PlacesChild, PlacesAll, running};
 use crate::logs;
 use crate::scan::Scan;
 use twobit::entry;
 
 // A child of this segment is marked if it is unseen; a child elsewhere is appended to its segment's log, seen or not. The count comes
 // back with one more where the child was newly marked.
-pub fn place_child(
+fn place_child(
     scan: Scan,
     child: u32,
     count: u64,
@@ -19,7 +15,9 @@ pub fn place_child(
     waiting: &mut [u32; 64],
 ) -> u64
     requires { ⌜ ChildFits scan child count (now segment) (now log) (now waiting) ⌝ }
-    ensures { λ r. ⌜ ((at : ℕ) → running at (now (segment .exit)) r (now (log .exit)) (now (waiting .exit)) ≡ placeChild (scanJob scan) (scan .j) child (running at (now (segment .entry)) count (now (log .entry)) (now (waiting .entry)))) ⌝ }
+    ensures { λ r. ⌜ PlacesChild scan child
+        (running (now (segment .entry)) count (now (log .entry)) (now (waiting .entry)))
+        (running (now (segment .exit)) r (now (log .exit)) (now (waiting .exit))) ⌝ }
 {
     let size = scan.size;
     let t = child / size;
@@ -38,7 +36,7 @@ pub fn place_child(
 }
 
 // Each child of a stack, by rising k. There is room for them all.
-pub fn place_all(
+pub(crate) fn place_all(
     scan: Scan,
     children: [u32; 12],
     from_count: u64,
@@ -47,7 +45,9 @@ pub fn place_all(
     waiting: &mut [u32; 64],
 ) -> u64
     requires { ⌜ ChildrenFit scan children «from_count» (now segment) (now log) (now waiting) ⌝ }
-    ensures { λ r. ⌜ ((at : ℕ) → running at (now (segment .exit)) r (now (log .exit)) (now (waiting .exit)) ≡ placeAll (scanJob scan) (scan .j) (take (scan .turns) children) (running at (now (segment .entry)) «from_count» (now (log .entry)) (now (waiting .entry)))) ⌝ }
+    ensures { λ r. ⌜ PlacesAll scan children
+        (running (now (segment .entry)) «from_count» (now (log .entry)) (now (waiting .entry)))
+        (running (now (segment .exit)) r (now (log .exit)) (now (waiting .exit))) ⌝ }
 {
     let turns = scan.turns;
     let mut count = from_count;

@@ -1,8 +1,5 @@
 // A run of Expand over the stacks of a segment.
-ghost use mathlib.Core.Path.{_≡_};
-ghost use Prim.Native.Nat.{_-_};
-ghost use Rattle.search.specs.Expand.{expandRun};
-ghost use Rattle.expand.specs.Scan.{RunFits, running, reachedWith, scanJob};
+ghost use Rattle.expand.specs.Scan.{RunFits, Runs, running, reachedWith};
 use crate::children;
 use crate::logs;
 use crate::place;
@@ -10,7 +7,7 @@ use crate::scan::Scan;
 use twobit::entry;
 
 // How far a call came: the first stack not passed, whether it waits before it and for which segment, and the level's count.
-pub struct Reached {
+pub(crate) struct Reached {
     pub at: u32,
     pub waits: bool,
     pub on: u32,
@@ -18,7 +15,7 @@ pub struct Reached {
 }
 
 // From the first stack not passed to the last, or to the first whose children lack room.
-pub fn expand_run(
+pub(crate) fn expand_run(
     scan: Scan,
     first: u32,
     stacks: u32,
@@ -28,7 +25,9 @@ pub fn expand_run(
     waiting: &mut [u32; 64],
 ) -> Reached
     requires { ⌜ RunFits scan first stacks «from_count» (now segment) (now log) (now waiting) ⌝ }
-    ensures { λ r. ⌜ reachedWith r (now (segment .exit)) (now (log .exit)) (now (waiting .exit)) ≡ expandRun (scanJob scan) (scan .j) (stacks - first) (running first (now (segment .entry)) «from_count» (now (log .entry)) (now (waiting .entry))) ⌝ }
+    ensures { λ r. ⌜ Runs scan first stacks
+        (running (now (segment .entry)) «from_count» (now (log .entry)) (now (waiting .entry)))
+        (reachedWith r (now (segment .exit)) (now (log .exit)) (now (waiting .exit))) ⌝ }
 {
     let base = scan.j * scan.size;
     let segments = scan.segments;

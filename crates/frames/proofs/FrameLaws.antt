@@ -17,9 +17,9 @@ use Rattle.base.proofs.Lists.{map-append}
 use Rattle.base.proofs.Tests.{and-left, and-right}
 use Rattle.stacks.proofs.CoatLaws.{pane-number}
 use Rattle.perm.proofs.Signed.{mag-abs, place-back}
-use Rattle.frames.specs.Frame.{frameLimit, isFrame, paneOf, placesOf}
+use Rattle.frames.specs.Frame.{frameLimit, frameBytes, isFrame, paneOf, placesOf}
 use Rattle.frames.specs.Hex.{isDigit, isPairs, bytesOf}
-use Rattle.frames.specs.Lines.{textOf}
+use Rattle.frames.specs.Kept.{textOf}
 use Rattle.frames.specs.declared.Line.{Line}
 use Rattle.frames.proofs.HexLaws.{bytes-take}
 use Rattle.frames.proofs.LineLaws.{text-length, text-short}
@@ -63,37 +63,39 @@ part-length xs i k h = length-take-le k (drop i xs) (omega (arith, length-drop i
 pub part-at : (xs : List ℕ) (i k p : ℕ) → p < k → getD (take k (drop i xs)) p 0 ≡ getD xs (i + p) 0
 part-at xs i k p h = getD-take k (drop i xs) p 0 h ∙ getD-drop i xs p 0
 
-module _ (line : Line) (w : length (line .chars) ≡ 64) where
-  pub long-is-none : 64 < line .length → false ≡ isFrame (textOf line)
-  unfolding isFrame frameLimit
-  long-is-none h = rw (lt-leb (length (textOf line)) 64 (omega (arith, text-length line w)))
+module _ (line : Line) (w : length (line .chars) ≡ frameLimit) where
+  pub long-is-none : frameLimit < line .length → false ≡ isFrame (textOf line)
+  unfolding isFrame
+  long-is-none h = rw (lt-leb (length (textOf line)) frameLimit (omega (arith, text-length line w)))
 
-  module _ (s : line .length ≤ 64) where
+  module _ (s : line .length ≤ frameLimit) where
     short-length : length (textOf line) ≡ line .length
     short-length = text-length line w ∙ omega arith
 
     pub odd-is-none : (line .length % 2 ≡ 0 → ⊥) → false ≡ isFrame (textOf line)
-    unfolding isFrame isPairs frameLimit
-    odd-is-none h = rw (short-length, le-leb (line .length) 64 s, ne-eqb (line .length % 2) 0 h)
+    unfolding isFrame isPairs
+    odd-is-none h = rw (short-length, le-leb (line .length) frameLimit s, ne-eqb (line .length % 2) 0 h)
 
     pub even-is-digits : line .length % 2 ≡ 0 → all isDigit (take (line .length) (line .chars)) ≡ isFrame (textOf line)
-    unfolding isFrame isPairs frameLimit
+    unfolding isFrame isPairs
     even-is-digits h =
-        rw (short-length, le-leb (line .length) 64 s, eq-eqb (line .length % 2) 0 h, text-short line w s)
+        rw (short-length, le-leb (line .length) frameLimit s, eq-eqb (line .length % 2) 0 h, text-short line w s)
 
   module _ (f : isFrame (textOf line) ≡ true) where
-    frame-short : line .length ≤ 64
-    unfolding isFrame frameLimit
-    frame-short = omega (arith, text-length line w, leb-true (length (textOf line)) 64 (and-left (leb (length (textOf line)) 64) (isPairs (textOf line)) f))
+    frame-short : line .length ≤ frameLimit
+    unfolding isFrame
+    frame-short =
+        let text = textOf line in
+        omega (arith, text-length line w, leb-true (length text) frameLimit (and-left (leb (length text) frameLimit) (isPairs text) f))
 
     frame-even : line .length % 2 ≡ 0
-    unfolding isFrame isPairs frameLimit
+    unfolding isFrame isPairs
     frame-even =
         ap (λ (k : ℕ). k % 2) (sym (short-length frame-short))
         ∙ eqb-true (length (textOf line) % 2) 0
-        (and-left (eqb (length (textOf line) % 2) 0) (all isDigit (textOf line)) (and-right (leb (length (textOf line)) 64) (isPairs (textOf line)) f))
+        (and-left (eqb (length (textOf line) % 2) 0) (all isDigit (textOf line)) (and-right (leb (length (textOf line)) frameLimit) (isPairs (textOf line)) f))
 
-    pub frame-count : line .length / 2 ≤ 32
+    pub frame-count : line .length / 2 ≤ frameBytes
     frame-count = omega (arith, frame-short)
 
     -- a frame's bytes are the first bytes of its line's characters

@@ -12,19 +12,19 @@ use lib.Seq.{take-nil, take-take, length-take-le, getD-take}
 use borrow.Author.Tests.{le-leb, lt-leb, leb-true, eq-eqb, ne-eqb, eqb-true}
 use Rattle.base.specs.Words.{unless}
 use Rattle.base.proofs.Tests.{unless-zero}
-use Rattle.stacks.specs.Operations.{sizeRefusal, stacked}
-use Rattle.stacks.specs.Stack.{isKind, isSize, isStack, stackCount}
+use Rattle.stacks.specs.Operations.{kindRefusal, stacked}
+use Rattle.stacks.specs.Stack.{isKind, isPaneCount, isStack, stackCount}
 use Rattle.stacks.proofs.Panes.{stack-facts}
-use Rattle.stacks.proofs.Sizes.{size-twelve}
+use Rattle.stacks.proofs.KindLaws.{panes-twelve}
 use Rattle.search.specs.Segments.{isSegmentSize}
 use Rattle.frames.specs.Frame.{frameLimit, stackLimit, isFrame, paneOf, placesOf, kindIn, panesIn, wantedIn, sizeIn, fieldsRefusal, bytesRefusal, firstRefusal, firstWith, firstOf, laterRefusal, laterOf}
 use Rattle.frames.specs.Hex.{bytesOf, numberOf}
-use Rattle.frames.specs.Lines.{textOf, keptOf}
+use Rattle.frames.specs.Kept.{textOf}
 use Rattle.frames.specs.declared.First.{First}
 use Rattle.frames.specs.declared.Line.{Line}
 use Rattle.frames.proofs.FrameLaws.{frame-count, frame-bytes}
 use Rattle.frames.proofs.HexLaws.{chars-bytes}
-use Rattle.frames.proofs.LineLaws.{kept-says}
+use Rattle.frames.proofs.LineLaws.{keptOf, kept-says}
 
 drop-take : (i k : ℕ) (xs : List ℕ) → drop i (take (i + k) xs) ≡ take k (drop i xs)
 drop-take zero k xs = rw (zero-add k)
@@ -39,15 +39,15 @@ module _ (kind n : ℕ) (bs : List ℕ) where
   fields-length h = rw (ne-eqb (length bs) (n + 6) h)
 
   module _ (e : length bs ≡ n + 6) where
-    pub fields-limit : 46080 < stackCount kind n → 16 ≡ fieldsRefusal kind n bs
-    unfolding fieldsRefusal stackLimit
-    fields-limit h = rw (eq-eqb (length bs) (n + 6) e, lt-leb (stackCount kind n) 46080 h)
+    pub fields-limit : stackLimit < stackCount kind n → 16 ≡ fieldsRefusal kind n bs
+    unfolding fieldsRefusal
+    fields-limit h = rw (eq-eqb (length bs) (n + 6) e, lt-leb (stackCount kind n) stackLimit h)
 
     -- the stack's and the size's tests decide
-    pub fields-rest : stackCount kind n ≤ 46080 → (s t : Bool) → s ≡ isStack kind n (wantedIn n bs) → t ≡ isSegmentSize (stackCount kind n) (sizeIn n bs)
+    pub fields-rest : stackCount kind n ≤ stackLimit → (s t : Bool) → s ≡ isStack kind n (wantedIn n bs) → t ≡ isSegmentSize (stackCount kind n) (sizeIn n bs)
         → unless s 3 (unless t 5 0) ≡ fieldsRefusal kind n bs
-    unfolding fieldsRefusal stackLimit
-    fields-rest h s t p q = rw (eq-eqb (length bs) (n + 6) e, le-leb (stackCount kind n) 46080 h, p, q)
+    unfolding fieldsRefusal
+    fields-rest h s t p q = rw (eq-eqb (length bs) (n + 6) e, le-leb (stackCount kind n) stackLimit h, p, q)
 
 -- the panes and S of n + 6 bytes
 module _ (n : ℕ) (bs : List ℕ) (count : ℕ) (e : count ≡ n + 6) where
@@ -71,7 +71,7 @@ pub first-none : (cs : List ℕ) → isFrame cs ≡ false → 16 ≡ firstRefusa
 unfolding firstRefusal
 first-none cs h = rw h
 
-module _ (line : Line) (w : length (line .chars) ≡ 64) (f : isFrame (textOf line) ≡ true) where
+module _ (line : Line) (w : length (line .chars) ≡ frameLimit) (f : isFrame (textOf line) ≡ true) where
   -- the bytes of the line, and how many there are
   abbrev bytes : List ℕ
   bytes = take (line .length / 2) (bytesOf (line .chars))
@@ -92,27 +92,27 @@ module _ (line : Line) (w : length (line .chars) ≡ 64) (f : isFrame (textOf li
 
   -- with two bytes, the kind and n decide first
   pub first-row : 2 ≤ line .length / 2 → (kind n : ℕ) → kind ≡ getD (bytesOf (line .chars)) 0 0 → n ≡ getD (bytesOf (line .chars)) 1 0
-      → sizeRefusal kind n (fieldsRefusal kind n bytes) ≡ firstRefusal (textOf line)
+      → kindRefusal kind n (fieldsRefusal kind n bytes) ≡ firstRefusal (textOf line)
   unfolding bytesRefusal kindIn panesIn
   first-row h kind n p q =
       let k : kind ≡ getD bytes 0 0 = p ∙ sym (getD-take (line .length / 2) (bytesOf (line .chars)) 0 0 (omega arith)) in
       let m : n ≡ getD bytes 1 0 = q ∙ sym (getD-take (line .length / 2) (bytesOf (line .chars)) 1 0 (omega arith)) in
       rw (← first-bytes, le-leb 2 (length bytes) (omega (arith, count-is)))
-      (ap₂ (λ (x y : ℕ). sizeRefusal x y (fieldsRefusal x y bytes)) k m)
+      (ap₂ (λ (x y : ℕ). kindRefusal x y (fieldsRefusal x y bytes)) k m)
 
 -- what an accepted first frame has
 pub record FirstPasses (cs : List ℕ) : Type 0 where
   pub frame : isFrame cs ≡ true
   pub two : 2 ≤ length (bytesOf cs)
-  pub size : isSize (kindIn (bytesOf cs)) (panesIn (bytesOf cs)) ≡ true
+  pub in-range : isPaneCount (kindIn (bytesOf cs)) (panesIn (bytesOf cs)) ≡ true
   pub long : length (bytesOf cs) ≡ panesIn (bytesOf cs) + 6
   pub is-kind : isKind (kindIn (bytesOf cs)) ≡ true
-  pub few : stackCount (kindIn (bytesOf cs)) (panesIn (bytesOf cs)) ≤ 46080
+  pub few : stackCount (kindIn (bytesOf cs)) (panesIn (bytesOf cs)) ≤ stackLimit
   pub stack : isStack (kindIn (bytesOf cs)) (panesIn (bytesOf cs)) (wantedIn (panesIn (bytesOf cs)) (bytesOf cs)) ≡ true
   pub segments : isSegmentSize (stackCount (kindIn (bytesOf cs)) (panesIn (bytesOf cs))) (sizeIn (panesIn (bytesOf cs)) (bytesOf cs)) ≡ true
 
 pub first-passes : (cs : List ℕ) → firstRefusal cs ≡ 0 → FirstPasses cs
-unfolding firstRefusal bytesRefusal fieldsRefusal sizeRefusal stackLimit
+unfolding firstRefusal bytesRefusal fieldsRefusal kindRefusal
 first-passes cs h =
     let bs = bytesOf cs in
     let kind = kindIn bs in
@@ -120,29 +120,29 @@ first-passes cs h =
     let N = stackCount kind n in
     let last : ℕ = unless (isSegmentSize N (sizeIn n bs)) 5 0 in
     let stack : ℕ = unless (isStack kind n (wantedIn n bs)) 3 last in
-    let few : ℕ = unless (leb N 46080) 16 stack in
+    let few : ℕ = unless (leb N stackLimit) 16 stack in
     let long : ℕ = unless (eqb (length bs) (n + 6)) 16 few in
-    let size : ℕ = unless (isSize kind n) 2 long in
+    let size : ℕ = unless (isPaneCount kind n) 2 long in
     let a = unless-zero (isFrame cs) 15 (bytesRefusal bs) h in
     let b = unless-zero (leb 2 (length bs)) 15 (unless (isKind kind) 1 size) (a .1) in
     let c = unless-zero (isKind kind) 0 size (b .1) in
-    let d = unless-zero (isSize kind n) 1 long (c .1) in
+    let d = unless-zero (isPaneCount kind n) 1 long (c .1) in
     let e = unless-zero (eqb (length bs) (n + 6)) 15 few (d .1) in
-    let f = unless-zero (leb N 46080) 15 stack (e .1) in
+    let f = unless-zero (leb N stackLimit) 15 stack (e .1) in
     let g = unless-zero (isStack kind n (wantedIn n bs)) 2 last (f .1) in
     record {
       frame = a .0;
       two = leb-true 2 (length bs) (b .0);
-      size = d .0;
+      in-range = d .0;
       long = eqb-true (length bs) (n + 6) (e .0);
       is-kind = c .0;
-      few = leb-true N 46080 (f .0);
+      few = leb-true N stackLimit (f .0);
       stack = g .0;
       segments = unless-zero (isSegmentSize N (sizeIn n bs)) 4 0 (g .1) .0;
     }
 
 -- the fields of an accepted first frame, as its line's characters have them
-module _ (line : Line) (w : length (line .chars) ≡ 64) (h : firstRefusal (textOf line) ≡ 0) where
+module _ (line : Line) (w : length (line .chars) ≡ frameLimit) (h : firstRefusal (textOf line) ≡ 0) where
   abbrev all-bytes : List ℕ
   all-bytes = bytesOf (line .chars)
 
@@ -167,7 +167,7 @@ module _ (line : Line) (w : length (line .chars) ≡ 64) (h : firstRefusal (text
     pub panes-fit : n ≤ 12
     panes-fit =
         rw (e, panes-is)
-        (size-twelve (kindIn (bytesOf (textOf line))) (panesIn (bytesOf (textOf line))) (first-passes (textOf line) h .size))
+        (panes-twelve (kindIn (bytesOf (textOf line))) (panesIn (bytesOf (textOf line))) (first-passes (textOf line) h .in-range))
 
     first-long : line .length / 2 ≡ n + 6
     first-long = sym first-count ∙ first-passes (textOf line) h .long ∙ ap (λ (k : ℕ). k + 6) (sym (e ∙ panes-is))
@@ -199,9 +199,10 @@ later-none kind n cs h = rw h
 places-length : (bs : List ℕ) → length (placesOf bs) ≡ length bs + (12 - length bs)
 unfolding placesOf
 places-length bs =
-    length-append (map paneOf bs) (replicate (12 - length bs) (pos 0)) ∙ ap₂ (λ (a b : ℕ). a + b) (length-map bs paneOf) (length-replicate (12 - length bs) (pos 0))
+    length-append (map paneOf bs) (replicate (12 - length bs) (pos 0))
+    ∙ ap₂ (λ (a b : ℕ). a + b) (length-map bs paneOf) (length-replicate (12 - length bs) (pos 0))
 
-module _ (kind n : ℕ) (line : Line) (w : length (line .chars) ≡ 64) (f : isFrame (textOf line) ≡ true) where
+module _ (kind n : ℕ) (line : Line) (w : length (line .chars) ≡ frameLimit) (f : isFrame (textOf line) ≡ true) where
   pub later-length-wrong : (line .length / 2 ≡ n → ⊥) → 16 ≡ laterRefusal kind n (textOf line)
   unfolding laterRefusal
   later-length-wrong h = rw (f, bytes-length line w f, ne-eqb (line .length / 2) n h)
@@ -210,7 +211,9 @@ module _ (kind n : ℕ) (line : Line) (w : length (line .chars) ≡ 64) (f : isF
     pub later-many : 12 < n → 3 ≡ laterRefusal kind n (textOf line)
     unfolding laterRefusal isStack
     later-many h =
-        rw (f, bytes-length line w f, eq-eqb (line .length / 2) n e, ne-eqb (length (placesOf (bytesOf (textOf line)))) 12 (omega (arith, places-length (bytesOf (textOf line)), bytes-length line w f)))
+        let bs = bytesOf (textOf line) in
+        let long = bytes-length line w f in
+        rw (f, long, eq-eqb (line .length / 2) n e, ne-eqb (length (placesOf bs)) 12 (omega (arith, places-length bs)))
 
     -- the bytes of all the panes
     pub later-bytes : take n (drop 0 (bytesOf (line .chars))) ≡ bytesOf (textOf line)
@@ -234,7 +237,7 @@ later-passes kind n cs h =
     (a .0, long, omega (arith, places-length bs, stack-facts kind n (placesOf bs) (c .0) .twelve))
 
 -- its panes' bytes
-pub later-panes : (kind n : ℕ) (line : Line) → length (line .chars) ≡ 64 → laterRefusal kind n (textOf line) ≡ 0
+pub later-panes : (kind n : ℕ) (line : Line) → length (line .chars) ≡ frameLimit → laterRefusal kind n (textOf line) ≡ 0
     → take n (drop 0 (bytesOf (line .chars))) ≡ bytesOf (textOf line)
 later-panes kind n line w h =
     let p = later-passes kind n (textOf line) h in
@@ -242,14 +245,14 @@ later-panes kind n line w h =
 
 -- ---- an overlong line is refused, and so what is kept of any line is answered as the whole line is
 
-overlong-none : (cs : List ℕ) → 64 < length cs → isFrame cs ≡ false
-unfolding isFrame frameLimit
-overlong-none cs h = rw (lt-leb (length cs) 64 h)
+overlong-none : (cs : List ℕ) → frameLimit < length cs → isFrame cs ≡ false
+unfolding isFrame
+overlong-none cs h = rw (lt-leb (length cs) frameLimit h)
 
-pub overlong-first : (cs : List ℕ) → 64 < length cs → firstRefusal cs ≡ 16
+overlong-first : (cs : List ℕ) → frameLimit < length cs → firstRefusal cs ≡ 16
 overlong-first cs h = sym (first-none cs (overlong-none cs h))
 
-pub overlong-later : (kind n : ℕ) (cs : List ℕ) → 64 < length cs → laterRefusal kind n cs ≡ 16
+overlong-later : (kind n : ℕ) (cs : List ℕ) → frameLimit < length cs → laterRefusal kind n cs ≡ 16
 overlong-later kind n cs h = sym (later-none kind n cs (overlong-none cs h))
 
 pub kept-first : (cs : List ℕ) → firstOf (textOf (keptOf cs)) ≡ firstOf cs

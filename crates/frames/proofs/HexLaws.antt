@@ -1,7 +1,7 @@
 -- Laws of hexadecimal text: digits and their characters, bytes and their pairs, each way.
-use mathlib.Core.Path.{_≡_, refl, sym, ap, ap₂, _∙_}
+use mathlib.Core.Path.{_≡_, refl, ap, ap₂, _∙_}
 use mathlib.Core.Logic.{_⊎_, inl, inr}
-use mathlib.Core.Bool.{Bool, true, false, _&&_, _||_, false≢true}
+use mathlib.Core.Bool.{Bool, true, false, _&&_, _||_}
 use mathlib.Core.List.{List, [], _∷_}
 use Prim.Native.Nat.{ℕ, zero, suc, _+_, _-_, _*_, _/_, _%_, _≤_, _<_}
 use native.Mathlib.Nat.{not-suc-le-zero, zero-add, div-div-eq-div-mul}
@@ -9,12 +9,13 @@ use native.Mathlib.Numerals.{add-one}
 use native.Mathlib.Omega.{arith}
 use lib.Seq.{drop-cons}
 use lib.Arith.{mod-mul}
-use lib.Dec.{leb, ltb, eqb}
+use lib.Dec.{leb, ltb}
 use lib.ListN.{length, getD, take, drop}
 use borrow.Author.Tests.{lt-ltb, le-ltb, le-leb, lt-leb, leb-true, ltb-true}
 use Rattle.base.specs.Words.{all}
-use Rattle.base.proofs.Tests.{lt-or-ge, and-left, and-right, and-both, test-cases}
-use Rattle.frames.specs.Hex.{isDigit, digitOf, digitChar, isPairs, bytesOf, hexOf, numberFrom, numberOf, fourBytes}
+use Rattle.base.proofs.Tests.{lt-or-ge, and-left, and-right, test-cases}
+use Rattle.frames.specs.Frame.{frameLimit, frameBytes}
+use Rattle.frames.specs.Hex.{isDigit, digitOf, digitChar, isByte, bytesOf, hexOf, lineOf, numberFrom, numberOf, fourBytes}
 
 -- ---- digits
 
@@ -76,7 +77,7 @@ digit-lt c = go (test-cases (isDigit c)) (lt-or-ge 57 c)
 
 -- ---- bytes of pairs
 
-pub bytes-length : (cs : List ℕ) → length (bytesOf cs) ≡ length cs / 2
+bytes-length : (cs : List ℕ) → length (bytesOf cs) ≡ length cs / 2
 unfolding bytesOf
 bytes-length [] = refl
 bytes-length (a ∷ []) = refl
@@ -104,8 +105,8 @@ bytes-take (suc k) (a ∷ b ∷ cs) =
     rw (let e : 2 * suc k ≡ suc (suc (2 * k)) = omega arith in e)
     (ap (λ (l : List ℕ). (digitOf a * 16 + digitOf b) ∷ l) (bytes-take k cs))
 
--- the bytes of 64 characters
-pub chars-bytes : (chars : List ℕ) → length chars ≡ 64 → length (bytesOf chars) ≡ 32
+-- the bytes of the longest frame
+pub chars-bytes : (chars : List ℕ) → length chars ≡ frameLimit → length (bytesOf chars) ≡ frameBytes
 chars-bytes chars w = bytes-length chars ∙ ap (λ (k : ℕ). k / 2) w
 
 -- ---- numbers of four bytes
@@ -148,79 +149,24 @@ char-letter : (d : ℕ) → 10 ≤ d → digitChar d ≡ d + 87
 unfolding digitChar
 char-letter d h = rw (le-ltb d 10 h)
 
--- the character of a value below 16 is a digit, and has that value
-pub char-digit : (d : ℕ) → d < 16 → (isDigit (digitChar d) ≡ true) × (digitOf (digitChar d) ≡ d)
-char-digit d h = go (lt-or-ge d 10)
+-- the character of a value below 16 has that value
+char-value : (d : ℕ) → d < 16 → digitOf (digitChar d) ≡ d
+char-value d h = go (lt-or-ge d 10)
   where
-    go : (d < 10) ⊎ (10 ≤ d) → (isDigit (digitChar d) ≡ true) × (digitOf (digitChar d) ≡ d)
+    go : (d < 10) ⊎ (10 ≤ d) → digitOf (digitChar d) ≡ d
     go (inl l) =
         let e = char-decimal d l in
-        let t = decimal-is (digitChar d) (omega arith) (omega arith) in
-        (t, digit-decimal (digitChar d) t (omega arith) ∙ omega arith)
+        digit-decimal (digitChar d) (decimal-is (digitChar d) (omega arith) (omega arith)) (omega arith) ∙ omega arith
     go (inr l) =
         let e = char-letter d l in
-        let t = letter-is (digitChar d) (omega arith) (omega arith) in
-        (t, digit-letter (digitChar d) t (omega arith) ∙ omega arith)
+        digit-letter (digitChar d) (letter-is (digitChar d) (omega arith) (omega arith)) (omega arith) ∙ omega arith
 
--- a digit's value has that digit's character
-pub digit-char : (c : ℕ) → isDigit c ≡ true → digitChar (digitOf c) ≡ c
-digit-char c h = go (lt-or-ge 57 c)
-  where
-    go : (57 < c) ⊎ (c ≤ 57) → digitChar (digitOf c) ≡ c
-    go (inl l) = let e = digit-letter c h l in char-letter (digitOf c) (omega (arith, digit-high c h l)) ∙ omega (arith, digit-high c h l)
-    go (inr l) = let e = digit-decimal c h l in char-decimal (digitOf c) (omega (arith, digit-low c h l)) ∙ omega (arith, digit-low c h l)
-
-unfoldable pub isByte : ℕ → Bool
-isByte b = ltb b 256
-
--- what bytes are written as says those bytes
-pub bytes-hex : (bs : List ℕ) → all isByte bs ≡ true → bytesOf (hexOf bs) ≡ bs
-unfolding bytesOf hexOf all isByte
-bytes-hex [] h = refl
-bytes-hex (b ∷ bs) h =
+-- what bytes are written as, as a line, says those bytes
+pub line-says : (bs : List ℕ) → all isByte bs ≡ true → bytesOf (lineOf bs) ≡ bs
+unfolding bytesOf lineOf hexOf all isByte
+line-says [] h = refl
+line-says (b ∷ bs) h =
     let l = ltb-true b 256 (and-left (ltb b 256) (all isByte bs) h) in
     ap₂ (λ (x : ℕ) (xs : List ℕ). x ∷ xs)
-    (omega (arith, char-digit (b / 16) (omega arith) .1, char-digit (b % 16) (omega arith) .1))
-    (bytes-hex bs (and-right (ltb b 256) (all isByte bs) h))
-
-pairs-none : isPairs [] ≡ true
-unfolding isPairs all
-pairs-none = refl
-
-pairs-one : (a : ℕ) → isPairs (a ∷ []) ≡ true → ⊥
-unfolding isPairs
-pairs-one a h = false≢true h
-
-pairs-more : (a b : ℕ) (cs : List ℕ) → isPairs (a ∷ b ∷ cs) ≡ (isDigit a && (isDigit b && isPairs cs))
-unfolding isPairs all
-pairs-more a b cs =
-    rw (let e : suc (suc (length cs)) % 2 ≡ length cs % 2 = omega arith in e) (go (eqb (length cs % 2) 0) (isDigit a) (isDigit b))
-  where
-    go : (t p q : Bool) → (t && (p && (q && all isDigit cs))) ≡ (p && (q && (t && all isDigit cs)))
-    go true p q = refl
-    go false true true = refl
-    go false true false = refl
-    go false false q = refl
-
--- and is pairs of digits
-pub pairs-hex : (bs : List ℕ) → all isByte bs ≡ true → isPairs (hexOf bs) ≡ true
-unfolding hexOf all isByte
-pairs-hex [] h = pairs-none
-pairs-hex (b ∷ bs) h =
-    let l = ltb-true b 256 (and-left (ltb b 256) (all isByte bs) h) in
-    pairs-more (digitChar (b / 16)) (digitChar (b % 16)) (hexOf bs)
-    ∙ and-both (isDigit (digitChar (b / 16))) (isDigit (digitChar (b % 16)) && isPairs (hexOf bs)) (char-digit (b / 16) (omega arith) .0)
-    (and-both (isDigit (digitChar (b % 16))) (isPairs (hexOf bs)) (char-digit (b % 16) (omega arith) .0)
-    (pairs-hex bs (and-right (ltb b 256) (all isByte bs) h)))
-
--- the bytes of pairs are written as those pairs
-pub hex-bytes : (cs : List ℕ) → isPairs cs ≡ true → hexOf (bytesOf cs) ≡ cs
-unfolding bytesOf hexOf
-hex-bytes [] h = refl
-hex-bytes (a ∷ []) h = absurd (pairs-one a h)
-hex-bytes (a ∷ b ∷ cs) h =
-    let k = sym (pairs-more a b cs) ∙ h in
-    let r = and-right (isDigit a) (isDigit b && isPairs cs) k in
-    let x : (digitOf a * 16 + digitOf b) / 16 ≡ digitOf a = omega (arith, digit-lt b) in
-    let y : (digitOf a * 16 + digitOf b) % 16 ≡ digitOf b = omega (arith, digit-lt b) in
-    rw (x, y, digit-char a (and-left (isDigit a) (isDigit b && isPairs cs) k), digit-char b (and-left (isDigit b) (isPairs cs) r), hex-bytes cs (and-right (isDigit b) (isPairs cs) r))
+    (omega (arith, char-value (b / 16) (omega arith), char-value (b % 16) (omega arith)))
+    (line-says bs (and-right (ltb b 256) (all isByte bs) h))

@@ -2,6 +2,6 @@
 pub mod HexLaws
 pub mod Writing
 pub mod LineLaws
+pub mod Feeding
 pub mod FrameLaws
 pub mod FrameRefusals
-pub mod Worked

@@ -9,14 +9,15 @@ use native.Mathlib.Nat.{add-zero, zero-add}
 use lib.ListN.{length, getD, set, take, drop, length-append, length-take, take-append-drop}
 use lib.Seq.{take-suc, take-all, take-length, drop-cons, length-take-le, drop-drop, take-append-seam, drop-append-add, set-append-seam, append-snoc}
 use Rattle.frames.specs.Hex.{digitChar, hexOf, lineOf, fourBytes}
-use Rattle.frames.specs.Report.{levelLine, levelsFrom, levelLines, over, Put, Wrote}
+use Rattle.frames.specs.Output.{levelLine, levelsFrom, levelLines}
+use Rattle.frames.specs.Written.{over, Put, Wrote}
 
 pub hex-length : (bs : List ℕ) → length (hexOf bs) ≡ 2 * length bs
 unfolding hexOf
 hex-length [] = refl
 hex-length (b ∷ bs) = omega (arith, hex-length bs)
 
-pub hex-append : (xs ys : List ℕ) → hexOf (xs ++ ys) ≡ hexOf xs ++ hexOf ys
+hex-append : (xs ys : List ℕ) → hexOf (xs ++ ys) ≡ hexOf xs ++ hexOf ys
 unfolding hexOf
 hex-append [] ys = refl
 hex-append (x ∷ xs) ys = ap (λ (l : List ℕ). digitChar (x / 16) ∷ digitChar (x % 16) ∷ l) (hex-append xs ys)
@@ -69,9 +70,10 @@ module _ (out : List ℕ) (at : ℕ) (bytes : List ℕ) (i : ℕ) (h : i < lengt
 
 -- all the bytes are written
 pub put-end : (out : List ℕ) (at : ℕ) (bytes : List ℕ) (i : ℕ) (now : List ℕ) → i ≡ length bytes → now ≡ putTo out at bytes i
-    → now ≡ take at out ++ hexOf bytes ++ drop (at + 2 * length bytes) out
+    → Put (hexOf bytes) at out now (at + 2 * i)
 unfolding putTo
-put-end out at bytes i now h e = e ∙ rw (h, take-length bytes)
+put-end out at bytes i now h e =
+    record { front = e ∙ rw (h, take-length bytes, hex-length bytes); end = rw (h, hex-length bytes) }
 
 -- ---- a line at the front of a buffer
 
@@ -90,13 +92,6 @@ over-more text piece out before now at e f g =
       length-append text piece,
     )
 
--- bytes more after a text
-pub over-put : (text out bytes before now : List ℕ) (at : ℕ) → at ≡ length text → before ≡ over text out
-    → now ≡ take at before ++ hexOf bytes ++ drop (at + 2 * length bytes) before → now ≡ over (text ++ hexOf bytes) out
-over-put text out bytes before now at e f g =
-    over-more text (hexOf bytes) out before now at e f
-    (g ∙ ap (λ (k : ℕ). take at before ++ hexOf bytes ++ drop (at + k) before) (sym (hex-length bytes)))
-
 pub wrote : (text before after : List ℕ) (r : ℕ) → after ≡ over text before → r ≡ length text → Wrote text before after r
 unfolding over
 wrote text before after r e f =
@@ -106,10 +101,11 @@ wrote text before after r e f =
 -- ---- a line from some place on
 
 -- the digits of a line's bytes, and its end
-pub put-end-line : (bytes out before : List ℕ) (at r : ℕ) → at + 2 * length bytes < length out → r ≡ at + 2 * length bytes
-    → before ≡ take at out ++ hexOf bytes ++ drop (at + 2 * length bytes) out → Put (lineOf bytes) at out (set before r 10) (r + 1)
+pub put-end-line : (bytes out before : List ℕ) (at r : ℕ) → at + 2 * length bytes < length out → Put (hexOf bytes) at out before r
+    → Put (lineOf bytes) at out (set before r 10) (r + 1)
 unfolding lineOf
-put-end-line bytes out before at r h e f =
+put-end-line bytes out before at r h p =
+    let e : r ≡ at + 2 * length bytes = omega (arith, p .end, hex-length bytes) in
     let head : List ℕ = take at out ++ hexOf bytes in
     let long : length head ≡ r =
     length-append (take at out) (hexOf bytes) ∙ omega (arith, length-take-le at out (omega arith), hex-length bytes) in
@@ -118,7 +114,7 @@ put-end-line bytes out before at r h e f =
     let next : at + length (hexOf bytes ++ (10 ∷ [])) ≡ suc r = omega arith in
     record {
       front = ap (λ (l : List ℕ). set l r 10)
-          (f ∙ ap (λ (k : ℕ). head ++ drop k out) (sym e) ∙ ap (λ (l : List ℕ). head ++ l) (drop-cons out r 0 (omega arith)))
+          (p .front ∙ ap (λ (k : ℕ). head ++ drop k out) (sym (p .end)) ∙ ap (λ (l : List ℕ). head ++ l) (drop-cons out r 0 (omega arith)))
           ∙ rw (← long) (set-append-seam head (getD out (length head) 0) (drop (suc (length head)) out) 10)
           ∙ ap (λ (k : ℕ). head ++ (10 ∷ drop (suc k) out)) long
           ∙ sym (append-snoc head 10 (drop (suc r) out))
@@ -135,7 +131,7 @@ put-after text piece out before now at r e f p =
 
 -- ---- the levels, one after the other
 
-pub levels-append : (d : ℕ) (xs ys : List ℕ) → levelsFrom d (xs ++ ys) ≡ levelsFrom d xs ++ levelsFrom (d + length xs) ys
+levels-append : (d : ℕ) (xs ys : List ℕ) → levelsFrom d (xs ++ ys) ≡ levelsFrom d xs ++ levelsFrom (d + length xs) ys
 unfolding levelsFrom
 levels-append d [] ys = ap (λ (k : ℕ). levelsFrom k ys) (sym (add-zero d))
 levels-append d (x ∷ xs) ys =

@@ -13,21 +13,27 @@ use lib.IntN.{ℤ, pos}
 use lib.ListN.{length, getD, take, drop, replicate}
 use Rattle.base.specs.Words.{unless}
 use Rattle.stacks.specs.Index.{paneWith}
-use Rattle.stacks.specs.Operations.{sizeRefusal, stacked}
+use Rattle.stacks.specs.Operations.{kindRefusal, stacked}
 use Rattle.stacks.specs.Stack.{isStack, stackCount}
 use Rattle.stacks.specs.declared.Stacked.{Stacked}
 use Rattle.search.specs.Segments.{isSegmentSize}
 use Rattle.frames.specs.Hex.{isPairs, bytesOf, numberOf}
 use Rattle.frames.specs.declared.First.{First}
 
--- the limits, named once: the characters of a frame, the most stacks that a report is made of, and C
-unfoldable pub frameLimit : ℕ
+-- the limits, named once: the characters of a frame and its bytes, the most stacks that a report is made of, the bytes of their table, and C
+abbrev pub frameLimit : ℕ
 frameLimit = 64
 
-unfoldable pub stackLimit : ℕ
+abbrev pub frameBytes : ℕ
+frameBytes = 32
+
+abbrev pub stackLimit : ℕ
 stackLimit = 46080
 
-unfoldable pub reportRoom : ℕ
+abbrev pub tableLimit : ℕ
+tableLimit = 11520
+
+abbrev pub reportRoom : ℕ
 reportRoom = 16
 
 unfoldable pub isFrame : List ℕ → Bool
@@ -61,7 +67,7 @@ fieldsRefusal kind n bs =
 
 unfoldable pub bytesRefusal : List ℕ → ℕ
 bytesRefusal bs =
-    unless (leb 2 (length bs)) 16 (sizeRefusal (kindIn bs) (panesIn bs) (fieldsRefusal (kindIn bs) (panesIn bs) bs))
+    unless (leb 2 (length bs)) 16 (kindRefusal (kindIn bs) (panesIn bs) (fieldsRefusal (kindIn bs) (panesIn bs) bs))
 
 unfoldable pub firstRefusal : List ℕ → ℕ
 firstRefusal cs = unless (isFrame cs) 16 (bytesRefusal (bytesOf cs))

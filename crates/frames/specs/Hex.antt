@@ -2,6 +2,7 @@
 --   isDigit c      c is one of 0 to 9 and a to f
 --   digitOf c      the value of a digit's character, 0 where it is none
 --   digitChar d    the character of a digit's value
+--   isByte b       a number that one byte says
 --   isPairs cs     a text is pairs of digits
 --   bytesOf cs     the bytes that pairs of digits say
 --   hexOf bs       the digits of bytes
@@ -23,6 +24,9 @@ digitOf c = cond (isDigit c) (cond (leb c 57) (c - 48) (c - 87)) 0
 
 unfoldable pub digitChar : ℕ → ℕ
 digitChar d = cond (ltb d 10) (d + 48) (d + 87)
+
+unfoldable pub isByte : ℕ → Bool
+isByte b = ltb b 256
 
 unfoldable pub isPairs : List ℕ → Bool
 isPairs cs = eqb (length cs % 2) 0 && all isDigit cs

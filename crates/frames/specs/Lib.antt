@@ -1,5 +1,7 @@
--- Hexadecimal text, lines, frames and the report's lines.
+-- Hexadecimal text, lines, frames and the report's lines; and what code's functions promise one another of lines and buffers.
 pub mod Hex
 pub mod Frame
 pub mod Lines
-pub mod Report
+pub mod Output
+pub mod Kept
+pub mod Written

@@ -3,12 +3,15 @@ ghost use mathlib.Core.Bool.{true};
 ghost use mathlib.Core.Path.{_≡_};
 ghost use Prim.Native.Nat.{_+_, _≤_};
 ghost use lib.ListN.{take, drop};
-ghost use Rattle.stacks.specs.Stack.{isSize};
-ghost use Rattle.frames.specs.Frame.{isFrame, paneOf, placesOf, fieldsRefusal, firstRefusal, firstOf, laterRefusal, laterOf};
+ghost use Rattle.stacks.specs.Stack.{isPaneCount};
+ghost use Rattle.frames.specs.Frame.{frameBytes, isFrame, paneOf, placesOf, fieldsRefusal, firstRefusal, firstOf, laterRefusal, laterOf};
 ghost use Rattle.frames.specs.Hex.{bytesOf};
-ghost use Rattle.frames.specs.Lines.{textOf};
+ghost use Rattle.frames.specs.Kept.{textOf};
+use crate::FRAME_LIMIT;
 use crate::First;
 use crate::Line;
+use crate::OVERLONG;
+use crate::STACK_LIMIT;
 use crate::hex;
 use perm::kind;
 use perm::operations;
@@ -16,12 +19,12 @@ use perm::valid;
 use stacks::Stacked;
 use twobit::segment;
 
-// At most 64 characters, pairs of digits.
-pub fn is_frame(line: Line) -> bool
+// Within the limit, and pairs of digits.
+pub(crate) fn is_frame(line: Line) -> bool
     ensures { λ r. ⌜ r ≡ isFrame (textOf line) ⌝ }
 {
     let length = line.length;
-    if length > 64 {
+    if length >= OVERLONG {
         return false;
     }
     if length % 2 != 0 {
@@ -32,7 +35,7 @@ pub fn is_frame(line: Line) -> bool
 }
 
 // The pane that a byte says: its number, coat down from 80 hexadecimal on.
-pub fn pane_of(byte: u8) -> i8
+pub(crate) fn pane_of(byte: u8) -> i8
     ensures { λ r. ⌜ r ≡ paneOf byte ⌝ }
 {
     let up = (byte % 128) as i8;
@@ -40,8 +43,8 @@ pub fn pane_of(byte: u8) -> i8
 }
 
 // The twelve places of the n panes that the bytes from byte i on say.
-pub fn places_at(chars: [u8; 64], i: usize, n: u8) -> [i8; 12]
-    requires { ⌜ (n ≤ 12) × (i + n ≤ 32) ⌝ }
+pub(crate) fn places_at(chars: [u8; FRAME_LIMIT], i: usize, n: u8) -> [i8; 12]
+    requires { ⌜ (n ≤ 12) × (i + n ≤ frameBytes) ⌝ }
     ensures { λ r. ⌜ r ≡ placesOf (take n (drop i (bytesOf chars))) ⌝ }
 {
     let top = n as usize;
@@ -55,8 +58,8 @@ pub fn places_at(chars: [u8; 64], i: usize, n: u8) -> [i8; 12]
 }
 
 // What is left to refuse in the first frame's bytes, of which there are count, after 1 and 2.
-pub fn fields_refusal(kind: u8, n: u8, chars: [u8; 64], count: u32) -> u8
-    requires { ⌜ (isSize kind n ≡ true) × (count ≤ 32) ⌝ }
+pub(crate) fn fields_refusal(kind: u8, n: u8, chars: [u8; FRAME_LIMIT], count: u32) -> u8
+    requires { ⌜ (isPaneCount kind n ≡ true) × (count ≤ frameBytes) ⌝ }
     ensures { λ r. ⌜ r ≡ fieldsRefusal kind n (take count (bytesOf chars)) ⌝ }
 {
     let panes = n as u32;
@@ -64,7 +67,7 @@ pub fn fields_refusal(kind: u8, n: u8, chars: [u8; 64], count: u32) -> u8
         return 16;
     }
     let stacks = kind::stack_count(kind, n);
-    if stacks > 46080 {
+    if stacks > STACK_LIMIT {
         return 16;
     }
     let wanted = places_at(chars, 2, n);
@@ -79,7 +82,7 @@ pub fn fields_refusal(kind: u8, n: u8, chars: [u8; 64], count: u32) -> u8
 }
 
 // The first frame's refusal, 0 for none.
-pub fn first_refusal(line: Line) -> u8
+pub(crate) fn first_refusal(line: Line) -> u8
     ensures { λ r. ⌜ r ≡ firstRefusal (textOf line) ⌝ }
 {
     if !is_frame(line) {
@@ -92,7 +95,7 @@ pub fn first_refusal(line: Line) -> u8
     let chars = line.chars;
     let kind = hex::byte_at(chars, 0);
     let n = hex::byte_at(chars, 1);
-    let refusal = operations::size_refusal(kind, n);
+    let refusal = operations::kind_refusal(kind, n);
     if refusal != 0 {
         return refusal;
     }
@@ -129,7 +132,7 @@ pub fn first_frame(line: Line) -> First
 }
 
 // A later frame's refusal, 0 for none. With more than twelve panes there is no stack.
-pub fn later_refusal(kind: u8, n: u8, line: Line) -> u8
+pub(crate) fn later_refusal(kind: u8, n: u8, line: Line) -> u8
     ensures { λ r. ⌜ r ≡ laterRefusal kind n (textOf line) ⌝ }
 {
     if !is_frame(line) {

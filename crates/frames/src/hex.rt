@@ -1,12 +1,14 @@
 // Hexadecimal digits and bytes, each way.
-ghost use mathlib.Core.List.{_++_};
 ghost use mathlib.Core.Path.{_≡_};
 ghost use Prim.Native.Nat.{_+_, _*_, _<_, _≤_};
 ghost use lib.ListN.{length, getD, take, drop};
 ghost use Rattle.base.specs.Words.{all};
+ghost use Rattle.frames.specs.Frame.{frameBytes, frameLimit};
 ghost use Rattle.frames.specs.Hex.{isDigit, digitOf, digitChar, bytesOf, hexOf, numberOf};
+ghost use Rattle.frames.specs.Written.{Put};
+use crate::FRAME_LIMIT;
 
-pub fn is_digit(c: u8) -> bool
+pub(crate) fn is_digit(c: u8) -> bool
     ensures { λ r. ⌜ r ≡ isDigit c ⌝ }
 {
     if c < b'0' {
@@ -21,7 +23,7 @@ pub fn is_digit(c: u8) -> bool
     c <= b'f'
 }
 
-pub fn digit_of(c: u8) -> u8
+pub(crate) fn digit_of(c: u8) -> u8
     ensures { λ r. ⌜ r ≡ digitOf c ⌝ }
 {
     if !is_digit(c) {
@@ -30,7 +32,7 @@ pub fn digit_of(c: u8) -> u8
     if c <= b'9' { c - 48 } else { c - 87 }
 }
 
-pub fn digit_char(d: u8) -> u8
+pub(crate) fn digit_char(d: u8) -> u8
     requires { ⌜ d < 16 ⌝ }
     ensures { λ r. ⌜ r ≡ digitChar d ⌝ }
 {
@@ -38,8 +40,8 @@ pub fn digit_char(d: u8) -> u8
 }
 
 // Whether the first count characters are digits.
-pub fn all_digits(chars: [u8; 64], count: u32) -> bool
-    requires { ⌜ count ≤ 64 ⌝ }
+pub(crate) fn all_digits(chars: [u8; FRAME_LIMIT], count: u32) -> bool
+    requires { ⌜ count ≤ frameLimit ⌝ }
     ensures { λ r. ⌜ r ≡ all isDigit (take count chars) ⌝ }
 {
     let end = count as usize;
@@ -54,16 +56,16 @@ pub fn all_digits(chars: [u8; 64], count: u32) -> bool
 }
 
 // Byte i of the pairs.
-pub fn byte_at(chars: [u8; 64], i: usize) -> u8
-    requires { ⌜ i < 32 ⌝ }
+pub(crate) fn byte_at(chars: [u8; FRAME_LIMIT], i: usize) -> u8
+    requires { ⌜ i < frameBytes ⌝ }
     ensures { λ r. ⌜ r ≡ getD (bytesOf chars) i 0 ⌝ }
 {
     digit_of(chars[2 * i]) * 16 + digit_of(chars[2 * i + 1])
 }
 
 // The number in the four bytes from byte i on, high byte first.
-pub fn number_at(chars: [u8; 64], i: usize) -> u32
-    requires { ⌜ i + 4 ≤ 32 ⌝ }
+pub(crate) fn number_at(chars: [u8; FRAME_LIMIT], i: usize) -> u32
+    requires { ⌜ i + 4 ≤ frameBytes ⌝ }
     ensures { λ r. ⌜ r ≡ numberOf (take 4 (drop i (bytesOf chars))) ⌝ }
 {
     let a = byte_at(chars, i) as u32;
@@ -74,9 +76,9 @@ pub fn number_at(chars: [u8; 64], i: usize) -> u32
 }
 
 // The digits of bytes, from place at on. The answer is the place after them.
-pub fn put_bytes(out: &mut [u8], at: usize, bytes: &[u8]) -> usize
+pub(crate) fn put_bytes(out: &mut [u8], at: usize, bytes: &[u8]) -> usize
     requires { ⌜ at + 2 * length (now bytes) ≤ length (now out) ⌝ }
-    ensures { λ r. ⌜ (r ≡ at + 2 * length (now (bytes .entry))) × (now (out .exit) ≡ take at (now (out .entry)) ++ hexOf (now (bytes .entry)) ++ drop (at + 2 * length (now (bytes .entry))) (now (out .entry))) ⌝ }
+    ensures { λ r. ⌜ Put (hexOf (now (bytes .entry))) at (now (out .entry)) (now (out .exit)) r ⌝ }
 {
     let mut i = 0;
     while i < bytes.len() {

@@ -1,12 +1,30 @@
 // Code: hexadecimal lines to frames and back, and the report's lines.
 pub mod frame;
-pub mod hex;
+mod hex;
 pub mod lines;
-pub mod report;
+pub mod output;
 
-// A line in the making: its first 64 characters, and its length, which stops at 65.
+// The characters of a frame.
+pub(crate) const FRAME_LIMIT: usize = 64;
+
+// The length at which a line of more characters is left.
+pub(crate) const OVERLONG: u32 = FRAME_LIMIT as u32 + 1;
+
+// The most stacks that a report is made of.
+pub const STACK_LIMIT: u32 = 46080;
+
+// C, the places of a log.
+pub const REPORT_ROOM: u32 = 16;
+
+// The bytes of the table of the most stacks.
+pub const TABLE_LIMIT: usize = 11520;
+
+// The room that a lent text has: 32 levels of 11 characters, ff and the deepest take 357.
+pub const TEXT_LIMIT: usize = 512;
+
+// A line in the making: its first FRAME_LIMIT characters, and its length, which stops at OVERLONG.
 pub struct Line {
-    pub chars: [u8; 64],
+    pub chars: [u8; FRAME_LIMIT],
     pub length: u32,
 }
 

@@ -1,27 +1,32 @@
 // The line in the making.
 ghost use mathlib.Core.Path.{_≡_};
-ghost use Rattle.frames.specs.Lines.{newLine, pushed};
+ghost use Rattle.frames.specs.Kept.{newLine, pushed};
+use crate::FRAME_LIMIT;
 use crate::Line;
+use crate::OVERLONG;
 
 pub fn new_line() -> Line
     ensures { λ r. ⌜ r ≡ newLine ⌝ }
 {
-    let chars = [0u8; 64];
+    let chars = [0u8; FRAME_LIMIT];
     Line { chars, length: 0 }
 }
 
-// One character more. Past 64 there is only the length, which says so.
+// One character more. Past the limit there is only the length, which says so.
 pub fn push(line: Line, byte: u8) -> Line
     ensures { λ r. ⌜ r ≡ pushed line byte ⌝ }
 {
     let at = line.length as usize;
     let mut chars = line.chars;
-    if at < 64 {
+    if at < FRAME_LIMIT {
         chars[at] = byte;
         return Line {
             chars,
             length: line.length + 1,
         };
     }
-    Line { chars, length: 65 }
+    Line {
+        chars,
+        length: OVERLONG,
+    }
 }

@@ -1,16 +1,14 @@
 -- Counting what a level has found: one more for each marked vertex, all of its depth when it closes. A test f picks what is counted.
 use mathlib.Core.Path.{_≡_, refl, sym, ap, _∙_}
 use mathlib.Core.Logic.{_⊎_, inl, inr}
-use mathlib.Core.Bool.{Bool, true, false, not, _&&_, cond, and-true, and-false}
+use mathlib.Core.Bool.{Bool, false, not, _&&_, cond, and-true, and-false}
 use mathlib.Core.List.{List}
 use Prim.Native.Nat.{ℕ, suc, _+_, _%_, _<_, _≤_}
 use native.Mathlib.Omega.{arith}
 use lib.Dec.{eqb}
-use borrow.Author.Tests.{eqb-true, eq-eqb, ne-eqb}
+use borrow.Author.Tests.{eq-eqb, ne-eqb}
 use Rattle.base.specs.Words.{tally, from}
-use Rattle.base.proofs.Tests.{same-test, eq-or-ne}
-use Rattle.graph.specs.Walks.{Fewest, dist}
-use Rattle.graph.proofs.Distance.{dist-fewest, fewest-dist}
+use Rattle.base.proofs.Tests.{eq-or-ne}
 use Rattle.graph.proofs.Tally.{tally-same, tally-none, tally-change}
 use Rattle.graph.proofs.Depths.{Depths}
 use Rattle.graph.proofs.Levels.{Level, Marked, Reached, unseen-depth, level-found}
@@ -36,11 +34,6 @@ module _ (f : ℕ → Bool) (D : ℕ → ℕ) (d v : ℕ) where
   depth-is-not h = ap (λ (t : Bool). f v && t) (ne-eqb (D v) d h) ∙ and-false (f v)
 
 module _ (f : ℕ → Bool) (N : ℕ) (D : ℕ → ℕ) (d : ℕ) (e : ℕ → ℕ) where
-  pub found-same : (e′ : ℕ → ℕ) → ((v : ℕ) → v < N → e′ v ≡ e v) → tally (found f D d e′) (from 0 N) ≡ tally (found f D d e) (from 0 N)
-  unfolding found
-  found-same e′ same =
-      tally-same (found f D d e′) (found f D d e) N (λ v h. ap (λ (x : ℕ). (f v && eqb (D v) d) && not (eqb x 3)) (same v h))
-
   found-none : ((v : ℕ) → v < N → D v ≡ d → e v ≡ 3) → tally (found f D d e) (from 0 N) ≡ 0
   found-none blank = tally-none (found f D d e) N (λ v h. go v h (eq-or-ne (e v) 3))
     where
@@ -106,19 +99,3 @@ module _ (f : ℕ → Bool) {N d : ℕ} {D e : ℕ → ℕ} {H : ℕ → ℕ →
       go v h (inl i) =
           found-unseen f D d e v i ∙ sym (depth-is-not f D d v (λ j. omega (arith, level-found level none reached v h j)))
       go v h (inr i) = found-seen f D d e v i
-
--- any test that decides "the fewest moves to w are d" gives the count at depth d
-pub count-fewest : (moves : List ℕ) (step : ℕ → ℕ → ℕ) (w b d N : ℕ) (f test : ℕ → Bool) → d < b
-    → ((v : ℕ) → v < N → test v ≡ true → Fewest moves step v w d)
-    → ((v : ℕ) → v < N → Fewest moves step v w d → test v ≡ true)
-    → tally (λ v. f v && test v) (from 0 N) ≡ tally (λ v. f v && eqb (dist moves step w b v) d) (from 0 N)
-count-fewest moves step w b d N f test l sound complete =
-    tally-same (λ v. f v && test v) (λ v. f v && eqb (dist moves step w b v) d) N (λ v h. ap (λ (t : Bool). f v && t) (same v h))
-  where
-    same : (v : ℕ) → v < N → test v ≡ eqb (dist moves step w b v) d
-    same v h =
-        same-test
-        (test v)
-        (eqb (dist moves step w b v) d)
-        (λ e. eq-eqb (dist moves step w b v) d (omega (arith, fewest-dist moves step w b v d (sound v h e))))
-        (λ e. complete v h (dist-fewest moves step w b v d l (eqb-true (dist moves step w b v) d e)))

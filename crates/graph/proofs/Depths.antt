@@ -1,14 +1,11 @@
 -- The depth of a vertex: all that a search needs to know of distances to w, cut at b. Any such D will do, and `dist` is one.
 use mathlib.Core.Path.{_≡_}
-use mathlib.Core.Logic.{_⊎_, inl, inr}
 use mathlib.Core.Bool.{true}
 use mathlib.Core.List.{List}
 use Prim.Native.Nat.{ℕ, zero, suc, _+_, _-_, _%_, _<_, _≤_}
 use native.Mathlib.Omega.{arith}
-use lib.ListN.{length}
-use Rattle.base.proofs.Tests.{lt-or-ge}
-use Rattle.graph.specs.Walks.{isMove, Walk, Graph, dist}
-use Rattle.graph.proofs.Distance.{dist-le, dist-goal, dist-zero, dist-cut, dist-step, dist-grows, nearer, walk-dist}
+use Rattle.graph.specs.Walks.{isMove, Graph, dist}
+use Rattle.graph.proofs.Distance.{dist-le, dist-goal, dist-zero, dist-step, dist-grows, nearer}
 
 pub record Depths (N : ℕ) (moves : List ℕ) (step : ℕ → ℕ → ℕ) (w b : ℕ) (D : ℕ → ℕ) : Type 0 where
   pub graph : Graph N moves step
@@ -46,18 +43,3 @@ module _ {N : ℕ} {moves : List ℕ} {step : ℕ → ℕ → ℕ} {w b : ℕ} {
   -- depths modulo 3 tell a child that is one nearer from every other child
   pub nearer-label : (k v : ℕ) → isMove moves k ≡ true → v < N → D (step k v) % 3 ≡ (D v + 2) % 3 → suc (D (step k v)) ≡ D v
   nearer-label k v m h e = omega (arith, depths .falls k v m, depths .grows k v m h)
-
--- where depth d is empty every vertex with a walk to w, of any length, lies above it
-pub walk-below : {N : ℕ} {moves : List ℕ} {step : ℕ → ℕ → ℕ} → Graph N moves step → (w b d : ℕ) → d < b
-    → ((u : ℕ) → u < N → dist moves step w b u ≡ d → ⊥)
-    → (v : ℕ) (ks : List ℕ) → v < N → Walk moves step ks v w → dist moves step w b v < d
-walk-below {N} {moves} {step} laws w b d l empty v ks h r = go (lt-or-ge (dist moves step w (b + suc (length ks)) v) d)
-  where
-    c : ℕ
-    c = b + suc (length ks)
-
-    go : (dist moves step w c v < d) ⊎ (d ≤ dist moves step w c v) → dist moves step w b v < d
-    go (inl k) = omega (arith, dist-cut moves step w b c v (omega arith))
-    go (inr k) =
-        let u = between (dist-depths laws w c (omega arith)) v d h k (omega (arith, walk-dist moves step w c ks v r)) in
-        absurd (empty (u .0) (u .1) (omega (arith, dist-cut moves step w b c (u .0) (omega arith))))

@@ -1,15 +1,15 @@
 -- Laws of `dist`: it is the length of a shortest walk, cut at the bound, and it changes by at most one along a move.
-use mathlib.Core.Path.{_≡_, refl, sym, ap, subst}
+use mathlib.Core.Path.{_≡_, refl, ap, subst}
 use mathlib.Core.Logic.{_⊎_, inl, inr}
 use mathlib.Core.Bool.{Bool, true, cond, false≢true}
-use mathlib.Core.List.{List, [], _∷_, _++_}
-use Prim.Native.Nat.{ℕ, zero, suc, _+_, _<_, _≤_, min}
+use mathlib.Core.List.{List, [], _∷_}
+use Prim.Native.Nat.{ℕ, zero, suc, _<_, _≤_, min}
 use native.Mathlib.Omega.{arith}
-use lib.ListN.{length, length-append}
+use lib.ListN.{length}
 use borrow.Author.Tests.{eq-eqb, ne-eqb}
 use Rattle.base.specs.Words.{all}
 use Rattle.base.proofs.Tests.{and-left, and-right, and-both, lt-or-ge, eq-or-ne}
-use Rattle.graph.specs.Walks.{walk, isMove, Walk, Fewest, Graph, least, dist}
+use Rattle.graph.specs.Walks.{walk, isMove, Walk, Graph, least, dist}
 use Rattle.graph.proofs.Moves.{isMove-cases, isMove-first, isMove-rest}
 
 least-le : (f : ℕ → ℕ) (c : ℕ) (ks : List ℕ) → least f c ks ≤ c
@@ -61,11 +61,6 @@ module _ (moves : List ℕ) (step : ℕ → ℕ → ℕ) where
   pub walk-more : (k : ℕ) (ks : List ℕ) (v w : ℕ) → isMove moves k ≡ true → Walk moves step ks (step k v) w → Walk moves step (k ∷ ks) v w
   unfolding all walk
   walk-more k ks v w m r = record { each = and-both (isMove moves k) (all (isMove moves) ks) m (r .each); arrives = r .arrives }
-
-  pub walk-append : (ks ls : List ℕ) (u v w : ℕ) → Walk moves step ks u v → Walk moves step ls v w → Walk moves step (ks ++ ls) u w
-  walk-append [] ls u v w r t = subst (λ (x : ℕ). Walk moves step ls x w) (sym (walk-none-end u v r)) t
-  walk-append (k ∷ ks) ls u v w r t =
-      walk-more k (ks ++ ls) u w (walk-first k ks u v r) (walk-append ks ls (step k u) v w (walk-rest k ks u v r) t)
 
   module _ (w : ℕ) where
     -- the two cases of the definition
@@ -164,71 +159,9 @@ module _ (moves : List ℕ) (step : ℕ → ℕ → ℕ) where
             let r = go d (step (n .0) v) (omega arith) (omega arith) in
             (n .0 ∷ r .0, walk-more (n .0) (r .0) v w (n .1) (r .1), omega arith)
 
-    pub dist-fewest : (b v d : ℕ) → d < b → dist moves step w b v ≡ d → Fewest moves step v w d
-    dist-fewest b v d h e =
-        let r = dist-walk b v (omega arith) in
-        record { road = r .0; walks = r .1; long = omega arith; shortest = λ ks t. omega (arith, walk-dist b ks v t) }
-
-    pub fewest-dist : (b v d : ℕ) → Fewest moves step v w d → dist moves step w b v ≡ min b d
-    fewest-dist b v d f = go (lt-or-ge (dist moves step w b v) b)
-      where
-        go : (dist moves step w b v < b) ⊎ (b ≤ dist moves step w b v) → dist moves step w b v ≡ min b d
-        go (inl h) =
-            let r = dist-walk b v h in
-            omega (arith, dist-le b v, walk-dist b (f .road) v (f .walks), f .shortest (r .0) (r .1))
-        go (inr h) = omega (arith, dist-le b v, walk-dist b (f .road) v (f .walks))
-
-  -- going by a third vertex is never shorter
-  pub dist-triangle : (b u v w : ℕ) → dist moves step w b u ≤ dist moves step v b u + dist moves step w b v
-  dist-triangle b u v w = go (lt-or-ge (dist moves step v b u) b) (lt-or-ge (dist moves step w b v) b)
-    where
-      go : (dist moves step v b u < b) ⊎ (b ≤ dist moves step v b u) → (dist moves step w b v < b) ⊎ (b ≤ dist moves step w b v)
-          → dist moves step w b u ≤ dist moves step v b u + dist moves step w b v
-      go (inl h) (inl k) =
-          let r = dist-walk v b u h in
-          let t = dist-walk w b v k in
-          omega (arith, length-append (r .0) (t .0), walk-dist w b (r .0 ++ t .0) u (walk-append (r .0) (t .0) u v w (r .1) (t .1)))
-      go (inl h) (inr k) = omega (arith, dist-le w b u)
-      go (inr h) (inl k) = omega (arith, dist-le w b u)
-      go (inr h) (inr k) = omega (arith, dist-le w b u)
-
 module _ {N : ℕ} {moves : List ℕ} {step : ℕ → ℕ → ℕ} (laws : Graph N moves step) where
-  pub walk-inside : (ks : List ℕ) (v w : ℕ) → v < N → Walk moves step ks v w → w < N
-  walk-inside [] v w h r = subst (λ (x : ℕ). x < N) (walk-none-end moves step v w r) h
-  walk-inside (k ∷ ks) v w h r =
-      walk-inside ks (step k v) w (laws .inside k v (walk-first moves step k ks v w r) h) (walk-rest moves step k ks v w r)
-
-  -- a walk can be gone back, in as many moves
-  pub walk-back : (ks : List ℕ) (v w : ℕ) → v < N → Walk moves step ks v w
-      → (ls : List ℕ) × (Walk moves step ls w v) × (length ls ≡ length ks)
-  walk-back [] v w h r = ([], subst (λ (x : ℕ). Walk moves step [] w x) (sym (walk-none-end moves step v w r)) (walk-none moves step w), refl)
-  walk-back (k ∷ ks) v w h r =
-      let m = walk-first moves step k ks v w r in
-      let t = walk-back ks (step k v) w (laws .inside k v m h) (walk-rest moves step k ks v w r) in
-      let u = laws .undone k v m h in
-      let last : Walk moves step (u .0 ∷ []) (step k v) v =
-      walk-more moves step (u .0) [] (step k v) v (u .1) (subst (λ (x : ℕ). Walk moves step [] x v) (sym (u .2)) (walk-none moves step v)) in (
-        t .0 ++ (u .0 ∷ []),
-        walk-append moves step (t .0) (u .0 ∷ []) w (step k v) v (t .1) last,
-        omega (arith, length-append (t .0) (u .0 ∷ [])),
-      )
-
   -- along a move the distance grows by at most one
   pub dist-grows : (w b k v : ℕ) → isMove moves k ≡ true → v < N → dist moves step w b (step k v) ≤ suc (dist moves step w b v)
   dist-grows w b k v m h =
       let u = laws .undone k v m h in
       omega (arith, dist-step moves step w b (u .0) (step k v) (u .1), ap (dist moves step w b) (u .2))
-
-  dist-return : (b v w : ℕ) → w < N → dist moves step w b v ≤ dist moves step v b w
-  dist-return b v w h = go (lt-or-ge (dist moves step v b w) b)
-    where
-      go : (dist moves step v b w < b) ⊎ (b ≤ dist moves step v b w) → dist moves step w b v ≤ dist moves step v b w
-      go (inl k) =
-          let r = dist-walk moves step v b w k in
-          let t = walk-back (r .0) w v h (r .1) in
-          omega (arith, walk-dist moves step w b (t .0) v (t .1))
-      go (inr k) = omega (arith, dist-le moves step w b v)
-
-  -- there and back are equally far
-  pub dist-symmetric : (b v w : ℕ) → v < N → w < N → dist moves step w b v ≡ dist moves step v b w
-  dist-symmetric b v w h k = omega (arith, dist-return b v w k, dist-return b w v h)

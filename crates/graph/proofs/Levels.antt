@@ -61,14 +61,6 @@ module _ {N d : ℕ} {D e : ℕ → ℕ} {H : ℕ → ℕ → Type 0} {L : ℕ �
       go (inl k) = (k, sym (level .below u h k) ∙ i)
       go (inr k) = absurd (high (level .above u h k))
 
-  -- it lies in the level before, or three or more levels higher up
-  pub expanded-depth : (u : ℕ) → u < N → e u ≡ (d - 1) % 3 → (suc (D u) ≡ d) ⊎ (D u + 4 ≤ d)
-  expanded-depth u h i = go (lt-or-ge (suc (D u)) d)
-    where
-      go : (suc (D u) < d) ⊎ (d ≤ suc (D u)) → (suc (D u) ≡ d) ⊎ (D u + 4 ≤ d)
-      go (inl k) = inr (omega (arith, expanded-below u h i))
-      go (inr k) = inl (omega (arith, expanded-below u h i))
-
   -- any number of unseen vertices no deeper than d may be marked at once
   pub level-marks : {e′ : ℕ → ℕ} → ((u : ℕ) → u < N → (e′ u ≡ e u) ⊎ ((e u ≡ 3) × (D u ≤ d) × (e′ u ≡ d % 3))) → Level N D d e′ H L
   level-marks {e′} marks =
@@ -101,9 +93,6 @@ module _ {N d : ℕ} {D e : ℕ → ℕ} {H : ℕ → ℕ → Type 0} {L : ℕ �
       go u h (inl i) (inl j) = inr (ap e i ∙ j, omega (arith, ap D i), ap e′ i ∙ m .unseen j)
       go u h (inl i) (inr j) = inl (marked-seen m j u h)
       go u h (inr i) j = inl (m .others u h i)
-
-  pub level-same : {e′ : ℕ → ℕ} → ((u : ℕ) → u < N → e′ u ≡ e u) → Level N D d e′ H L
-  level-same same = level-marks (λ u h. inl (same u h))
 
   -- the log may change, if it stays no deeper than d and keeps what is unseen
   pub level-relog : {L′ : ℕ → Type 0} → ((v : ℕ) → L′ v → (v < N) × (D v ≤ d)) → ((v : ℕ) → v < N → e v ≡ 3 → L v → L′ v) → Level N D d e H L′
@@ -194,25 +183,10 @@ module _ {N : ℕ} {moves : List ℕ} {step : ℕ → ℕ → ℕ} {w b : ℕ} {
           let s : suc (D u) ≡ d = c .2 ∙ i in
           (u, low, s, subst (λ (x : ℕ). H u x) (back .2) (all u (back .0) low s (back .1)))
 
-  -- a level searched in reverse looks at every move of every vertex of the level itself
-  pub reached-reverse : {d : ℕ} {H : ℕ → ℕ → Type 0} → 0 < d → d < b
-      → ((v k : ℕ) → v < N → D v ≡ d → isMove moves k ≡ true → suc (D (step k v)) ≡ d → H (step k v) v) → Reached N D d H
-  reached-reverse {d} {H} g l all = record { edge = find }
-    where
-      find : (v : ℕ) → v < N → D v ≡ d → (u : ℕ) × (u < N) × (suc (D u) ≡ d) × (H u v)
-      find v h i =
-          let c = depths .closer v (omega arith) (omega arith) in
-          let s : suc (D (step (c .0) v)) ≡ d = c .2 ∙ i in
-          (step (c .0) v, depths .graph .inside (c .0) v (c .1) h, s, all v (c .0) h i (c .1) s)
-
   module _ {d : ℕ} {e : ℕ → ℕ} {H : ℕ → ℕ → Type 0} {L : ℕ → Type 0} (level : Level N D d e H L) where
     -- a child of an expanded vertex is no deeper than d
     pub child-near : (u k : ℕ) → u < N → e u ≡ (d - 1) % 3 → isMove moves k ≡ true → D (step k u) ≤ d
     child-near u k h i m = omega (arith, depths .grows k u m h, expanded-below level u h i)
-
-    -- nor is a vertex with a child that was expanded
-    pub parent-near : (v k : ℕ) → v < N → e (step k v) ≡ (d - 1) % 3 → isMove moves k ≡ true → D v ≤ d
-    parent-near v k h i m = omega (arith, depths .falls k v m, expanded-below level (step k v) (depths .graph .inside k v m h) i)
 
     -- a vertex expanded again, three or more levels later, brings only seen children
     pub expanded-again : (u k : ℕ) → u < N → D u + 2 ≤ d → isMove moves k ≡ true → e (step k u) ≡ 3 → ⊥

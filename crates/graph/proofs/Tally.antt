@@ -2,16 +2,17 @@
 use mathlib.Core.Path.{_≡_, refl, sym, ap, _∙_}
 use mathlib.Core.Logic.{_⊎_, inl, inr}
 use mathlib.Core.Bool.{Bool, true, false, not, _&&_, and-true, cond}
-use lib.Dec.{eqb}
-use borrow.Author.Tests.{eq-eqb, ne-eqb}
-use mathlib.Core.List.{List, _∷_, _++_}
-use Prim.Native.Nat.{ℕ, zero, suc, _+_, _<_, _≤_}
+use lib.Dec.{ltb, eqb}
+use borrow.Author.Tests.{lt-ltb, le-ltb, eq-eqb, ne-eqb}
+use mathlib.Core.List.{List, _∷_, _++_, map}
+use Prim.Native.Nat.{ℕ, zero, suc, _+_, _<_, _≤_, zero-le}
 use native.Mathlib.Nat.{zero-add, add-zero, add-suc, suc-add}
 use native.Mathlib.Numerals.{add-one}
 use native.Mathlib.Omega.{arith}
-use Rattle.base.specs.Words.{tally, from}
-use Rattle.base.proofs.Tests.{and-both, and-fails-right, never, test-cases, not-is-false, eq-or-ne}
-use Rattle.base.proofs.Counting.{tally-append, tally-mono}
+use Rattle.base.specs.Words.{tally, total, from}
+use Rattle.base.proofs.Tests.{and-both, and-fails-right, never, test-cases, not-is-false, lt-or-ge, eq-or-ne}
+use Rattle.base.proofs.Counting.{tally-append, tally-mono, total-append}
+use Rattle.base.proofs.Lists.{map-append}
 
 pub from-split : (a m n : ℕ) → from a (m + n) ≡ from a m ++ from (a + m) n
 unfolding from
@@ -121,3 +122,49 @@ tally-falls p q n v h e i less =
           (ap not (ne-eqb u v (λ s. never t (ap p s ∙ e)))))
           (from 0 n),
     )
+
+pub tally-all : (p : ℕ → Bool) (n : ℕ) → ((v : ℕ) → v < n → p v ≡ true) → tally p (from 0 n) ≡ n
+unfolding tally from
+tally-all p zero h = refl
+tally-all p (suc n) h = omega (arith, tally-last p n, cond-is (h n (omega arith)), tally-all p n (λ v k. h v (omega arith)))
+
+-- a test that holds where exactly one of two does counts as both
+tally-sum : (p q r : ℕ → Bool) (n : ℕ) → ((v : ℕ) → cond {A = ℕ} (r v) 1 0 ≡ cond (p v) 1 0 + cond (q v) 1 0)
+    → tally r (from 0 n) ≡ tally p (from 0 n) + tally q (from 0 n)
+unfolding tally from
+tally-sum p q r zero h = refl
+tally-sum p q r (suc n) h = omega (arith, tally-last p n, tally-last q n, tally-last r n, h n, tally-sum p q r n h)
+
+-- a number below m + 1 is below m or is m
+below-next : (x m : ℕ) → cond {A = ℕ} (ltb x (suc m)) 1 0 ≡ cond (ltb x m) 1 0 + cond (eqb x m) 1 0
+below-next x m = go (lt-or-ge x m) (eq-or-ne x m)
+  where
+    above : (x ≡ m → ⊥) → m ≤ x → suc m ≤ x
+    above ne l = step (lt-or-ge m x)
+      where
+        step : (m < x) ⊎ (x ≤ m) → suc m ≤ x
+        step (inl h) = omega arith
+        step (inr h) = absurd (ne (omega arith))
+
+    go : (x < m) ⊎ (m ≤ x) → (x ≡ m) ⊎ (x ≡ m → ⊥) → cond {A = ℕ} (ltb x (suc m)) 1 0 ≡ cond (ltb x m) 1 0 + cond (eqb x m) 1 0
+    go (inl l) e = rw (lt-ltb x m l, lt-ltb x (suc m) (omega arith), ne-eqb x m (λ q. omega arith))
+    go (inr l) (inl e) = rw (le-ltb x m l, lt-ltb x (suc m) (omega arith), eq-eqb x m e)
+    go (inr l) (inr ne) = rw (le-ltb x m l, le-ltb x (suc m) (above ne l), ne-eqb x m ne)
+
+total-last : (f : ℕ → ℕ) (m : ℕ) → total (map f (from 0 (suc m))) ≡ total (map f (from 0 m)) + f m
+unfolding total from
+total-last f m =
+    ap (λ (k : ℕ). total (map f (from 0 k))) (sym (add-one m))
+    ∙ ap (λ (l : List ℕ). total (map f l)) (from-split 0 m 1)
+    ∙ ap total (map-append f (from 0 m) (from (0 + m) 1))
+    ∙ total-append (map f (from 0 m)) (map f (from (0 + m) 1))
+    ∙ ap (λ (x : ℕ). total (map f (from 0 m)) + x) (add-zero (f (0 + m)) ∙ ap f (zero-add m))
+
+-- the tallies of the values 0 to m - 1 add up to that of all values below m
+pub tally-values : (D : ℕ → ℕ) (n m : ℕ) → total (map (λ d. tally (λ v. eqb (D v) d) (from 0 n)) (from 0 m)) ≡ tally (λ v. ltb (D v) m) (from 0 n)
+unfolding total from
+tally-values D n zero = sym (tally-none (λ v. ltb (D v) 0) n (λ v h. le-ltb (D v) 0 zero-le))
+tally-values D n (suc m) =
+    total-last (λ d. tally (λ v. eqb (D v) d) (from 0 n)) m
+    ∙ ap (λ (x : ℕ). x + tally (λ v. eqb (D v) m) (from 0 n)) (tally-values D n m)
+    ∙ sym (tally-sum (λ v. ltb (D v) m) (λ v. eqb (D v) m) (λ v. ltb (D v) (suc m)) n (λ v. below-next (D v) m))

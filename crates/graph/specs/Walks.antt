@@ -2,16 +2,14 @@
 --   walk step ks v             where the moves ks, made in order, take v
 --   isMove moves k             k is in the list of moves
 --   Walk moves step ks v w     ks are moves, and they take v to w
---   Fewest moves step v w d    some walk from v to w has d moves, and none has fewer
 --   Graph N moves step         moves stay below N, and each is undone by some move, not always by itself
 --   least f c ks               the least of c and of f at each of ks
 --   dist moves step w b v      the fewest moves from v to w, cut at b: a vertex with no walk to w has b
 use mathlib.Core.Path.{_≡_}
 use mathlib.Core.Bool.{Bool, true, false, _||_, cond}
 use mathlib.Core.List.{List, [], _∷_}
-use Prim.Native.Nat.{ℕ, zero, suc, _<_, _≤_, min}
+use Prim.Native.Nat.{ℕ, zero, suc, _<_, min}
 use lib.Dec.{eqb}
-use lib.ListN.{length}
 use Rattle.base.specs.Words.{all}
 
 unfoldable pub walk : (ℕ → ℕ → ℕ) → List ℕ → ℕ → ℕ
@@ -25,12 +23,6 @@ isMove (m ∷ ms) k = eqb k m || isMove ms k
 pub record Walk (moves : List ℕ) (step : ℕ → ℕ → ℕ) (ks : List ℕ) (v w : ℕ) : Type 0 where
   pub each : all (isMove moves) ks ≡ true
   pub arrives : walk step ks v ≡ w
-
-pub record Fewest (moves : List ℕ) (step : ℕ → ℕ → ℕ) (v w d : ℕ) : Type 0 where
-  pub road : List ℕ
-  pub walks : Walk moves step road v w
-  pub long : length road ≡ d
-  pub shortest : (ks : List ℕ) → Walk moves step ks v w → d ≤ length ks
 
 pub record Graph (N : ℕ) (moves : List ℕ) (step : ℕ → ℕ → ℕ) : Type 0 where
   pub inside : (k v : ℕ) → isMove moves k ≡ true → v < N → step k v < N

@@ -1,4 +1,4 @@
--- Laws of the mirror and of Look's part, then what the proofs of the calls share.
+-- Laws of the mirror, of what is refused and of Look's part, then what the proofs of the calls share.
 pub mod MirrorLaws
 pub mod Refused
 pub mod LookLaws

@@ -8,10 +8,9 @@ use lib.ListN.{length, take, drop}
 use borrow.Author.Tests.{ne-eqb}
 use Rattle.search.specs.JobState.{waitingOf}
 use Rattle.search.specs.Look.{lookOf}
-use Rattle.search.specs.Segments.{logPart}
-use Rattle.search.specs.Settle.{pending}
+use Rattle.search.specs.Logs.{logPart, pending}
 use Rattle.search.specs.declared.Job.{Job}
-use Rattle.hokrund.specs.Mirror.{lookedOf}
+use Rattle.hokrund.specs.Mirror.{lookedOf, lookedAt}
 use Rattle.hokrund.specs.declared.mirror.HokrundLook.{HokrundLook}
 
 -- as many elements as the front has are the front
@@ -28,20 +27,20 @@ module _ (job : Job) (j : ℕ) (log part : List ℕ) (n : ℕ) (e : _≡_ {A = L
   -- what start and length say, where it is the part
   same : (xs : List ℕ) (n′ start : ℕ) → xs ≡ part → n′ ≡ n → start ≡ cond (eqb n 0) (j * job .room) 0
       → _≡_ {A = List ℕ × HokrundLook} (xs, record { refusal = n′; start = start; length = length part })
-      (lookOf job j log .0, lookedOf (j * job .room) (lookOf job j log))
+      (lookedAt (j * job .room) (lookOf job j log))
   unfolding lookedOf
-  same xs n′ start a b c = rw a (rw b (rw c (ap (λ (o : List ℕ × ℕ). (o .0, lookedOf (j * job .room) o)) e)))
+  same xs n′ start a b c = rw a (rw b (rw c (ap (lookedAt (j * job .room)) e)))
 
   pub looked : n ≡ 0
       → _≡_ {A = List ℕ × HokrundLook} (take (length part) (drop (j * job .room) log), record { refusal = 0; start = j * job .room; length = length part })
-      (lookOf job j log .0, lookedOf (j * job .room) (lookOf job j log))
+      (lookedAt (j * job .room) (lookOf job j log))
   looked h =
       let whole : part ≡ take (waitingOf job j) (drop (j * job .room) log) = part-is ∙ rw h refl in
       same _ 0 _ (rw whole (take-again (waitingOf job j) (drop (j * job .room) log))) (sym h) (rw h refl)
 
   pub not-looked : (n ≡ 0 → ⊥)
       → _≡_ {A = List ℕ × HokrundLook} (take (length part) log, record { refusal = n; start = 0; length = length part })
-      (lookOf job j log .0, lookedOf (j * job .room) (lookOf job j log))
+      (lookedAt (j * job .room) (lookOf job j log))
   not-looked h =
       let none : part ≡ [] = part-is ∙ rw (ne-eqb n 0 h) refl in
       same _ n 0 (rw none refl) refl (rw (ne-eqb n 0 h) refl)

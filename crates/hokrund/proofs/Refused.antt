@@ -3,20 +3,26 @@ use mathlib.Core.Path.{_≡_, refl, ap, _∙_}
 use mathlib.Core.Bool.{Bool, true, false, cond}
 use mathlib.Core.List.{List}
 use Prim.Native.Nat.{ℕ}
+use lib.Dec.{eqb}
+use lib.ListN.{length}
 use Rattle.search.proofs.Accepted.{blank-refused, blank-refusal, expand-refused, expand-refusal, settle-refused, settle-refusal, close-refused}
 use Rattle.search.specs.Blank.{blankOf}
 use Rattle.search.specs.Close.{closeOf}
+use Rattle.search.specs.Drive.{buildRefusal, buildOf}
+use Rattle.search.specs.Plan.{planRefusal, planOf}
 use Rattle.search.specs.Settle.{settleOf}
 use Rattle.search.specs.declared.Answer.{Answer}
 use Rattle.search.specs.declared.Expanded.{Expanded}
-use Rattle.hokrund.specs.Calls.{noPhase, blankCall, expandCall, settleCall, closeCall}
-use Rattle.hokrund.specs.Mirror.{hasPhase, jobOf, mirrorOf, answerOf, expandedOf}
+use Rattle.search.specs.declared.Planned.{Planned}
+use Rattle.hokrund.specs.Calls.{noPhase, blankCall, expandCall, settleCall, closeCall, buildCall, planCall}
+use Rattle.hokrund.specs.Mirror.{hasPhase, jobOf, mirrorOf, answerOf, expandedOf, plannedOf, oneLent}
 use Rattle.hokrund.specs.declared.mirror.HokrundAnswer.{HokrundAnswer}
 use Rattle.hokrund.specs.declared.mirror.HokrundExpanded.{HokrundExpanded}
 use Rattle.hokrund.specs.declared.mirror.HokrundJob.{HokrundJob}
+use Rattle.hokrund.specs.declared.mirror.HokrundStack.{HokrundStack}
 use Rattle.hokrund.proofs.MirrorLaws.{mirror-job}
 
--- a call on a mirror that has a phase or none
+-- an outcome by a test: where it is refused, what is the same of either way is the same of it
 kept : {X : Type 0} (refusal : X → ℕ) (Same : X → Type 0) (t : Bool) (done none : X) → Same none
     → (t ≡ true → (refusal done ≡ 0 → ⊥) → Same done)
     → (refusal (cond t done none) ≡ 0 → ⊥) → Same (cond t done none)
@@ -27,7 +33,7 @@ module _ (m : HokrundJob) where
   -- of an operation with one buffer
   answer-keeps : (segment : List ℕ) (out : List ℕ × Answer) (r : ℕ)
       → ((out .1 .refusal ≡ 0 → ⊥) → _≡_ {A = List ℕ × Answer} out (segment, record { refusal = r; job = jobOf m }))
-      → (let call : List ℕ × HokrundAnswer = cond (hasPhase m) (out .0, answerOf (out .1)) (segment, noPhase m) in
+      → (let call : List ℕ × HokrundAnswer = cond (hasPhase m) (oneLent answerOf out) (segment, noPhase m) in
       (call .1 .refusal ≡ 0 → ⊥) → (call .0 ≡ segment) × (call .1 .job ≡ m))
   unfolding answerOf
   answer-keeps segment out r refused =
@@ -59,3 +65,16 @@ module _ (m : HokrundJob) where
   close-keeps =
       kept (λ (o : HokrundAnswer). o .refusal) (λ (o : HokrundAnswer). o .job ≡ m) (hasPhase m) _ _ refl (λ phase h.
       ap (λ (o : Answer). mirrorOf (o .job)) (close-refused (jobOf m) h) ∙ mirror-job m phase)
+
+module _ (kind n : ℕ) (wanted : HokrundStack) where
+  pub build-keeps : (size room : ℕ) (table log : List ℕ) → (buildCall kind n wanted size room table log .2 .refusal ≡ 0 → ⊥)
+      → (buildCall kind n wanted size room table log .0 ≡ table) × (buildCall kind n wanted size room table log .1 ≡ log)
+  unfolding buildCall answerOf buildOf
+  build-keeps size room table log =
+      kept (λ (o : List ℕ × List ℕ × Answer). o .2 .refusal) (λ (o : List ℕ × List ℕ × Answer). (o .0 ≡ table) × (o .1 ≡ log)) (eqb (buildRefusal kind n (wanted .places) size room (length table) (length log)) 0) _ _ (refl, refl) (λ accepted h. absurd (h refl))
+
+  pub plan-keeps : (given : HokrundStack) (table list : List ℕ) → (planCall kind n wanted given table list .1 .refusal ≡ 0 → ⊥)
+      → planCall kind n wanted given table list .0 ≡ list
+  unfolding planCall plannedOf planOf
+  plan-keeps given table list =
+      kept (λ (o : List ℕ × Planned). o .1 .refusal) (λ (o : List ℕ × Planned). o .0 ≡ list) (eqb (planRefusal kind n (wanted .places) (given .places) table (length list)) 0) _ _ refl (λ accepted h. absurd (h refl))

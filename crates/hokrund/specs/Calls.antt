@@ -5,11 +5,12 @@ use mathlib.Core.List.{List, []}
 use Prim.Native.Nat.{ℕ, _*_}
 use Rattle.search.specs.Blank.{blankOf}
 use Rattle.search.specs.Close.{closeOf}
+use Rattle.search.specs.Drive.{buildOf}
 use Rattle.search.specs.Expand.{expandOf}
 use Rattle.search.specs.Look.{lookOf}
 use Rattle.search.specs.Plan.{planOf}
 use Rattle.search.specs.Settle.{settleOf}
-use Rattle.hokrund.specs.Mirror.{hasPhase, jobOf, answerOf, expandedOf, lookedOf, plannedOf}
+use Rattle.hokrund.specs.Mirror.{hasPhase, jobOf, answerOf, expandedOf, lookedAt, plannedOf, oneLent, twoLent}
 use Rattle.hokrund.specs.declared.mirror.HokrundAnswer.{HokrundAnswer}
 use Rattle.hokrund.specs.declared.mirror.HokrundExpanded.{HokrundExpanded}
 use Rattle.hokrund.specs.declared.mirror.HokrundJob.{HokrundJob}
@@ -22,21 +23,17 @@ noPhase m = record { refusal = 7; job = m }
 
 unfoldable pub blankCall : HokrundJob → ℕ → List ℕ → List ℕ × HokrundAnswer
 blankCall m j segment =
-    cond (hasPhase m)
-    (let out = blankOf (jobOf m) j segment in (out .0, answerOf (out .1)))
-    (segment, noPhase m)
+    cond (hasPhase m) (oneLent answerOf (blankOf (jobOf m) j segment)) (segment, noPhase m)
 
 unfoldable pub expandCall : HokrundJob → ℕ → List ℕ → List ℕ → List ℕ × List ℕ × HokrundExpanded
 expandCall m j segment log =
     cond (hasPhase m)
-    (let out = expandOf (jobOf m) j segment log in (out .0, out .1, expandedOf (out .2)))
+    (twoLent expandedOf (expandOf (jobOf m) j segment log))
     (segment, log, record { refusal = 7; waits = false; on = 0; job = m })
 
 unfoldable pub settleCall : HokrundJob → ℕ → List ℕ → List ℕ → List ℕ × HokrundAnswer
 settleCall m j segment log =
-    cond (hasPhase m)
-    (let out = settleOf (jobOf m) j segment log in (out .0, answerOf (out .1)))
-    (segment, noPhase m)
+    cond (hasPhase m) (oneLent answerOf (settleOf (jobOf m) j segment log)) (segment, noPhase m)
 
 unfoldable pub closeCall : HokrundJob → HokrundAnswer
 closeCall m = cond (hasPhase m) (answerOf (closeOf (jobOf m))) (noPhase m)
@@ -45,9 +42,13 @@ closeCall m = cond (hasPhase m) (answerOf (closeOf (jobOf m))) (noPhase m)
 unfoldable pub lookCall : HokrundJob → ℕ → List ℕ → List ℕ × HokrundLook
 lookCall m j log =
     cond (hasPhase m)
-    (let out = lookOf (jobOf m) j log in (out .0, lookedOf (j * m .room) out))
+    (lookedAt (j * m .room) (lookOf (jobOf m) j log))
     ([], record { refusal = 7; start = 0; length = 0 })
+
+unfoldable pub buildCall : ℕ → ℕ → HokrundStack → ℕ → ℕ → List ℕ → List ℕ → List ℕ × List ℕ × HokrundAnswer
+buildCall kind n wanted size room table log =
+    twoLent answerOf (buildOf kind n (wanted .places) size room table log)
 
 unfoldable pub planCall : ℕ → ℕ → HokrundStack → HokrundStack → List ℕ → List ℕ → List ℕ × HokrundPlanned
 planCall kind n wanted given table list =
-    let out = planOf kind n (wanted .places) (given .places) table list in (out .0, plannedOf (out .1))
+    oneLent plannedOf (planOf kind n (wanted .places) (given .places) table list)

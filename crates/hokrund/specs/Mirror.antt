@@ -2,6 +2,7 @@
 --   phaseNumber, levelOf    the two numbers of a phase
 --   phaseOf                 the phase of two numbers that isPhase accepts
 --   jobOf, mirrorOf         the two conversions of the job
+--   oneLent, twoLent        an outcome, its answer converted
 use mathlib.Core.Bool.{Bool, true, false, cond}
 use mathlib.Core.List.{List}
 use Prim.Native.Nat.{ℕ, zero, suc}
@@ -93,8 +94,18 @@ expandedOf a = record { refusal = a .refusal; waits = a .waits; on = a .on; job 
 unfoldable pub lookedOf : ℕ → List ℕ × ℕ → HokrundLook
 lookedOf start out = record { refusal = out .1; start = cond (eqb (out .1) 0) start 0; length = length (out .0) }
 
-unfoldable pub entryOf : Entry → HokrundEntry
-entryOf a = record { refusal = a .refusal; entry = a .entry }
+abbrev pub lookedAt : ℕ → List ℕ × ℕ → List ℕ × HokrundLook
+lookedAt start out = (out .0, lookedOf start out)
+
+unfoldable pub entryReadOf : Entry → HokrundEntry
+entryReadOf a = record { refusal = a .refusal; entry = a .entry }
 
 unfoldable pub plannedOf : Planned → HokrundPlanned
 plannedOf a = record { refusal = a .refusal; turns = a .turns }
+
+-- what an operation leaves in one or two lent buffers, and its answer converted
+abbrev pub oneLent : {A B C : Type 0} → (B → C) → A × B → A × C
+oneLent f out = (out .0, f (out .1))
+
+abbrev pub twoLent : {A B C D : Type 0} → (C → D) → A × B × C → A × B × D
+twoLent f out = (out .0, out .1, f (out .2))

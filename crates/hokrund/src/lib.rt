@@ -1,4 +1,4 @@
-// The operations of document 01 for C: each wraps the operation of its name, and include/hokrund.h declares it.
+// The operations for C, document 01's and Build the whole table: each wraps the operation of its name, and include/hokrund.h declares it.
 // No enum, no array by value and no reference as a result passes to C: the job travels as a flat mirror, a stack in a struct, and the
 // part that Look hands back as start and length.
 pub mod job_calls;

@@ -72,7 +72,7 @@ pub struct HokrundPlanned {
     pub turns: u32,
 }
 
-pub fn phase_number(phase: Phase) -> u8
+pub(crate) fn phase_number(phase: Phase) -> u8
     ensures { λ r. ⌜ r ≡ phaseNumber phase ⌝ }
 {
     match phase {
@@ -82,7 +82,7 @@ pub fn phase_number(phase: Phase) -> u8
     }
 }
 
-pub fn phase_of(number: u8, level: u8) -> Phase
+pub(crate) fn phase_of(number: u8, level: u8) -> Phase
     ensures { λ r. ⌜ r ≡ phaseOf number level ⌝ }
 {
     if number == 0 {
@@ -95,7 +95,7 @@ pub fn phase_of(number: u8, level: u8) -> Phase
 }
 
 // Whether a mirror's two numbers are those of a phase.
-pub fn has_phase(mirror: HokrundJob) -> bool
+pub(crate) fn has_phase(mirror: HokrundJob) -> bool
     ensures { λ r. ⌜ r ≡ hasPhase mirror ⌝ }
 {
     if mirror.phase == 0 {
@@ -105,7 +105,7 @@ pub fn has_phase(mirror: HokrundJob) -> bool
 }
 
 // The two conversions. A new field of the job is a line in each, two if it is an array; their proofs and laws name no field but the phase.
-pub fn job_of(mirror: HokrundJob) -> Job
+pub(crate) fn job_of(mirror: HokrundJob) -> Job
     ensures { λ r. ⌜ r ≡ jobOf mirror ⌝ }
 {
     let wanted = mirror.wanted.places;
@@ -126,7 +126,7 @@ pub fn job_of(mirror: HokrundJob) -> Job
     }
 }
 
-pub fn mirror_of(job: Job) -> HokrundJob
+pub(crate) fn mirror_of(job: Job) -> HokrundJob
     ensures { λ r. ⌜ r ≡ mirrorOf job ⌝ }
 {
     let phase = job.phase;
@@ -148,7 +148,7 @@ pub fn mirror_of(job: Job) -> HokrundJob
     }
 }
 
-pub fn answer_of(answer: Answer) -> HokrundAnswer
+pub(crate) fn answer_of(answer: Answer) -> HokrundAnswer
     ensures { λ r. ⌜ r ≡ answerOf answer ⌝ }
 {
     HokrundAnswer {

@@ -1,15 +1,33 @@
-// Read an entry, and Plan.
+// Build the whole table, Read an entry, and Plan.
 ghost use mathlib.Core.Path.{_≡_};
 ghost use Rattle.search.specs.Read.{readOf};
-ghost use Rattle.hokrund.specs.Mirror.{entryOf};
-ghost use Rattle.hokrund.specs.Calls.{planCall};
+ghost use Rattle.hokrund.specs.Mirror.{entryReadOf};
+ghost use Rattle.hokrund.specs.Calls.{buildCall, planCall};
+use crate::mirror;
+use crate::mirror::HokrundAnswer;
 use crate::mirror::HokrundEntry;
 use crate::mirror::HokrundPlanned;
 use crate::mirror::HokrundStack;
 
 #[no_mangle]
+pub extern "C" fn hokrund_build_table(
+    kind: u8,
+    n: u8,
+    wanted: HokrundStack,
+    size: u32,
+    room: u32,
+    table: &mut [u8],
+    log: &mut [u32],
+) -> HokrundAnswer
+    ensures { λ r. ⌜ (now (table .exit), now (log .exit), r) ≡ buildCall kind n wanted size room (now (table .entry)) (now (log .entry)) ⌝ }
+{
+    let places = wanted.places;
+    mirror::answer_of(build::build::build_table(kind, n, places, size, room, table, log))
+}
+
+#[no_mangle]
 pub extern "C" fn hokrund_read_entry(kind: u8, n: u8, table: &[u8], index: u32) -> HokrundEntry
-    ensures { λ r. ⌜ r ≡ entryOf (readOf kind n (now (table .entry)) index) ⌝ }
+    ensures { λ r. ⌜ r ≡ entryReadOf (readOf kind n (now (table .entry)) index) ⌝ }
 {
     let entry = plan::read::read_entry(kind, n, table, index);
     HokrundEntry {

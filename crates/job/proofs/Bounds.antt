@@ -7,8 +7,8 @@ use native.Mathlib.Omega.{arith}
 use borrow.Author.Tests.{lt-ltb, ltb-true, leb-true}
 use lib.Dec.{leb}
 use Rattle.base.proofs.Tests.{and-left, and-right, never}
-use Rattle.stacks.specs.Stack.{isSize, isStack}
-use Rattle.search.specs.JobState.{lastLevel, beginRefusal, isLevel, levelOf, phaseFits, stacksAll, segmentsOf, logLength, waitingOf, isCoherent}
+use Rattle.stacks.specs.Stack.{isPaneCount, isStack}
+use Rattle.search.specs.JobState.{lastLevel, beginRefusal, isLevel, levelOf, phaseFits, stackCountOf, segmentCountOf, logLength, waitingOf, isCoherent}
 use Rattle.search.specs.Segments.{segmentLimit}
 use Rattle.search.specs.declared.Job.{Job}
 use Rattle.search.specs.declared.Phase.{Phase}
@@ -17,21 +17,21 @@ use Rattle.search.proofs.Coherence.{begin-given, coherent-facts}
 use Rattle.search.proofs.SegmentLaws.{segment-size-facts, log-room-facts}
 
 pub record Bounds (job : Job) : Type 0 where
-  pub is-size : isSize (job .kind) (job .n) ≡ true
+  pub is-pane-count : isPaneCount (job .kind) (job .n) ≡ true
   pub is-stack : isStack (job .kind) (job .n) (job .wanted) ≡ true
   pub some : 0 < job .size
   pub small : job .size ≤ 67108864
-  pub few : segmentsOf job ≤ 64
+  pub few : segmentCountOf job ≤ 64
   pub narrow : job .room ≤ 1048576
 
 module _ (job : Job) where
   pub begun-bounds : beginRefusal (job .kind) (job .n) (job .wanted) (job .size) (job .room) ≡ 0 → Bounds job
-  unfolding segmentsOf stacksAll
+  unfolding segmentCountOf stackCountOf
   begun-bounds h =
       let g = begin-given (job .kind) (job .n) (job .wanted) (job .size) (job .room) h in
-      let s = segment-size-facts (stacksAll job) (job .size) (g .segments) in
+      let s = segment-size-facts (stackCountOf job) (job .size) (g .segments) in
       record {
-        is-size = g .size;
+        is-pane-count = g .in-range;
         is-stack = g .stack;
         some = omega (arith, s .least);
         small = s .most;
@@ -71,14 +71,14 @@ module _ (job : Job) (coherent : isCoherent job ≡ true) where
       let b = coherent-bounds job coherent in
       omega (arith, mul-le-mul (b .few) (b .narrow))
 
-  module _ (j : ℕ) (inside : j < segmentsOf job) where
+  module _ (j : ℕ) (inside : j < segmentCountOf job) where
     pub segment-below : j < 64
     segment-below = omega (arith, coherent-bounds job coherent .few)
 
     pub waiting-le : waitingOf job j ≤ job .room
     unfolding segmentLimit
     waiting-le =
-        subst (λ (t : Bool). waitingOf job j ≤ cond t (job .room) 0) (lt-ltb j (segmentsOf job) inside)
+        subst (λ (t : Bool). waitingOf job j ≤ cond t (job .room) 0) (lt-ltb j (segmentCountOf job) inside)
         (coherent-facts job coherent .waiting-fits j segment-below)
 
     -- the waiting part of a log is within the log area

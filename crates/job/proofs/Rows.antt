@@ -6,13 +6,13 @@ use Prim.Native.Nat.{ℕ}
 use lib.Dec.{ltb, eqb}
 use lib.IntN.{ℤ}
 use Rattle.base.specs.Words.{unless}
-use Rattle.stacks.specs.Operations.{sizeRefusal, indexRefusal}
-use Rattle.stacks.specs.Stack.{isKind, isSize, isStack, stackCount}
+use Rattle.stacks.specs.Operations.{kindRefusal, indexRefusal}
+use Rattle.stacks.specs.Stack.{isKind, isPaneCount, isStack, stackCount}
 use Rattle.perm.proofs.Refusals.{orElse, row-refuses, row-goes-on}
 use Rattle.search.specs.Entries.{bytesFor}
-use Rattle.search.specs.Expand.{levelRefusal}
-use Rattle.search.specs.JobState.{beginRefusal, isCoherent, isLevel, segmentsOf, stacksOf, logLength}
+use Rattle.search.specs.JobState.{beginRefusal, isCoherent, isLevel, segmentCountOf, stackCountAt, logLength}
 use Rattle.search.specs.Segments.{isSegmentSize, isLogRoom}
+use Rattle.search.specs.Level.{levelRefusal}
 use Rattle.search.specs.declared.Job.{Job}
 
 -- what Begin tries after the wanted stack
@@ -20,8 +20,8 @@ abbrev pub beginRest : ℕ → ℕ → ℕ → ℕ → ℕ
 beginRest kind n S C = unless (isSegmentSize (stackCount kind n) S) 5 (unless (isLogRoom C) 6 0)
 
 begin-first : (kind n : ℕ) (s : List ℤ) (S C : ℕ) → beginRefusal kind n s S C ≡ orElse (indexRefusal kind n s) (beginRest kind n S C)
-unfolding beginRefusal indexRefusal sizeRefusal
-begin-first kind n s S C = go (isKind kind) (isSize kind n) (isStack kind n s) (beginRest kind n S C)
+unfolding beginRefusal indexRefusal kindRefusal
+begin-first kind n s S C = go (isKind kind) (isPaneCount kind n) (isStack kind n s) (beginRest kind n S C)
   where
     go : (a b c : Bool) (rest : ℕ) → unless a 1 (unless b 2 (unless c 3 rest)) ≡ orElse (unless a 1 (unless b 2 (unless c 3 0))) rest
     go true true true rest = refl
@@ -40,7 +40,7 @@ module _ (kind n : ℕ) (s : List ℤ) (S C r : ℕ) (e : r ≡ indexRefusal kin
 level-first : (job : Job) (j bytes logs rest : ℕ) → levelRefusal job j bytes logs rest ≡ orElse (levelRefusal job j bytes logs 0) rest
 unfolding levelRefusal
 level-first job j bytes logs rest =
-    go (isCoherent job) (isLevel (job .phase)) (ltb j (segmentsOf job)) (eqb bytes (bytesFor (stacksOf job j))) (eqb logs (logLength job))
+    go (isCoherent job) (isLevel (job .phase)) (ltb j (segmentCountOf job)) (eqb bytes (bytesFor (stackCountAt job j))) (eqb logs (logLength job))
   where
     go : (a b c d e : Bool)
         → unless a 7 (unless b 8 (unless c 9 (unless d 10 (unless e 10 rest))))

@@ -4,8 +4,8 @@ ghost use mathlib.Core.Path.{_≡_};
 ghost use Prim.Native.Nat.{_≤_};
 ghost use lib.Dec.{leb, ltb};
 ghost use Rattle.base.specs.Words.{all, from};
-ghost use Rattle.search.specs.JobState.{beginRefusal, segmentFits, countFits, isCoherent, segmentsOf, stacksOf, logLength};
-ghost use Rattle.search.specs.Segments.{segmentLimit, stacksIn};
+ghost use Rattle.search.specs.JobState.{beginRefusal, segmentFits, countFits, isCoherent, segmentCountOf, stackCountAt, logLength};
+ghost use Rattle.search.specs.Segments.{segmentLimit, stackCountIn};
 use crate::phase;
 use perm::kind;
 use perm::operations;
@@ -68,9 +68,9 @@ fn segment_fits(
     passed: u32,
     waiting: u32,
 ) -> bool
-    ensures { λ r. ⌜ r ≡ (leb passed (stacksIn count size j) && leb waiting (cond (ltb j segments) room 0)) ⌝ }
+    ensures { λ r. ⌜ r ≡ (leb passed (stackCountIn count size j) && leb waiting (cond (ltb j segments) room 0)) ⌝ }
 {
-    if segment::stacks_in(count, size, j) < passed {
+    if segment::stack_count_in(count, size, j) < passed {
         return false;
     }
     if j < segments {
@@ -112,21 +112,21 @@ pub fn is_coherent(job: Job) -> bool
 }
 
 // G of a coherent job.
-pub fn segments_of(job: Job) -> u32
+pub fn segment_count_of(job: Job) -> u32
     requires { ⌜ isCoherent job ≡ true ⌝ }
-    ensures { λ r. ⌜ (r ≡ segmentsOf job) × (r ≤ 64) ⌝ }
+    ensures { λ r. ⌜ (r ≡ segmentCountOf job) × (r ≤ 64) ⌝ }
 {
     let count = kind::stack_count(job.kind, job.n);
     segment::segment_count(count, job.size)
 }
 
 // m of segment j of a coherent job.
-pub fn stacks_of(job: Job, j: u32) -> u32
+pub fn stack_count_at(job: Job, j: u32) -> u32
     requires { ⌜ isCoherent job ≡ true ⌝ }
-    ensures { λ r. ⌜ r ≡ stacksOf job j ⌝ }
+    ensures { λ r. ⌜ r ≡ stackCountAt job j ⌝ }
 {
     let count = kind::stack_count(job.kind, job.n);
-    segment::stacks_in(count, job.size, j)
+    segment::stack_count_in(count, job.size, j)
 }
 
 // How many numbers the log area of a coherent job has.
@@ -134,5 +134,5 @@ pub fn log_length(job: Job) -> usize
     requires { ⌜ isCoherent job ≡ true ⌝ }
     ensures { λ r. ⌜ r ≡ logLength job ⌝ }
 {
-    (segments_of(job) as usize) * (job.room as usize)
+    (segment_count_of(job) as usize) * (job.room as usize)
 }

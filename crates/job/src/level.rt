@@ -1,6 +1,6 @@
 // The refusals that Expand and Settle try first.
 ghost use mathlib.Core.Path.{_≡_};
-ghost use Rattle.search.specs.Expand.{levelRefusal};
+ghost use Rattle.search.specs.Level.{levelRefusal};
 use crate::coherence;
 use crate::phase;
 use search::Job;
@@ -14,8 +14,8 @@ pub fn level_refusal(job: Job, j: u32, bytes: usize, words: usize) -> u8
     }
     let phase = job.phase;
     let in_level = phase::is_level(phase);
-    let segments = coherence::segments_of(job);
-    let stacks = coherence::stacks_of(job, j);
+    let segments = coherence::segment_count_of(job);
+    let stacks = coherence::stack_count_at(job, j);
     let length = segment::bytes_for(stacks) as usize;
     let area = coherence::log_length(job);
     if !in_level {

@@ -15,7 +15,7 @@ pub fn is_blanking(phase: Phase) -> bool
     }
 }
 
-pub fn is_level(phase: Phase) -> bool
+pub(crate) fn is_level(phase: Phase) -> bool
     ensures { λ r. ⌜ r ≡ isLevel phase ⌝ }
 {
     match phase {
@@ -46,7 +46,7 @@ pub fn level_of(phase: Phase) -> u8
     }
 }
 
-pub fn phase_fits(phase: Phase) -> bool
+pub(crate) fn phase_fits(phase: Phase) -> bool
     ensures { λ r. ⌜ r ≡ phaseFits phase ⌝ }
 {
     match phase {

@@ -14,8 +14,8 @@ use lib.Seq.{drop-cons, getD-take}
 use Rattle.base.specs.Words.{fact}
 use Rattle.base.proofs.Numbers.{fact-pos, fact-suc, fact-mono}
 use Rattle.stacks.specs.Index.{smaller, rankFrom, coat, coatBits, rankOf}
-use Rattle.stacks.specs.Stack.{isSize, isStack, orderOf, coatings}
-use Rattle.stacks.proofs.Sizes.{size-twelve}
+use Rattle.stacks.specs.Stack.{isPaneCount, isStack, orderOf, coatings}
+use Rattle.stacks.proofs.KindLaws.{panes-twelve}
 use Rattle.stacks.proofs.Panes.{stack-facts}
 use Rattle.stacks.proofs.OrderLaws.{lehmer-lt, rankFrom-is}
 use Rattle.stacks.proofs.CoatLaws.{coatBits-lt}
@@ -69,14 +69,14 @@ ranked-start n s =
       coated = omega arith;
     }
 
-module _ (kind n : ℕ) (s : List ℤ) (size : isSize kind n ≡ true) (stack : isStack kind n s ≡ true) where
+module _ (kind n : ℕ) (s : List ℤ) (in-range : isPaneCount kind n ≡ true) (stack : isStack kind n s ≡ true) where
   -- neither part is above the whole, so all fits 32 bits
   order-fits : (above : Ranking) (p : ℕ) → Ranked n s above p → above .order < 4294967296
   unfolding fact
   order-fits above p r =
       let xs = orderOf n s in
-      let whole : rankFrom [] xs < fact (length xs) = rw (rankFrom-is n xs (stack-panes kind n s size stack)) (lehmer-lt xs) in
-      let most : fact (length xs) ≤ 479001600 = fact-mono (length xs) 12 (rw (order-of-length kind n s size stack) (size-twelve kind n size)) in
+      let whole : rankFrom [] xs < fact (length xs) = rw (rankFrom-is n xs (stack-panes kind n s in-range stack)) (lehmer-lt xs) in
+      let most : fact (length xs) ≤ 479001600 = fact-mono (length xs) 12 (rw (order-of-length kind n s in-range stack) (panes-twelve kind n in-range)) in
       omega (arith, r .ranked, mul-le-mul-left (above .order) (fact-pos (n - p)))
 
   coats-fit : (above : Ranking) (p : ℕ) → Ranked n s above p → above .coats < 4096
@@ -86,7 +86,7 @@ module _ (kind n : ℕ) (s : List ℤ) (size : isSize kind n ≡ true) (stack : 
         r .coated,
         mul-le-mul-left (above .coats) (pow-pos (n - p)),
         coatBits-lt (take n s),
-        pow-twelve (length (take n s)) (rw (panes-length kind n s size stack) (size-twelve kind n size)),
+        pow-twelve (length (take n s)) (rw (panes-length kind n s in-range stack) (panes-twelve kind n in-range)),
       )
 
   pub ranked-end : (above : Ranking) (p : ℕ) → Ranked n s above p → n ≤ p → above .order * coatings kind n + above .coats ≡ rankOf kind n s
@@ -95,15 +95,15 @@ module _ (kind n : ℕ) (s : List ℤ) (size : isSize kind n ≡ true) (stack : 
       let xs = orderOf n s in
       let done : n - p ≡ 0 = omega arith in
       let a : above .order ≡ rankFrom [] xs =
-      omega (arith, rw (done, drop-of-length-le xs {i = p} (rw (order-of-length kind n s size stack) h)) at (r .ranked)) in
+      omega (arith, rw (done, drop-of-length-le xs {i = p} (rw (order-of-length kind n s in-range stack) h)) at (r .ranked)) in
       let b : above .coats ≡ coatBits (take n s) =
-      omega (arith, rw (done, drop-of-length-le (take n s) {i = p} (rw (panes-length kind n s size stack) h)) at (r .coated)) in
+      omega (arith, rw (done, drop-of-length-le (take n s) {i = p} (rw (panes-length kind n s in-range stack) h)) at (r .coated)) in
       rw (a, b)
 
   -- one place more, with the x that stands there
   module _ (above : Ranking) (p : ℕ) (r : Ranked n s above p) (h : p < n) (x : ℤ) (e : x ≡ getD s p (pos 0)) where
     inside : p < length (orderOf n s)
-    inside = rw (order-of-length kind n s size stack) h
+    inside = rw (order-of-length kind n s in-range stack) h
 
     pane : natAbs x ≡ getD (orderOf n s) p 0
     pane = ap natAbs e ∙ sym (order-at n s p h)
@@ -118,8 +118,8 @@ module _ (kind n : ℕ) (s : List ℤ) (size : isSize kind n ≡ true) (stack : 
         let real : suc (natAbs x - 1) ≡ natAbs x = omega (arith, new-facts n (above .met) (natAbs x) pane-new .0) in
         let digit : ones (above .met % 2 ^ (natAbs x - 1)) ≡ smaller (getD xs p 0) (metAt xs p) =
         holds-ones (above .met) (metAt xs p) (r .panes .holds) (r .panes .real) (natAbs x - 1) ∙ ap (λ (y : ℕ). smaller y (metAt xs p)) (real ∙ pane) in
-        let long : length xs ≡ n = order-of-length kind n s size stack in
-        let wide : length (take n s) ≡ n = panes-length kind n s size stack in
+        let long : length xs ≡ n = order-of-length kind n s in-range stack in
+        let wide : length (take n s) ≡ n = panes-length kind n s in-range stack in
         record {
           panes = met-step n xs (above .met) p (r .panes) (natAbs x) inside pane pane-new;
           ranked = rw (digit, pane) (sym (rw long at (rankFrom-more xs p (above .order) inside)) ∙ r .ranked);
@@ -131,7 +131,7 @@ module _ (kind n : ℕ) (s : List ℤ) (size : isSize kind n ≡ true) (stack : 
     pub ranked-fits : PlaceFits above (n - p) x
     ranked-fits =
         let f = new-facts n (above .met) (natAbs x) pane-new in
-        let most = size-twelve kind n size in
+        let most = panes-twelve kind n in-range in
         record {
           low = f .0;
           high = omega arith;

@@ -9,10 +9,10 @@ use lib.ListN.{replicate}
 use borrow.Author.Tests.{ltb-true, ne-eqb}
 use Rattle.base.specs.Words.{unless}
 use Rattle.base.proofs.Tests.{unless-zero}
-use Rattle.stacks.specs.Operations.{sizeRefusal, indexRefusal, stackRefusal, turnRefusal, indexed, stacked}
+use Rattle.stacks.specs.Operations.{kindRefusal, indexRefusal, stackRefusal, turnRefusal, indexed, stacked}
 use Rattle.stacks.specs.declared.Indexed.{Indexed}
 use Rattle.stacks.specs.declared.Stacked.{Stacked}
-use Rattle.stacks.specs.Stack.{isKind, isSize, isStack, stackCount}
+use Rattle.stacks.specs.Stack.{isKind, isPaneCount, isStack, stackCount}
 use Rattle.stacks.specs.Turn.{isTurn}
 
 -- the refusal r, or what the rest of the row says where r is 0
@@ -32,9 +32,9 @@ module _ (q r rest : ℕ) (e : q ≡ orElse r rest) where
   pub row-goes-on : r ≡ 0 → rest ≡ q
   row-goes-on h = ap (λ (k : ℕ). orElse k rest) (sym h) ∙ sym e
 
-size-first : (kind n rest : ℕ) → sizeRefusal kind n rest ≡ orElse (sizeRefusal kind n 0) rest
-unfolding sizeRefusal
-size-first kind n rest = go (isKind kind) (isSize kind n)
+kind-first : (kind n rest : ℕ) → kindRefusal kind n rest ≡ orElse (kindRefusal kind n 0) rest
+unfolding kindRefusal
+kind-first kind n rest = go (isKind kind) (isPaneCount kind n)
   where
     go : (a b : Bool) → unless a 1 (unless b 2 rest) ≡ orElse (unless a 1 (unless b 2 0)) rest
     go true true = refl
@@ -42,8 +42,8 @@ size-first kind n rest = go (isKind kind) (isSize kind n)
     go false b = refl
 
 turn-first : (kind n : ℕ) (s : List ℤ) (k : ℕ) → turnRefusal kind n s k ≡ orElse (indexRefusal kind n s) (unless (isTurn kind n k) 4 0)
-unfolding turnRefusal indexRefusal sizeRefusal
-turn-first kind n s k = go (isKind kind) (isSize kind n) (isStack kind n s)
+unfolding turnRefusal indexRefusal kindRefusal
+turn-first kind n s k = go (isKind kind) (isPaneCount kind n) (isStack kind n s)
   where
     go : (a b c : Bool)
         → unless a 1 (unless b 2 (unless c 3 (unless (isTurn kind n k) 4 0))) ≡ orElse (unless a 1 (unless b 2 (unless c 3 0))) (unless (isTurn kind n k) 4 0)
@@ -53,12 +53,12 @@ turn-first kind n s k = go (isKind kind) (isSize kind n) (isStack kind n s)
     go false b c = refl
 
 -- r is what the row of the kind and n answers
-module _ (kind n rest r : ℕ) (e : r ≡ sizeRefusal kind n 0) where
-  pub size-refuses : (r ≡ 0 → ⊥) → r ≡ sizeRefusal kind n rest
-  size-refuses = row-refuses (sizeRefusal kind n rest) r rest (rw e (size-first kind n rest))
+module _ (kind n rest r : ℕ) (e : r ≡ kindRefusal kind n 0) where
+  pub kind-refuses : (r ≡ 0 → ⊥) → r ≡ kindRefusal kind n rest
+  kind-refuses = row-refuses (kindRefusal kind n rest) r rest (rw e (kind-first kind n rest))
 
-  pub size-goes-on : r ≡ 0 → rest ≡ sizeRefusal kind n rest
-  size-goes-on = row-goes-on (sizeRefusal kind n rest) r rest (rw e (size-first kind n rest))
+  pub kind-goes-on : r ≡ 0 → rest ≡ kindRefusal kind n rest
+  kind-goes-on = row-goes-on (kindRefusal kind n rest) r rest (rw e (kind-first kind n rest))
 
 -- r is what the row of a stack answers
 module _ (kind n : ℕ) (s : List ℤ) (k r : ℕ) (e : r ≡ indexRefusal kind n s) where
@@ -85,26 +85,26 @@ module _ (q r : ℕ) (e : r ≡ q) where
 
 -- ---- a row that refuses nothing
 
-pub size-passes : (kind n rest : ℕ) → sizeRefusal kind n rest ≡ 0 → (isSize kind n ≡ true) × (rest ≡ 0)
-unfolding sizeRefusal
-size-passes kind n rest h = unless-zero (isSize kind n) 1 rest (unless-zero (isKind kind) 0 (unless (isSize kind n) 2 rest) h .1)
+pub kind-passes : (kind n rest : ℕ) → kindRefusal kind n rest ≡ 0 → (isPaneCount kind n ≡ true) × (rest ≡ 0)
+unfolding kindRefusal
+kind-passes kind n rest h = unless-zero (isPaneCount kind n) 1 rest (unless-zero (isKind kind) 0 (unless (isPaneCount kind n) 2 rest) h .1)
 
-pub index-passes : (kind n : ℕ) (s : List ℤ) → indexRefusal kind n s ≡ 0 → (isSize kind n ≡ true) × (isStack kind n s ≡ true)
+pub index-passes : (kind n : ℕ) (s : List ℤ) → indexRefusal kind n s ≡ 0 → (isPaneCount kind n ≡ true) × (isStack kind n s ≡ true)
 unfolding indexRefusal
 index-passes kind n s h =
-    let f = size-passes kind n (unless (isStack kind n s) 3 0) h in
+    let f = kind-passes kind n (unless (isStack kind n s) 3 0) h in
     (f .0, unless-zero (isStack kind n s) 2 0 (f .1) .0)
 
-pub stack-passes : (kind n i : ℕ) → stackRefusal kind n i ≡ 0 → (isSize kind n ≡ true) × (i < stackCount kind n)
+pub stack-passes : (kind n i : ℕ) → stackRefusal kind n i ≡ 0 → (isPaneCount kind n ≡ true) × (i < stackCount kind n)
 unfolding stackRefusal
 stack-passes kind n i h =
-    let f = size-passes kind n (unless (ltb i (stackCount kind n)) 4 0) h in
+    let f = kind-passes kind n (unless (ltb i (stackCount kind n)) 4 0) h in
     (f .0, ltb-true i (stackCount kind n) (unless-zero (ltb i (stackCount kind n)) 3 0 (f .1) .0))
 
 pub turn-passes : (kind n : ℕ) (s : List ℤ) (k : ℕ) → turnRefusal kind n s k ≡ 0
-    → (isSize kind n ≡ true) × (isStack kind n s ≡ true) × (isTurn kind n k ≡ true)
+    → (isPaneCount kind n ≡ true) × (isStack kind n s ≡ true) × (isTurn kind n k ≡ true)
 unfolding turnRefusal
 turn-passes kind n s k h =
-    let f = size-passes kind n (unless (isStack kind n s) 3 (unless (isTurn kind n k) 4 0)) h in
+    let f = kind-passes kind n (unless (isStack kind n s) 3 (unless (isTurn kind n k) 4 0)) h in
     let g = unless-zero (isStack kind n s) 2 (unless (isTurn kind n k) 4 0) (f .1) in
     (f .0, g .0, unless-zero (isTurn kind n k) 3 0 (g .1) .0)

@@ -20,8 +20,8 @@ use Rattle.base.proofs.Lists.{from-length}
 use Rattle.base.proofs.Numbers.{fact-pos}
 use Rattle.base.proofs.Tests.{lt-or-ge}
 use Rattle.stacks.specs.Index.{smaller, orderAt, paneWith, coatedBy, stackAt}
-use Rattle.stacks.specs.Stack.{isSize, coatings, stackCount}
-use Rattle.stacks.proofs.Sizes.{size-twelve}
+use Rattle.stacks.specs.Stack.{isPaneCount, coatings, stackCount}
+use Rattle.stacks.proofs.KindLaws.{panes-twelve}
 use Rattle.stacks.proofs.Panes.{smaller-suc, smaller-mono, smaller-ge, smaller-from}
 use Rattle.stacks.proofs.OrderLaws.{Rising, from-rising, rising-without, rising-place, smaller-without, place-lt, free-length, order-length}
 use Rattle.stacks.proofs.Numbering.{quotient-lt}
@@ -105,16 +105,16 @@ pub record Unranked (n coats : ℕ) (whole : List ℤ) (left free : ℕ) (s : Li
   pub zeros : drop p s ≡ replicate (12 - p) (pos 0)
   pub written : whole ≡ take p s ++ (coatedBy (orderAt (n - p) panes left) coats ++ replicate (12 - n) (pos 0))
 
-pub unranked-start : (kind n index ways : ℕ) → isSize kind n ≡ true → index < stackCount kind n → ways ≡ coatings kind n
+pub unranked-start : (kind n index ways : ℕ) → isPaneCount kind n ≡ true → index < stackCount kind n → ways ≡ coatings kind n
     → Unranked n (index % ways) (stackAt kind n index) (index / ways) (1 * 2 ^ n % 4294967296 - 1) (replicate 12 (pos 0)) 0
 unfolding stackAt
-unranked-start kind n index ways size h e =
-    rw (e, shifted n (size-twelve kind n size))
+unranked-start kind n index ways in-range h e =
+    rw (e, shifted n (panes-twelve kind n in-range))
     (record {
       panes = from 1 n;
       are-free = free-full n;
       many = rw (sub-zero n) (from-length 1 n);
-      low = rw (sub-zero n) (quotient-lt kind n index size h);
+      low = rw (sub-zero n) (quotient-lt kind n index in-range h);
       twelve = refl;
       zeros = refl;
       written = rw (sub-zero n);

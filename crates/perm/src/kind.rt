@@ -3,23 +3,23 @@ ghost use mathlib.Core.Bool.{true};
 ghost use mathlib.Core.Path.{_≡_};
 ghost use Prim.Native.Nat.{_≤_};
 ghost use Rattle.base.specs.Words.{fact};
-ghost use Rattle.stacks.specs.Stack.{isKind, mostPanes, isSize, coatings, stackCount};
+ghost use Rattle.stacks.specs.Stack.{isKind, mostPanes, isPaneCount, coatings, stackCount};
 ghost use Rattle.stacks.specs.Turn.{firstTurn, isTurn};
 
-pub fn is_kind(kind: u8) -> bool
+pub(crate) fn is_kind(kind: u8) -> bool
     ensures { λ r. ⌜ r ≡ isKind kind ⌝ }
 {
     kind < 2
 }
 
-pub fn most_panes(kind: u8) -> u8
+fn most_panes(kind: u8) -> u8
     ensures { λ r. ⌜ r ≡ mostPanes kind ⌝ }
 {
     if kind == 1 { 10 } else { 12 }
 }
 
-pub fn is_size(kind: u8, n: u8) -> bool
-    ensures { λ r. ⌜ r ≡ isSize kind n ⌝ }
+pub fn is_pane_count(kind: u8, n: u8) -> bool
+    ensures { λ r. ⌜ r ≡ isPaneCount kind n ⌝ }
 {
     if n < 1 {
         return false;
@@ -34,7 +34,7 @@ pub fn first_turn(kind: u8) -> u8
     if kind == 1 { 1 } else { 2 }
 }
 
-pub fn is_turn(kind: u8, n: u8, k: u8) -> bool
+pub(crate) fn is_turn(kind: u8, n: u8, k: u8) -> bool
     ensures { λ r. ⌜ r ≡ isTurn kind n k ⌝ }
 {
     let first = first_turn(kind);
@@ -45,7 +45,7 @@ pub fn is_turn(kind: u8, n: u8, k: u8) -> bool
 }
 
 // A match, since a constant table would be laid out anew at each call.
-pub fn factorial(n: u32) -> u32
+pub(crate) fn factorial(n: u32) -> u32
     requires { ⌜ n ≤ 12 ⌝ }
     ensures { λ r. ⌜ r ≡ fact n ⌝ }
 {
@@ -67,7 +67,7 @@ pub fn factorial(n: u32) -> u32
 }
 
 // In how many ways the coats of n panes can lie.
-pub fn coatings_of(kind: u8, n: u8) -> u32
+pub(crate) fn coatings_of(kind: u8, n: u8) -> u32
     requires { ⌜ n ≤ 12 ⌝ }
     ensures { λ r. ⌜ r ≡ coatings kind n ⌝ }
 {
@@ -75,9 +75,9 @@ pub fn coatings_of(kind: u8, n: u8) -> u32
     if kind == 1 { 1 << panes } else { 1 }
 }
 
-// N, which fits 32 bits at every kind and size.
+// N, which fits 32 bits at every kind and n.
 pub fn stack_count(kind: u8, n: u8) -> u32
-    requires { ⌜ isSize kind n ≡ true ⌝ }
+    requires { ⌜ isPaneCount kind n ≡ true ⌝ }
     ensures { λ r. ⌜ r ≡ stackCount kind n ⌝ }
 {
     let panes = n as u32;

@@ -4,7 +4,7 @@ ghost use mathlib.Core.Path.{_≡_};
 ghost use Prim.Native.Nat.{_≤_, _<_};
 ghost use Rattle.perm.specs.Ranking.{PlaceFits, placeRanked};
 ghost use Rattle.stacks.specs.Index.{rankOf, stackAt};
-ghost use Rattle.stacks.specs.Stack.{isSize, isStack, stackCount};
+ghost use Rattle.stacks.specs.Stack.{isPaneCount, isStack, stackCount};
 ghost use Rattle.stacks.specs.Turn.{turnOf};
 use crate::kind;
 use crate::place;
@@ -33,7 +33,7 @@ fn rank_place(above: Ranking, left: u32, x: i8) -> Ranking
 
 // The index of a stack.
 pub fn rank(kind: u8, n: u8, stack: [i8; 12]) -> u32
-    requires { ⌜ (isSize kind n ≡ true) × (isStack kind n stack ≡ true) ⌝ }
+    requires { ⌜ (isPaneCount kind n ≡ true) × (isStack kind n stack ≡ true) ⌝ }
     ensures { λ r. ⌜ r ≡ rankOf kind n stack ⌝ }
 {
     let top = n as u32;
@@ -52,7 +52,7 @@ pub fn rank(kind: u8, n: u8, stack: [i8; 12]) -> u32
 
 // The index of a stack after turn k. Only the group is ranked: the places below it keep their digits and coats, which `index` has.
 pub fn rank_turned(kind: u8, n: u8, stack: [i8; 12], index: u32, k: u8) -> u32
-    requires { ⌜ (isSize kind n ≡ true) × (isStack kind n stack ≡ true) × (index ≡ rankOf kind n stack) × (k ≤ n) ⌝ }
+    requires { ⌜ (isPaneCount kind n ≡ true) × (isStack kind n stack ≡ true) × (index ≡ rankOf kind n stack) × (k ≤ n) ⌝ }
     ensures { λ r. ⌜ r ≡ rankOf kind n (turnOf kind k stack) ⌝ }
 {
     let top = n as u32;
@@ -79,7 +79,7 @@ pub fn rank_turned(kind: u8, n: u8, stack: [i8; 12], index: u32, k: u8) -> u32
 
 // The stack at an index. The free panes are a set: the digit says which of its ones stands next.
 pub fn unrank(kind: u8, n: u8, index: u32) -> [i8; 12]
-    requires { ⌜ (isSize kind n ≡ true) × (index < stackCount kind n) ⌝ }
+    requires { ⌜ (isPaneCount kind n ≡ true) × (index < stackCount kind n) ⌝ }
     ensures { λ r. ⌜ r ≡ stackAt kind n index ⌝ }
 {
     let ways = kind::coatings_of(kind, n);

@@ -1,6 +1,6 @@
 // The open operations on stacks. Each takes any values, and does its work or gives the first refusal in document 01's order.
 ghost use mathlib.Core.Path.{_≡_};
-ghost use Rattle.stacks.specs.Operations.{sizeRefusal, indexRefusal, stackRefusal, turnRefusal, indexOf, stackOf, turnedOf};
+ghost use Rattle.stacks.specs.Operations.{kindRefusal, indexRefusal, stackRefusal, turnRefusal, indexOf, stackOf, turnedOf};
 use crate::kind;
 use crate::numbering;
 use crate::turning;
@@ -9,13 +9,13 @@ use stacks::Indexed;
 use stacks::Stacked;
 
 // The number of the first refusal, 0 for none. The kind and n come first in every operation.
-pub fn size_refusal(kind: u8, n: u8) -> u8
-    ensures { λ r. ⌜ r ≡ sizeRefusal kind n 0 ⌝ }
+pub fn kind_refusal(kind: u8, n: u8) -> u8
+    ensures { λ r. ⌜ r ≡ kindRefusal kind n 0 ⌝ }
 {
     if !kind::is_kind(kind) {
         return 1;
     }
-    if !kind::is_size(kind, n) {
+    if !kind::is_pane_count(kind, n) {
         return 2;
     }
     0
@@ -24,7 +24,7 @@ pub fn size_refusal(kind: u8, n: u8) -> u8
 pub fn index_refusal(kind: u8, n: u8, stack: [i8; 12]) -> u8
     ensures { λ r. ⌜ r ≡ indexRefusal kind n stack ⌝ }
 {
-    let refusal = size_refusal(kind, n);
+    let refusal = kind_refusal(kind, n);
     if refusal != 0 {
         return refusal;
     }
@@ -34,10 +34,10 @@ pub fn index_refusal(kind: u8, n: u8, stack: [i8; 12]) -> u8
     0
 }
 
-pub fn stack_refusal(kind: u8, n: u8, index: u32) -> u8
+fn stack_refusal(kind: u8, n: u8, index: u32) -> u8
     ensures { λ r. ⌜ r ≡ stackRefusal kind n index ⌝ }
 {
-    let refusal = size_refusal(kind, n);
+    let refusal = kind_refusal(kind, n);
     if refusal != 0 {
         return refusal;
     }
@@ -47,7 +47,7 @@ pub fn stack_refusal(kind: u8, n: u8, index: u32) -> u8
     0
 }
 
-pub fn turn_refusal(kind: u8, n: u8, stack: [i8; 12], k: u8) -> u8
+fn turn_refusal(kind: u8, n: u8, stack: [i8; 12], k: u8) -> u8
     ensures { λ r. ⌜ r ≡ turnRefusal kind n stack k ⌝ }
 {
     let refusal = index_refusal(kind, n, stack);

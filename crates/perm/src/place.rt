@@ -6,7 +6,7 @@ ghost use Rattle.stacks.specs.Index.{coat, paneWith};
 ghost use Rattle.stacks.specs.Turn.{flip};
 
 // The pane's number. Widened first, since the magnitude of -128 is no i8.
-pub fn magnitude(x: i8) -> u32
+pub(crate) fn magnitude(x: i8) -> u32
     ensures { λ r. ⌜ r ≡ natAbs x ⌝ }
 {
     let wide = x as i32;
@@ -18,14 +18,14 @@ pub fn magnitude(x: i8) -> u32
 }
 
 // 1 for coat down.
-pub fn coat_bit(x: i8) -> u32
+pub(crate) fn coat_bit(x: i8) -> u32
     ensures { λ r. ⌜ r ≡ coat x ⌝ }
 {
     if x < 0 { 1 } else { 0 }
 }
 
 // What a turn does to a pane of its group.
-pub fn flipped(kind: u8, x: i8) -> i8
+pub(crate) fn flipped(kind: u8, x: i8) -> i8
     requires { ⌜ natAbs x ≤ 12 ⌝ }
     ensures { λ r. ⌜ r ≡ flip kind x ⌝ }
 {
@@ -33,7 +33,7 @@ pub fn flipped(kind: u8, x: i8) -> i8
 }
 
 // Pane x, coat down where the bit is 1.
-pub fn pane_with(x: u32, bit: u32) -> i8
+pub(crate) fn pane_with(x: u32, bit: u32) -> i8
     requires { ⌜ x ≤ 12 ⌝ }
     ensures { λ r. ⌜ r ≡ paneWith x bit ⌝ }
 {

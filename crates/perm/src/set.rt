@@ -7,7 +7,7 @@ ghost use lib.Dec.{leb, eqb};
 ghost use Rattle.perm.specs.Set.{bit, NthOne};
 
 // How many panes of a set have a number of at most x. The one place that counts ones.
-pub fn ones_below(set: u32, x: u32) -> u32
+pub(crate) fn ones_below(set: u32, x: u32) -> u32
     requires { ⌜ (set < 4096) × (x ≤ 12) ⌝ }
     ensures { λ r. ⌜ r ≡ ones (set % 2 ^ x) ⌝ }
 {
@@ -15,7 +15,7 @@ pub fn ones_below(set: u32, x: u32) -> u32
 }
 
 // Whether a pane is 1 to n and not yet in the set.
-pub fn is_new(n: u8, met: u32, pane: u32) -> bool
+pub(crate) fn is_new(n: u8, met: u32, pane: u32) -> bool
     requires { ⌜ n ≤ 12 ⌝ }
     ensures { λ r. ⌜ r ≡ (leb 1 pane && leb pane n && eqb (bit met (pane - 1)) 0) ⌝ }
 {
@@ -31,7 +31,7 @@ pub fn is_new(n: u8, met: u32, pane: u32) -> bool
 
 // The place of the set's one that has d ones below it. It is no lower than d. Where c ones stand up to v, d + 1 - c are missing: each place
 // has at most one, so a jump by that many places never passes the one sought.
-pub fn nth_one(set: u32, d: u32) -> u32
+pub(crate) fn nth_one(set: u32, d: u32) -> u32
     requires { ⌜ (set < 4096) × (d < ones set) ⌝ }
     ensures { λ r. ⌜ NthOne set d r ⌝ }
 {

@@ -2,13 +2,13 @@
 ghost use mathlib.Core.Bool.{true};
 ghost use mathlib.Core.Path.{_≡_};
 ghost use Prim.Native.Nat.{_≤_};
-ghost use Rattle.stacks.specs.Stack.{isSize, isStack};
+ghost use Rattle.stacks.specs.Stack.{isPaneCount, isStack};
 ghost use Rattle.stacks.specs.Turn.{turnOf};
 use crate::place;
 
 // Turn k of a stack: the top k panes in reverse order, each flipped.
 pub fn turned(kind: u8, n: u8, stack: [i8; 12], k: u8) -> [i8; 12]
-    requires { ⌜ (isSize kind n ≡ true) × (isStack kind n stack ≡ true) × (k ≤ n) ⌝ }
+    requires { ⌜ (isPaneCount kind n ≡ true) × (isStack kind n stack ≡ true) × (k ≤ n) ⌝ }
     ensures { λ r. ⌜ r ≡ turnOf kind k stack ⌝ }
 {
     let group = k as usize;

@@ -11,7 +11,7 @@ use crate::place;
 use crate::set;
 
 // n panes, 1 to n, each once: a pane that the set has already is there twice.
-pub fn has_panes(n: u8, stack: [i8; 12]) -> bool
+fn has_panes(n: u8, stack: [i8; 12]) -> bool
     requires { ⌜ n ≤ 12 ⌝ }
     ensures { λ r. ⌜ r ≡ eachOnce n [] (orderOf n stack) ⌝ }
 {
@@ -29,7 +29,7 @@ pub fn has_panes(n: u8, stack: [i8; 12]) -> bool
     true
 }
 
-pub fn no_coat_down(stack: [i8; 12]) -> bool
+fn no_coat_down(stack: [i8; 12]) -> bool
     ensures { λ r. ⌜ r ≡ all nonNeg stack ⌝ }
 {
     let mut p: usize = 0;
@@ -42,7 +42,7 @@ pub fn no_coat_down(stack: [i8; 12]) -> bool
     true
 }
 
-pub fn unused_below(n: u8, stack: [i8; 12]) -> bool
+fn unused_below(n: u8, stack: [i8; 12]) -> bool
     requires { ⌜ n ≤ 12 ⌝ }
     ensures { λ r. ⌜ r ≡ all isUnused (drop n stack) ⌝ }
 {
@@ -57,7 +57,7 @@ pub fn unused_below(n: u8, stack: [i8; 12]) -> bool
 }
 
 // A plain pane has no coat.
-pub fn coats_fit(kind: u8, stack: [i8; 12]) -> bool
+fn coats_fit(kind: u8, stack: [i8; 12]) -> bool
     ensures { λ r. ⌜ r ≡ (isCoated kind || all nonNeg stack) ⌝ }
 {
     if kind == 1 {

@@ -1,5 +1,5 @@
 -- The answers of Read an entry and Plan, with the row's number or with what was asked for; and when there is a plan.
-use mathlib.Core.Path.{_≡_}
+use mathlib.Core.Path.{_≡_, sym}
 use mathlib.Core.Bool.{Bool, true, false, not, _&&_}
 use mathlib.Core.List.{List, _++_}
 use Prim.Native.Nat.{ℕ}
@@ -12,13 +12,13 @@ use Rattle.base.specs.Words.{unless}
 use Rattle.base.proofs.Tests.{and-fails-left, and-fails-right}
 use Rattle.stacks.specs.Index.{rankOf}
 use Rattle.search.specs.Entries.{entryAt, unseen}
-use Rattle.search.specs.Plan.{entryOf, isWanted, routeFrom, hasPlan, planRefusal, planOf}
+use Rattle.search.specs.Plan.{entryOf, isWanted, routeFrom, hasPlan, planRefusal, planOf, planRow}
 use Rattle.search.specs.Read.{readRefusal, readOf}
 use Rattle.search.specs.declared.Entry.{Entry}
 use Rattle.search.specs.declared.Planned.{Planned}
-use Rattle.plan.specs.Row.{planRow}
 use Rattle.plan.proofs.Routes.{routeAt}
-use Rattle.plan.proofs.Rows.{RowFacts, row-refuses, row-goes-on}
+use Rattle.search.proofs.PlanLaws.{RowFacts, row-goes-on}
+use Rattle.plan.proofs.Rows.{row-refuses}
 
 -- ---- Read an entry: r is what the row answers
 
@@ -85,7 +85,7 @@ module _ (kind n : ℕ) (wanted given : List ℤ) (table list : List ℕ) where
   module _ (f : RowFacts kind n wanted given (length table) (length list)) where
     rest-is : unless (hasPlan kind n table wanted given) 15 0 ≡ planRefusal kind n wanted given table (length list)
     unfolding planRefusal planRow
-    rest-is = row-goes-on kind n wanted given (length table) (length list) f (unless (hasPlan kind n table wanted given) 15 0)
+    rest-is = sym (row-goes-on kind n wanted given (length table) (length list) f (unless (hasPlan kind n table wanted given) 15 0))
 
     pub plan-refused : hasPlan kind n table wanted given ≡ false
         → _≡_ {A = List ℕ × Planned} (list, record { refusal = 15; turns = 0 }) (planOf kind n wanted given table list)

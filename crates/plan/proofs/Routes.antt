@@ -11,7 +11,7 @@ use lib.Seq.{take-suc-set, length-take-le}
 use borrow.Author.Tests.{eq-eqb, ne-eqb}
 use Rattle.base.specs.Words.{from}
 use Rattle.stacks.specs.Index.{rankOf}
-use Rattle.stacks.specs.Stack.{isSize, isStack, stackCount}
+use Rattle.stacks.specs.Stack.{isPaneCount, isStack, stackCount}
 use Rattle.stacks.specs.Turn.{firstTurn, lastTurn, turnOf, turnsOf}
 use Rattle.stacks.proofs.Numbering.{rank-lt}
 use Rattle.stacks.proofs.TurnLaws.{first-pos, turn-stack, turns-stack, first-inside}
@@ -22,19 +22,19 @@ use Rattle.search.proofs.PlanLaws.{route-within}
 use Rattle.plan.specs.Routes.{firstTo}
 
 -- the entry of a stack stands in the table
-pub entry-inside : (kind n : ℕ) (s : List ℤ) (table : List ℕ) (i : ℕ) → isSize kind n ≡ true → isStack kind n s ≡ true
+pub entry-inside : (kind n : ℕ) (s : List ℤ) (table : List ℕ) (i : ℕ) → isPaneCount kind n ≡ true → isStack kind n s ≡ true
     → length table ≡ bytesFor (stackCount kind n) → i ≡ rankOf kind n s → i / 4 < length table
-entry-inside kind n s table i size stack long e =
-    rw (e, long) (byte-inside (rankOf kind n s) (stackCount kind n) (rank-lt kind n s size stack))
+entry-inside kind n s table i in-range stack long e =
+    rw (e, long) (byte-inside (rankOf kind n s) (stackCount kind n) (rank-lt kind n s in-range stack))
 
 -- ---- the turns of a kind, and those not tried yet
 
 -- before the first try these are all turns
-pub untried-all : (kind n first : ℕ) → isSize kind n ≡ true → first ≡ firstTurn kind
+pub untried-all : (kind n first : ℕ) → isPaneCount kind n ≡ true → first ≡ firstTurn kind
     → from (n + 1 - (n + 1 - first)) (n + 1 - first) ≡ turnsOf kind n
 unfolding turnsOf lastTurn
-untried-all kind n first size e =
-    let a : n + 1 - (n + 1 - first) ≡ firstTurn kind = omega (arith, first-inside kind n size) in
+untried-all kind n first in-range e =
+    let a : n + 1 - (n + 1 - first) ≡ firstTurn kind = omega (arith, first-inside kind n in-range) in
     let b : n + 1 - first ≡ suc n - firstTurn kind = omega arith in
     rw (a, b)
 
@@ -69,10 +69,10 @@ module _ (kind n : ℕ) (table : List ℕ) (s : List ℤ) (v : ℕ) where
       go false l = omega (arith, l)
 
   -- a turn that is found is one of the kind
-  pub first-last : isSize kind n ≡ true → firstTo kind n table s v (turnsOf kind n) ≤ n
+  pub first-last : isPaneCount kind n ≡ true → firstTo kind n table s v (turnsOf kind n) ≤ n
   unfolding turnsOf lastTurn
-  first-last size =
-      omega (arith, first-below (firstTurn kind) (suc n - firstTurn kind) (first-pos kind), first-inside kind n size)
+  first-last in-range =
+      omega (arith, first-below (firstTurn kind) (suc n - firstTurn kind) (first-pos kind), first-inside kind n in-range)
 
   -- the first turn is that of the turns not tried yet, of which there are left
   module _ (left : ℕ) (f : firstTo kind n table s v (from (n + 1 - left) left) ≡ firstTo kind n table s v (turnsOf kind n)) where
@@ -175,11 +175,11 @@ run-steps kind n table wanted (suc m) route h =
     let e : m ≡ suc m - 1 = omega arith in ap (λ (l : ℕ). planRun kind n table wanted l (planStep kind n table wanted route)) e
 
 -- what a route comes to is a stack
-pub route-stack : (kind n : ℕ) (table : List ℕ) (wanted given : List ℤ) → isSize kind n ≡ true → isStack kind n given ≡ true
+pub route-stack : (kind n : ℕ) (table : List ℕ) (wanted given : List ℤ) → isPaneCount kind n ≡ true → isStack kind n given ≡ true
     → isStack kind n (routeFrom kind n table wanted given .stack) ≡ true
-route-stack kind n table wanted given size h =
+route-stack kind n table wanted given in-range h =
     let r = route-within kind n table wanted given .0 in
-    subst (λ (s : List ℤ). isStack kind n s ≡ true) (r .arrives) (turns-stack kind n size (routeFrom kind n table wanted given .turns) given (r .turns) h)
+    subst (λ (s : List ℤ). isStack kind n s ≡ true) (r .arrives) (turns-stack kind n in-range (routeFrom kind n table wanted given .turns) given (r .turns) h)
 
 -- a route of so many turns has at most 30
 pub route-taken : (kind n : ℕ) (table : List ℕ) (wanted given : List ℤ) (route : Route) (taken : ℕ) → route ≡ routeFrom kind n table wanted given
@@ -197,7 +197,7 @@ routeAt stack turns taken = record { stack = stack; turns = take taken turns }
 -- for each stack with the goal's index, the run goes on from the route here
 pub record Travelled (kind n : ℕ) (table : List ℕ) (goal : ℕ) (given stack : List ℤ) (turns : List ℕ) (taken : ℕ) : Type 0 where
   pub is-stack : isStack kind n stack ≡ true
-  pub room : length turns ≡ 30
+  pub slots : length turns ≡ 30
   pub within : taken ≤ 30
   pub goes-on : (wanted : List ℤ) → goal ≡ rankOf kind n wanted
       → planRun kind n table wanted (30 - taken) (routeAt stack turns taken) ≡ routeFrom kind n table wanted given
@@ -206,11 +206,11 @@ pub travelled-start : (kind n : ℕ) (table : List ℕ) (goal : ℕ) (given : Li
     → Travelled kind n table goal given given turns 0
 unfolding routeFrom planLimit
 travelled-start kind n table goal given turns h l =
-    record { is-stack = h; room = l; within = omega arith; goes-on = λ wanted e. refl }
+    record { is-stack = h; slots = l; within = omega arith; goes-on = λ wanted e. refl }
 
 module _ (kind n : ℕ) (table : List ℕ) (goal : ℕ) (given stack : List ℤ) (turns : List ℕ) (taken : ℕ) (t : Travelled kind n table goal given stack turns taken) where
   pub travelled-length : length (take taken turns) ≡ taken
-  travelled-length = length-take-le taken turns (omega (arith, t .room, t .within))
+  travelled-length = length-take-le taken turns (omega (arith, t .slots, t .within))
 
   -- the whole run, as soon as a step leads nowhere
   module _ (wanted : List ℤ) (g : goal ≡ rankOf kind n wanted) where
@@ -233,12 +233,12 @@ module _ (kind n : ℕ) (table : List ℕ) (goal : ℕ) (given stack : List ℤ)
     travelled-stuck z wanted g =
         stays wanted g (step-stuck kind n table (routeAt stack turns taken) wanted (λ q. h (i ∙ q ∙ sym g)) (sym z ∙ e))
 
-    pub travelled-step : isSize kind n ≡ true → taken < 30 → (k ≡ 0 → ⊥) → (child : List ℤ) → child ≡ turnOf kind k stack
+    pub travelled-step : isPaneCount kind n ≡ true → taken < 30 → (k ≡ 0 → ⊥) → (child : List ℤ) → child ≡ turnOf kind k stack
         → Travelled kind n table goal given child (set turns taken k) (taken + 1)
-    travelled-step size l z child c =
+    travelled-step in-range l z child c =
         record {
-          is-stack = rw c (turn-stack kind n size k stack (rw e (first-last kind n table stack (nearer kind n table stack) size)) (t .is-stack));
-          room = length-set turns taken k ∙ t .room;
+          is-stack = rw c (turn-stack kind n in-range k stack (rw e (first-last kind n table stack (nearer kind n table stack) in-range)) (t .is-stack));
+          slots = length-set turns taken k ∙ t .slots;
           within = omega arith;
           goes-on = λ wanted g. onward-is wanted g ∙ t .goes-on wanted g;
         }
@@ -248,7 +248,7 @@ module _ (kind n : ℕ) (table : List ℕ) (goal : ℕ) (given stack : List ℤ)
         onward-is wanted g =
             let before : Route = routeAt stack turns taken in
             let a : 30 - (taken + 1) ≡ 30 - taken - 1 = omega arith in
-            let b : taken < length turns = omega (arith, t .room) in
+            let b : taken < length turns = omega (arith, t .slots) in
             rw (a, c, add-one taken, take-suc-set turns taken k b)
             (sym
             (run-steps kind n table wanted (30 - taken) before (omega arith)

@@ -1,3 +1,2 @@
 -- What the helpers of Plan promise.
 pub mod Routes
-pub mod Row

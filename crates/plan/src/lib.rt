@@ -1,4 +1,4 @@
 // Code: Read an entry, and Plan.
 pub mod plan;
 pub mod read;
-pub mod route;
+mod route;

@@ -3,8 +3,7 @@ ghost use mathlib.Core.Path.{_≡_};
 ghost use mathlib.Core.List.{_++_};
 ghost use Prim.Native.Nat.{_≤_};
 ghost use lib.ListN.{length, take, drop};
-ghost use Rattle.search.specs.Plan.{planOf};
-ghost use Rattle.plan.specs.Row.{planRow};
+ghost use Rattle.search.specs.Plan.{planOf, planRow};
 use crate::route;
 use perm::kind;
 use perm::numbering;
@@ -14,17 +13,17 @@ use search::Planned;
 use twobit::segment;
 
 // Every refusal but 15, which wants the table.
-pub fn plan_refusal(
+fn plan_refusal(
     kind: u8,
     n: u8,
     wanted: [i8; 12],
     given: [i8; 12],
     bytes: usize,
-    room: usize,
+    slots: usize,
 ) -> u8
-    ensures { λ r. ⌜ r ≡ planRow kind n wanted given bytes room 0 ⌝ }
+    ensures { λ r. ⌜ r ≡ planRow kind n wanted given bytes slots 0 ⌝ }
 {
-    let refusal = operations::size_refusal(kind, n);
+    let refusal = operations::kind_refusal(kind, n);
     if refusal != 0 {
         return refusal;
     }
@@ -38,14 +37,14 @@ pub fn plan_refusal(
     if bytes != segment::bytes_for(count) as usize {
         return 10;
     }
-    if room < 30 {
+    if slots < 30 {
         return 10;
     }
     0
 }
 
 // The turns come to the front of the list, and the bytes past them stay.
-pub fn copy_turns(list: &mut [u8], turns: [u8; 30], taken: u32)
+fn copy_turns(list: &mut [u8], turns: [u8; 30], taken: u32)
     requires { ⌜ (taken ≤ 30) × (taken ≤ length (now list)) ⌝ }
     ensures { λ _. ⌜ now (list .exit) ≡ take taken turns ++ drop taken (now (list .entry)) ⌝ }
 {

@@ -7,10 +7,10 @@ use search::Entry;
 use twobit::entry;
 use twobit::segment;
 
-pub fn read_refusal(kind: u8, n: u8, bytes: usize, index: u32) -> u8
+fn read_refusal(kind: u8, n: u8, bytes: usize, index: u32) -> u8
     ensures { λ r. ⌜ r ≡ readRefusal kind n bytes index ⌝ }
 {
-    let refusal = operations::size_refusal(kind, n);
+    let refusal = operations::kind_refusal(kind, n);
     if refusal != 0 {
         return refusal;
     }

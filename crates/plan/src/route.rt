@@ -2,12 +2,11 @@
 ghost use mathlib.Core.Bool.{true};
 ghost use mathlib.Core.Path.{_≡_};
 ghost use lib.ListN.{length};
-ghost use Rattle.stacks.specs.Index.{rankOf};
-ghost use Rattle.stacks.specs.Stack.{isSize, isStack, stackCount};
+ghost use Rattle.stacks.specs.Stack.{isPaneCount, isStack, stackCount};
 ghost use Rattle.stacks.specs.Turn.{turnsOf};
 ghost use Rattle.search.specs.Entries.{bytesFor};
 ghost use Rattle.search.specs.Plan.{entryOf, routeFrom};
-ghost use Rattle.plan.specs.Routes.{firstTo, routeOf};
+ghost use Rattle.plan.specs.Routes.{firstTo, routeOf, StandsAt, LeadsFrom};
 use perm::kind;
 use perm::numbering;
 use perm::turning;
@@ -20,8 +19,8 @@ pub struct Route {
     pub taken: u32,
 }
 
-pub fn entry_of(kind: u8, n: u8, stack: [i8; 12], table: &[u8]) -> u8
-    requires { ⌜ (isSize kind n ≡ true) × (isStack kind n stack ≡ true) × (length (now table) ≡ bytesFor (stackCount kind n)) ⌝ }
+pub(crate) fn entry_of(kind: u8, n: u8, stack: [i8; 12], table: &[u8]) -> u8
+    requires { ⌜ (isPaneCount kind n ≡ true) × (isStack kind n stack ≡ true) × (length (now table) ≡ bytesFor (stackCount kind n)) ⌝ }
     ensures { λ r. ⌜ r ≡ entryOf kind n (now (table .entry)) stack ⌝ }
 {
     let index = numbering::rank(kind, n, stack);
@@ -29,8 +28,8 @@ pub fn entry_of(kind: u8, n: u8, stack: [i8; 12], table: &[u8]) -> u8
 }
 
 // The smallest turn that leads from the stack at an index to a child with entry v, 0 where none does. left counts the turns not tried yet.
-pub fn turn_to(kind: u8, n: u8, stack: [i8; 12], index: u32, v: u8, table: &[u8]) -> u8
-    requires { ⌜ (isSize kind n ≡ true) × (isStack kind n stack ≡ true) × (index ≡ rankOf kind n stack) × (length (now table) ≡ bytesFor (stackCount kind n)) ⌝ }
+fn turn_to(kind: u8, n: u8, stack: [i8; 12], index: u32, v: u8, table: &[u8]) -> u8
+    requires { ⌜ StandsAt kind n stack index (now table) ⌝ }
     ensures { λ r. ⌜ r ≡ firstTo kind n (now (table .entry)) stack v (turnsOf kind n) ⌝ }
 {
     let first = kind::first_turn(kind);
@@ -47,8 +46,8 @@ pub fn turn_to(kind: u8, n: u8, stack: [i8; 12], index: u32, v: u8, table: &[u8]
 }
 
 // The route from the given stack: it ends at the wanted stack, at a stack from which no turn leads one nearer, or after 30 turns.
-pub fn route_from(kind: u8, n: u8, wanted: [i8; 12], given: [i8; 12], table: &[u8]) -> Route
-    requires { ⌜ (isSize kind n ≡ true) × (isStack kind n wanted ≡ true) × (isStack kind n given ≡ true) × (length (now table) ≡ bytesFor (stackCount kind n)) ⌝ }
+pub(crate) fn route_from(kind: u8, n: u8, wanted: [i8; 12], given: [i8; 12], table: &[u8]) -> Route
+    requires { ⌜ LeadsFrom kind n wanted given (now table) ⌝ }
     ensures { λ r. ⌜ (routeOf r ≡ routeFrom kind n (now (table .entry)) wanted given) × (length (routeOf r .turns) ≡ r .taken) ⌝ }
 {
     let goal = numbering::rank(kind, n, wanted);

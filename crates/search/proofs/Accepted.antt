@@ -12,37 +12,40 @@ use Rattle.base.proofs.Tests.{unless-zero, eq-or-ne}
 use Rattle.search.specs.Blank.{blankRefusal, blanked, blankOf}
 use Rattle.search.specs.Close.{isReady, isPastLast, closeRefusal, closed, closeOf}
 use Rattle.search.specs.Entries.{bytesFor}
-use Rattle.search.specs.Expand.{levelRefusal, expandRefusal, expansion, expandedJob, expandOf}
-use Rattle.search.specs.JobState.{isCoherent, isBlanking, isLevel, isFinished, levelOf, segmentsOf, stacksOf, logLength, passedOf, countOf, progressed}
+use Rattle.search.specs.Expand.{expandRefusal, expansion, expandedJob, expandOf}
+use Rattle.search.specs.JobState.{isCoherent, isBlanking, isLevel, isFinished, levelOf, segmentCountOf, stackCountAt, logLength, passedOf, countOf, progressed}
 use Rattle.search.specs.Look.{lookRefusal}
-use Rattle.search.specs.Settle.{pending, settleRefusal, markAll, settleOf}
+use Rattle.search.specs.Settle.{settleRefusal, settleOf}
+use Rattle.search.specs.Level.{levelRefusal}
+use Rattle.search.specs.Logs.{pending}
+use Rattle.search.specs.Marks.{markAll}
 use Rattle.search.specs.declared.Job.{Job}
 
 pub record BlankFacts (job : Job) (j bytes : ℕ) : Type 0 where
   pub coherent : isCoherent job ≡ true
   pub blanking : isBlanking (job .phase) ≡ true
-  pub inside : j < segmentsOf job
-  pub long : bytes ≡ bytesFor (stacksOf job j)
-  pub left : passedOf job j < stacksOf job j
+  pub inside : j < segmentCountOf job
+  pub long : bytes ≡ bytesFor (stackCountAt job j)
+  pub left : passedOf job j < stackCountAt job j
 
 module _ (job : Job) (j bytes : ℕ) where
   pub blank-facts : blankRefusal job j bytes ≡ 0 → BlankFacts job j bytes
   unfolding blankRefusal
   blank-facts h =
-      let left : ℕ = unless (ltb (passedOf job j) (stacksOf job j)) 11 0 in
-      let long : ℕ = unless (eqb bytes (bytesFor (stacksOf job j))) 10 left in
-      let inside : ℕ = unless (ltb j (segmentsOf job)) 9 long in
+      let left : ℕ = unless (ltb (passedOf job j) (stackCountAt job j)) 11 0 in
+      let long : ℕ = unless (eqb bytes (bytesFor (stackCountAt job j))) 10 left in
+      let inside : ℕ = unless (ltb j (segmentCountOf job)) 9 long in
       let a = unless-zero (isCoherent job) 6 (unless (isBlanking (job .phase)) 8 inside) h in
       let b = unless-zero (isBlanking (job .phase)) 7 inside (a .1) in
-      let c = unless-zero (ltb j (segmentsOf job)) 8 long (b .1) in
-      let d = unless-zero (eqb bytes (bytesFor (stacksOf job j))) 9 left (c .1) in
-      let e = unless-zero (ltb (passedOf job j) (stacksOf job j)) 10 0 (d .1) in
+      let c = unless-zero (ltb j (segmentCountOf job)) 8 long (b .1) in
+      let d = unless-zero (eqb bytes (bytesFor (stackCountAt job j))) 9 left (c .1) in
+      let e = unless-zero (ltb (passedOf job j) (stackCountAt job j)) 10 0 (d .1) in
       record {
         coherent = a .0;
         blanking = b .0;
-        inside = ltb-true j (segmentsOf job) (c .0);
-        long = eqb-true bytes (bytesFor (stacksOf job j)) (d .0);
-        left = ltb-true (passedOf job j) (stacksOf job j) (e .0);
+        inside = ltb-true j (segmentCountOf job) (c .0);
+        long = eqb-true bytes (bytesFor (stackCountAt job j)) (d .0);
+        left = ltb-true (passedOf job j) (stackCountAt job j) (e .0);
       }
 
   pub facts-blank : BlankFacts job j bytes → blankRefusal job j bytes ≡ 0
@@ -51,17 +54,17 @@ module _ (job : Job) (j bytes : ℕ) where
       rw (
         f .coherent,
         f .blanking,
-        lt-ltb j (segmentsOf job) (f .inside),
-        eq-eqb bytes (bytesFor (stacksOf job j)) (f .long),
-        lt-ltb (passedOf job j) (stacksOf job j) (f .left),
+        lt-ltb j (segmentCountOf job) (f .inside),
+        eq-eqb bytes (bytesFor (stackCountAt job j)) (f .long),
+        lt-ltb (passedOf job j) (stackCountAt job j) (f .left),
       )
 
 -- what Expand and Settle try first
 pub record LevelFacts (job : Job) (j bytes logs : ℕ) : Type 0 where
   pub coherent : isCoherent job ≡ true
   pub level : isLevel (job .phase) ≡ true
-  pub inside : j < segmentsOf job
-  pub long : bytes ≡ bytesFor (stacksOf job j)
+  pub inside : j < segmentCountOf job
+  pub long : bytes ≡ bytesFor (stackCountAt job j)
   pub wide : logs ≡ logLength job
 
 module _ (job : Job) (j bytes logs : ℕ) where
@@ -69,18 +72,18 @@ module _ (job : Job) (j bytes logs : ℕ) where
   unfolding levelRefusal
   level-facts rest h =
       let wide : ℕ = unless (eqb logs (logLength job)) 10 rest in
-      let long : ℕ = unless (eqb bytes (bytesFor (stacksOf job j))) 10 wide in
-      let inside : ℕ = unless (ltb j (segmentsOf job)) 9 long in
+      let long : ℕ = unless (eqb bytes (bytesFor (stackCountAt job j))) 10 wide in
+      let inside : ℕ = unless (ltb j (segmentCountOf job)) 9 long in
       let a = unless-zero (isCoherent job) 6 (unless (isLevel (job .phase)) 8 inside) h in
       let b = unless-zero (isLevel (job .phase)) 7 inside (a .1) in
-      let c = unless-zero (ltb j (segmentsOf job)) 8 long (b .1) in
-      let d = unless-zero (eqb bytes (bytesFor (stacksOf job j))) 9 wide (c .1) in
+      let c = unless-zero (ltb j (segmentCountOf job)) 8 long (b .1) in
+      let d = unless-zero (eqb bytes (bytesFor (stackCountAt job j))) 9 wide (c .1) in
       let e = unless-zero (eqb logs (logLength job)) 9 rest (d .1) in (
         record {
           coherent = a .0;
           level = b .0;
-          inside = ltb-true j (segmentsOf job) (c .0);
-          long = eqb-true bytes (bytesFor (stacksOf job j)) (d .0);
+          inside = ltb-true j (segmentCountOf job) (c .0);
+          long = eqb-true bytes (bytesFor (stackCountAt job j)) (d .0);
           wide = eqb-true logs (logLength job) (e .0);
         },
         e .1,
@@ -92,52 +95,52 @@ module _ (job : Job) (j bytes logs : ℕ) where
       rw (
         f .coherent,
         f .level,
-        lt-ltb j (segmentsOf job) (f .inside),
-        eq-eqb bytes (bytesFor (stacksOf job j)) (f .long),
+        lt-ltb j (segmentCountOf job) (f .inside),
+        eq-eqb bytes (bytesFor (stackCountAt job j)) (f .long),
         eq-eqb logs (logLength job) (f .wide),
       ) h
 
-  pub expand-facts : expandRefusal job j bytes logs ≡ 0 → LevelFacts job j bytes logs × (passedOf job j < stacksOf job j)
+  pub expand-facts : expandRefusal job j bytes logs ≡ 0 → LevelFacts job j bytes logs × (passedOf job j < stackCountAt job j)
   unfolding expandRefusal
   expand-facts h =
-      let a = level-facts (unless (ltb (passedOf job j) (stacksOf job j)) 11 0) h in
-      (a .0, ltb-true (passedOf job j) (stacksOf job j) (unless-zero (ltb (passedOf job j) (stacksOf job j)) 10 0 (a .1) .0))
+      let a = level-facts (unless (ltb (passedOf job j) (stackCountAt job j)) 11 0) h in
+      (a .0, ltb-true (passedOf job j) (stackCountAt job j) (unless-zero (ltb (passedOf job j) (stackCountAt job j)) 10 0 (a .1) .0))
 
-  pub facts-expand : LevelFacts job j bytes logs → passedOf job j < stacksOf job j → expandRefusal job j bytes logs ≡ 0
+  pub facts-expand : LevelFacts job j bytes logs → passedOf job j < stackCountAt job j → expandRefusal job j bytes logs ≡ 0
   unfolding expandRefusal
   facts-expand f l =
-      facts-level (unless (ltb (passedOf job j) (stacksOf job j)) 11 0) f (rw (lt-ltb (passedOf job j) (stacksOf job j) l))
+      facts-level (unless (ltb (passedOf job j) (stackCountAt job j)) 11 0) f (rw (lt-ltb (passedOf job j) (stackCountAt job j) l))
 
 module _ (job : Job) (j bytes : ℕ) (log : List ℕ) where
   pub settle-facts : settleRefusal job j bytes log ≡ 0
-      → LevelFacts job j bytes (length log) × (all (λ i. ltb i (stacksOf job j)) (pending job j log) ≡ true)
+      → LevelFacts job j bytes (length log) × (all (λ i. ltb i (stackCountAt job j)) (pending job j log) ≡ true)
   unfolding settleRefusal
   settle-facts h =
-      let fit : Bool = all (λ i. ltb i (stacksOf job j)) (pending job j log) in
+      let fit : Bool = all (λ i. ltb i (stackCountAt job j)) (pending job j log) in
       let a = level-facts job j bytes (length log) (unless fit 12 0) h in
       (a .0, unless-zero fit 11 0 (a .1) .0)
 
-  pub facts-settle : LevelFacts job j bytes (length log) → all (λ i. ltb i (stacksOf job j)) (pending job j log) ≡ true
+  pub facts-settle : LevelFacts job j bytes (length log) → all (λ i. ltb i (stackCountAt job j)) (pending job j log) ≡ true
       → settleRefusal job j bytes log ≡ 0
   unfolding settleRefusal
   facts-settle f e =
-      facts-level job j bytes (length log) (unless (all (λ i. ltb i (stacksOf job j)) (pending job j log)) 12 0) f
+      facts-level job j bytes (length log) (unless (all (λ i. ltb i (stackCountAt job j)) (pending job j log)) 12 0) f
       (ap (λ (t : Bool). unless t 12 0) e)
 
 pub record LookFacts (job : Job) (j logs : ℕ) : Type 0 where
   pub coherent : isCoherent job ≡ true
-  pub inside : j < segmentsOf job
+  pub inside : j < segmentCountOf job
   pub wide : logs ≡ logLength job
 
 pub look-facts : (job : Job) (j logs : ℕ) → lookRefusal job j logs ≡ 0 → LookFacts job j logs
 unfolding lookRefusal
 look-facts job j logs h =
     let wide : ℕ = unless (eqb logs (logLength job)) 10 0 in
-    let inside : ℕ = unless (ltb j (segmentsOf job)) 9 wide in
+    let inside : ℕ = unless (ltb j (segmentCountOf job)) 9 wide in
     let a = unless-zero (isCoherent job) 6 inside h in
-    let b = unless-zero (ltb j (segmentsOf job)) 8 wide (a .1) in
+    let b = unless-zero (ltb j (segmentCountOf job)) 8 wide (a .1) in
     let c = unless-zero (eqb logs (logLength job)) 9 0 (b .1) in
-    record { coherent = a .0; inside = ltb-true j (segmentsOf job) (b .0); wide = eqb-true logs (logLength job) (c .0) }
+    record { coherent = a .0; inside = ltb-true j (segmentCountOf job) (b .0); wide = eqb-true logs (logLength job) (c .0) }
 
 pub record CloseFacts (job : Job) : Type 0 where
   pub coherent : isCoherent job ≡ true
@@ -168,20 +171,25 @@ module _ (job : Job) where
 
 -- ---- what the call leaves
 
--- an answer that names 0 where it was accepted and r where it was refused names r
-refusal-is : {X : Type 0} {out a b : X} (f : X → ℕ) (r : ℕ) → (r ≡ 0 → out ≡ a) → ((r ≡ 0 → ⊥) → out ≡ b) → f a ≡ 0 → f b ≡ r → f out ≡ r
-refusal-is {X} {out} f r accepted refused h k = go (eq-or-ne r 0)
+-- what an outcome is, accepted or refused
+either-way : {X A : Type 0} {out a b : X} (f : X → A) (v : A) (r : ℕ) → (r ≡ 0 → out ≡ a) → ((r ≡ 0 → ⊥) → out ≡ b)
+    → (r ≡ 0 → f a ≡ v) → f b ≡ v → f out ≡ v
+either-way {X} {A} {out} f v r accepted refused h k = go (eq-or-ne r 0)
   where
-    go : (r ≡ 0) ⊎ (r ≡ 0 → ⊥) → f out ≡ r
-    go (inl e) = ap f (accepted e) ∙ h ∙ sym e
+    go : (r ≡ 0) ⊎ (r ≡ 0 → ⊥) → f out ≡ v
+    go (inl e) = ap f (accepted e) ∙ h e
     go (inr e) = ap f (refused e) ∙ k
+
+-- an answer that names 0 where it was accepted and r where it was refused names r
+pub names-refusal : {X : Type 0} {out a b : X} (f : X → ℕ) (r : ℕ) → (r ≡ 0 → out ≡ a) → ((r ≡ 0 → ⊥) → out ≡ b) → f a ≡ 0 → f b ≡ r → f out ≡ r
+names-refusal f r accepted refused h k = either-way f r r accepted refused (λ e. h ∙ sym e) k
 
 module _ (job : Job) (j : ℕ) (segment : List ℕ) where
   pub blank-accepted : blankRefusal job j (length segment) ≡ 0 → blankOf job j segment ≡ (
     blanked job j,
     record {
       refusal = 0;
-      job = progressed job (job .phase) (set (job .passed) j (stacksOf job j)) (job .waiting) (job .counts);
+      job = progressed job (job .phase) (set (job .passed) j (stackCountAt job j)) (job .waiting) (job .counts);
     },
   )
   unfolding blankOf
@@ -194,7 +202,12 @@ module _ (job : Job) (j : ℕ) (segment : List ℕ) where
 
   -- the number in the answer is the refusal's
   pub blank-refusal : blankOf job j segment .1 .refusal ≡ blankRefusal job j (length segment)
-  blank-refusal = refusal-is (λ o. o .1 .refusal) (blankRefusal job j (length segment)) blank-accepted blank-refused refl refl
+  blank-refusal = names-refusal (λ o. o .1 .refusal) (blankRefusal job j (length segment)) blank-accepted blank-refused refl refl
+
+  pub blank-phase : blankOf job j segment .1 .job .phase ≡ job .phase
+  unfolding progressed
+  blank-phase =
+      either-way (λ o. o .1 .job .phase) (job .phase) (blankRefusal job j (length segment)) blank-accepted blank-refused (λ e. refl) refl
 
   module _ (log : List ℕ) where
     pub expand-accepted : expandRefusal job j (length segment) (length log) ≡ 0
@@ -217,7 +230,12 @@ module _ (job : Job) (j : ℕ) (segment : List ℕ) where
 
     pub expand-refusal : expandOf job j segment log .2 .refusal ≡ expandRefusal job j (length segment) (length log)
     expand-refusal =
-        refusal-is (λ o. o .2 .refusal) (expandRefusal job j (length segment) (length log)) expand-accepted expand-refused refl refl
+        names-refusal (λ o. o .2 .refusal) (expandRefusal job j (length segment) (length log)) expand-accepted expand-refused refl refl
+
+    pub expand-phase : expandOf job j segment log .2 .job .phase ≡ job .phase
+    unfolding expandedJob progressed
+    expand-phase =
+        either-way (λ o. o .2 .job .phase) (job .phase) (expandRefusal job j (length segment) (length log)) expand-accepted expand-refused (λ e. refl) refl
 
     pub settle-accepted : settleRefusal job j (length segment) log ≡ 0
         → (let d = levelOf (job .phase) in
@@ -238,7 +256,12 @@ module _ (job : Job) (j : ℕ) (segment : List ℕ) where
     settle-refused h = rw (ne-eqb (settleRefusal job j (length segment) log) 0 h)
 
     pub settle-refusal : settleOf job j segment log .1 .refusal ≡ settleRefusal job j (length segment) log
-    settle-refusal = refusal-is (λ o. o .1 .refusal) (settleRefusal job j (length segment) log) settle-accepted settle-refused refl refl
+    settle-refusal = names-refusal (λ o. o .1 .refusal) (settleRefusal job j (length segment) log) settle-accepted settle-refused refl refl
+
+    pub settle-phase : settleOf job j segment log .1 .job .phase ≡ job .phase
+    unfolding progressed
+    settle-phase =
+        either-way (λ o. o .1 .job .phase) (job .phase) (settleRefusal job j (length segment) log) settle-accepted settle-refused (λ e. refl) refl
 
 module _ (job : Job) where
   pub close-accepted : closeRefusal job ≡ 0 → closeOf job ≡ record { refusal = 0; job = closed job }

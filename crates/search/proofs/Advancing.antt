@@ -7,7 +7,6 @@ use Prim.Native.Nat.{ℕ, suc, _+_, _-_, _*_, _≤_, _<_}
 use native.Mathlib.Nat.{suc-mul, mul-le-mul-right}
 use native.Mathlib.Omega.{arith}
 use lib.Dec.{ltb, eqb}
-use lib.IntN.{ℤ}
 use lib.ListN.{length, getD, set}
 use lib.Seq.{getD-set-same, getD-set-other}
 use borrow.Author.Tests.{ltb-true, ltb-false, lt-ltb, eq-eqb}
@@ -15,16 +14,17 @@ use Rattle.base.specs.Words.{all, tally, from}
 use Rattle.base.proofs.Counting.{at-all, below-all}
 use Rattle.base.proofs.Tests.{and-both, never, lt-or-ge, eq-or-ne}
 use Rattle.graph.proofs.Tally.{tally-some, tally-zero}
-use Rattle.stacks.specs.Stack.{stackCount}
+use Rattle.stacks.specs.Stack.{isPaneCount}
 use Rattle.search.specs.Blank.{blankRefusal}
 use Rattle.search.specs.Build.{World, Call, CarriesOn, own, doBlank, doExpand, doSettle, doClose, lent, kept, isOwn, isLentOwn, outcome, passes, empties, changes}
 use Rattle.search.specs.Close.{isDone, isReady, closeRefusal, nextPhase, closed}
 use Rattle.search.specs.Entries.{bytesFor}
 use Rattle.search.specs.Expand.{childrenOf, expandRefusal, expansion, expandedJob, expandOf}
-use Rattle.search.specs.JobState.{isBlanking, isLevel, isFinished, levelOf, lastLevel, segmentsOf, stacksOf, passedOf, waitingOf, countOf, progressed}
-use Rattle.search.specs.Promise.{rightBytes, rightWords, Continues}
-use Rattle.search.specs.Segments.{segmentLimit, segmentCount, stacksIn, logPart}
-use Rattle.search.specs.Settle.{pending, settleRefusal, settleOf}
+use Rattle.search.specs.JobState.{isBlanking, isLevel, isFinished, levelOf, lastLevel, segmentCountOf, stackCountAt, passedOf, waitingOf, countOf, progressed}
+use Rattle.search.specs.Promise.{Continues}
+use Rattle.search.specs.Segments.{segmentLimit}
+use Rattle.search.specs.Settle.{settleRefusal, settleOf}
+use Rattle.search.specs.Logs.{logPart, pending}
 use Rattle.search.specs.declared.Answer.{Answer}
 use Rattle.search.specs.declared.Expanded.{Expanded}
 use Rattle.search.specs.declared.Job.{Job}
@@ -38,11 +38,12 @@ use Rattle.search.proofs.CloseKeeps.{closedWorld, close-world, never-pa
 use Rattle.search.proofs.Coherence.{coherent-facts}
 use Rattle.search.proofs.ExpandCases.{room-lacks, falling-le}
 use Rattle.search.proofs.ExpandLaws.{MustWait, expand-passes, expand-waits}
-use Rattle.search.proofs.Invariant.{Given, Blanks, Searches, Ended, Invariant}
+use Rattle.search.proofs.Invariant.{Blanks, Searches, Invariant, InPhase, blanking, searching, ended}
 use Rattle.search.proofs.Refused.{refusalOf, refusal-is}
-use Rattle.search.proofs.SegmentLaws.{segment-size-facts, log-room-facts, log-length, log-at}
-use Rattle.search.proofs.Shapes.{segments-is, stacks-is, area-is}
+use Rattle.search.proofs.SegmentLaws.{log-room-facts, log-length, log-at}
+use Rattle.search.proofs.Shapes.{room-is, segments-is, stacks-is, area-is}
 use Rattle.search.proofs.WorkLeft.{levelsLeft, workLeft, levels-work, stacks-work, logs-work, stacks-fall, stacks-stay, logs-fall}
+use Rattle.search.proofs.Terms.{Terms, Given, N, G, m, bytesOf, wordsOf, some, few}
 
 -- some number below n passes a test, or none does
 some-or-none : (p : ℕ → Bool) (n : ℕ) → ((i : ℕ) × (i < n) × (p i ≡ true)) ⊎ ((i : ℕ) → i < n → p i ≡ false)
@@ -63,22 +64,16 @@ next-nearer job (Level d) u h = go (eqb (countOf job d) 0)
     go false = omega arith
 next-nearer job (Finished d) u h = never refl u
 
-module _ {kind n : ℕ} {wanted : List ℤ} {S C : ℕ} (given : Given kind n wanted S C) {w : World} (invariant : Invariant kind n wanted S C w) where
-  pub some : 0 < S
-  some = omega (arith, segment-size-facts (stackCount kind n) S (given .segments) .least)
-
-  few : segmentCount (stackCount kind n) S ≤ 64
-  few = segment-size-facts (stackCount kind n) S (given .segments) .few
-
+module _ {terms : Terms} (given : Given terms) {w : World} (invariant : Invariant terms w) where
   -- a call that carries the build on, and leaves less to do
   pub record Advances : Type 0 where
-    pub next : Continues (rightBytes kind n S) (rightWords kind n S C) w
-    pub falls : workLeft (stackCount kind n) S (outcome w (next .call) .world .job) < workLeft (stackCount kind n) S (w .job)
+    pub next : Continues (bytesOf terms) (wordsOf terms) w
+    pub falls : workLeft (N terms) (terms .S) (outcome w (next .call) .world .job) < workLeft (N terms) (terms .S) (w .job)
 
   -- from what the call leaves
-  unfoldable pub advances : (call : Call (rightBytes kind n S) (rightWords kind n S C)) → isLentOwn call ≡ true → refusalOf w call ≡ 0
+  unfoldable pub advances : (call : Call (bytesOf terms) (wordsOf terms)) → isLentOwn call ≡ true → refusalOf w call ≡ 0
       → (x : World) → outcome w call .world ≡ x → CarriesOn w x
-      → workLeft (stackCount kind n) S (x .job) < workLeft (stackCount kind n) S (w .job) → Advances
+      → workLeft (N terms) (terms .S) (x .job) < workLeft (N terms) (terms .S) (w .job) → Advances
   advances call mine accepted x e carries falls =
       record {
         next = record {
@@ -87,7 +82,7 @@ module _ {kind n : ℕ} {wanted : List ℤ} {S C : ℕ} (given : Given kind n wa
           accepted = refusal-is w call ∙ accepted;
           carries = subst (CarriesOn w) (sym e) carries;
         };
-        falls = subst (λ (y : World). workLeft (stackCount kind n) S (y .job) < workLeft (stackCount kind n) S (w .job)) (sym e) falls;
+        falls = subst (λ (y : World). workLeft (N terms) (terms .S) (y .job) < workLeft (N terms) (terms .S) (w .job)) (sym e) falls;
       }
 
   -- ---- Close
@@ -112,36 +107,36 @@ module _ {kind n : ℕ} {wanted : List ℤ} {S C : ℕ} (given : Given kind n wa
     close-advances =
         advances doClose refl close-accepts (closedWorld w) (close-world w close-accepts)
         (changes (λ e. omega (arith, close-nearer, ap levelsLeft e)))
-        (levels-work (stackCount kind n) S (w .job) (closedWorld w .job) close-nearer)
+        (levels-work (N terms) (terms .S) (w .job) (closedWorld w .job) close-nearer)
 
   -- segments with all passed and nothing waiting are ready to close
-  pub all-ready : ((j : ℕ) → j < segmentCount (stackCount kind n) S → stacksIn (stackCount kind n) S j ≤ passedOf (w .job) j)
-      → ((j : ℕ) → j < segmentCount (stackCount kind n) S → waitingOf (w .job) j ≡ 0) → isReady (w .job) ≡ true
+  pub all-ready : ((j : ℕ) → j < G terms → m terms j ≤ passedOf (w .job) j)
+      → ((j : ℕ) → j < G terms → waitingOf (w .job) j ≡ 0) → isReady (w .job) ≡ true
   unfolding isReady isDone segmentLimit
   all-ready passed none =
-      below-all (isDone (w .job)) (segmentsOf (w .job)) (λ j h. done j (rw (segments-is (invariant .shaped)) at h))
+      below-all (isDone (w .job)) (segmentCountOf (w .job)) (λ j h. done j (rw (segments-is (invariant .shaped)) at h))
     where
-      done : (j : ℕ) → j < segmentCount (stackCount kind n) S → isDone (w .job) j ≡ true
+      done : (j : ℕ) → j < G terms → isDone (w .job) j ≡ true
       done j h =
-          and-both (eqb (passedOf (w .job) j) (stacksOf (w .job) j)) (eqb (waitingOf (w .job) j) 0)
-          (eq-eqb (passedOf (w .job) j) (stacksOf (w .job) j)
+          and-both (eqb (passedOf (w .job) j) (stackCountAt (w .job) j)) (eqb (waitingOf (w .job) j) 0)
+          (eq-eqb (passedOf (w .job) j) (stackCountAt (w .job) j)
           (omega (
             arith,
             passed j h,
             stacks-is (invariant .shaped) j,
-            coherent-facts (w .job) (invariant-coherent given invariant) .passed-fits j (omega (arith, few)),
+            coherent-facts (w .job) (invariant-coherent given invariant) .passed-fits j (omega (arith, few given)),
           )))
           (eq-eqb (waitingOf (w .job) j) 0 (none j h))
 
   -- ---- in Blanking
 
-  module _ (blanks : Blanks kind n wanted S C w) where
-    unfoldable pub blank-advances : (j : ℕ) → j < segmentCount (stackCount kind n) S → passedOf (w .job) j < stacksIn (stackCount kind n) S j → Advances
+  module _ (blanks : Blanks terms w) where
+    unfoldable pub blank-advances : (j : ℕ) → j < G terms → passedOf (w .job) j < m terms j → Advances
     unfolding outcome isLentOwn isOwn refusalOf lent kept isBlanking blankedWorld progressed
     blank-advances j h left =
         advances (doBlank j own) refl accepts (blankedWorld w j) (blank-world w j accepts) (passes j (rw here left))
-        (stacks-work (stackCount kind n) S (w .job) (blankedWorld w j .job) refl
-        (stacks-fall (stackCount kind n) S (w .job) (blankedWorld w j .job) some j left (rw here left) (λ i. each i (eq-or-ne i j))))
+        (stacks-work (N terms) (terms .S) (w .job) (blankedWorld w j .job) refl
+        (stacks-fall (N terms) (terms .S) (w .job) (blankedWorld w j .job) (some given) j left (rw here left) (λ i. each i (eq-or-ne i j))))
       where
         accepts : blankRefusal (w .job) j (length (getD (w .segments) j [])) ≡ 0
         accepts =
@@ -154,7 +149,7 @@ module _ {kind n : ℕ} {wanted : List ℤ} {S C : ℕ} (given : Given kind n wa
               left = rw (stacks-is (invariant .shaped) j) left;
             })
 
-        here : passedOf (blankedWorld w j .job) j ≡ stacksIn (stackCount kind n) S j
+        here : passedOf (blankedWorld w j .job) j ≡ m terms j
         here = passed-here given (invariant .shaped) j h
 
         each : (i : ℕ) → (i ≡ j) ⊎ (i ≡ j → ⊥) → passedOf (w .job) i ≤ passedOf (blankedWorld w j .job) i
@@ -164,24 +159,24 @@ module _ {kind n : ℕ} {wanted : List ℤ} {S C : ℕ} (given : Given kind n wa
     blanks-advance : Advances
     unfolding isFinished levelOf
     blanks-advance =
-        go (some-or-none (λ j. ltb (passedOf (w .job) j) (stacksIn (stackCount kind n) S j)) (segmentCount (stackCount kind n) S))
+        go (some-or-none (λ j. ltb (passedOf (w .job) j) (m terms j)) (G terms))
       where
-        go : ((j : ℕ) × (j < segmentCount (stackCount kind n) S) × (ltb (passedOf (w .job) j) (stacksIn (stackCount kind n) S j) ≡ true))
-            ⊎ ((j : ℕ) → j < segmentCount (stackCount kind n) S → ltb (passedOf (w .job) j) (stacksIn (stackCount kind n) S j) ≡ false)
+        go : ((j : ℕ) × (j < G terms) × (ltb (passedOf (w .job) j) (m terms j) ≡ true))
+            ⊎ ((j : ℕ) → j < G terms → ltb (passedOf (w .job) j) (m terms j) ≡ false)
             → Advances
-        go (inl r) = blank-advances (r .0) (r .1) (ltb-true (passedOf (w .job) (r .0)) (stacksIn (stackCount kind n) S (r .0)) (r .2))
+        go (inl r) = blank-advances (r .0) (r .1) (ltb-true (passedOf (w .job) (r .0)) (m terms (r .0)) (r .2))
         go (inr none) =
             close-advances
             (all-ready
-            (λ j h. ltb-false (passedOf (w .job) j) (stacksIn (stackCount kind n) S j) (none j h))
+            (λ j h. ltb-false (passedOf (w .job) j) (m terms j) (none j h))
             (λ j h. blanks .none-waits j))
             (ap isFinished (blanks .phase-is))
             (omega (arith, ap levelOf (blanks .phase-is)))
 
   -- ---- in a level
 
-  module _ {d : ℕ} (search : Searches kind n wanted S C w d) where
-    facts-of : (j : ℕ) → j < segmentCount (stackCount kind n) S → LevelFacts (w .job) j (length (getD (w .segments) j [])) (length (w .log))
+  module _ {d : ℕ} (search : Searches terms w d) where
+    facts-of : (j : ℕ) → j < G terms → LevelFacts (w .job) j (length (getD (w .segments) j [])) (length (w .log))
     unfolding isLevel
     facts-of j h =
         record {
@@ -192,30 +187,30 @@ module _ {kind n : ℕ} {wanted : List ℤ} {S C : ℕ} (given : Given kind n wa
           wide = invariant .shaped .log-length ∙ sym (area-is (invariant .shaped));
         }
 
-    module _ (j : ℕ) (h : j < segmentCount (stackCount kind n) S) where
+    module _ (j : ℕ) (h : j < G terms) where
       -- what waits is an offset of its segment
-      pending-fits : all (λ i. ltb i (stacksOf (w .job) j)) (pending (w .job) j (w .log)) ≡ true
+      pending-fits : all (λ i. ltb i (stackCountAt (w .job) j)) (pending (w .job) j (w .log)) ≡ true
       unfolding pending
       pending-fits =
-          subst (λ (c : ℕ). all (λ i. ltb i (stacksOf (w .job) j)) (logPart c j (waitingOf (w .job) j) (w .log)) ≡ true)
-          (sym (invariant .shaped .room-is))
-          (at-all (λ i. ltb i (stacksOf (w .job) j)) part 0 each)
+          subst (λ (c : ℕ). all (λ i. ltb i (stackCountAt (w .job) j)) (logPart c j (waitingOf (w .job) j) (w .log)) ≡ true)
+          (sym ((room-is (invariant .shaped))))
+          (at-all (λ i. ltb i (stackCountAt (w .job) j)) part 0 each)
         where
           part : List ℕ
-          part = logPart C j (waitingOf (w .job) j) (w .log)
+          part = logPart (terms .C) j (waitingOf (w .job) j) (w .log)
 
           long : length part ≡ waitingOf (w .job) j
           long =
-              log-length C j (waitingOf (w .job) j) (w .log)
-              (omega (arith, invariant .shaped .log-length, search .waiting-fits j, suc-mul j C, mul-le-mul-right C h))
+              log-length (terms .C) j (waitingOf (w .job) j) (w .log)
+              (omega (arith, invariant .shaped .log-length, search .waiting-fits j, suc-mul j (terms .C), mul-le-mul-right (terms .C) h))
 
-          each : (k : ℕ) → k < length part → ltb (getD part k 0) (stacksOf (w .job) j) ≡ true
+          each : (k : ℕ) → k < length part → ltb (getD part k 0) (stackCountAt (w .job) j) ≡ true
           each k l =
               let m : k < waitingOf (w .job) j = rw long at l in
-              lt-ltb (getD part k 0) (stacksOf (w .job) j)
+              lt-ltb (getD part k 0) (stackCountAt (w .job) j)
               (omega (
                 arith,
-                log-at C j (waitingOf (w .job) j) (w .log) k m,
+                log-at (terms .C) j (waitingOf (w .job) j) (w .log) k m,
                 search .offsets j k h m,
                 stacks-is (invariant .shaped) j,
               ))
@@ -243,7 +238,7 @@ module _ {kind n : ℕ} {wanted : List ℤ} {S C : ℕ} (given : Given kind n wa
 
       pub settled-empty : waitingOf settled j ≡ 0
       settled-empty =
-          settled-waiting j ∙ getD-set-same (w .job .waiting) j 0 0 (omega (arith, invariant .shaped .waiting-length, few))
+          settled-waiting j ∙ getD-set-same (w .job .waiting) j 0 0 (omega (arith, invariant .shaped .waiting-length, few given))
 
       pub settled-others : (i : ℕ) → (i ≡ j → ⊥) → waitingOf settled i ≡ waitingOf (w .job) i
       unfolding waitingOf
@@ -252,14 +247,14 @@ module _ {kind n : ℕ} {wanted : List ℤ} {S C : ℕ} (given : Given kind n wa
       unfoldable pub settle-advances : 0 < waitingOf (w .job) j → Advances
       unfolding outcome isLentOwn isOwn refusalOf lent kept
       settle-advances more =
-          let call : Call (rightBytes kind n S) (rightWords kind n S C) = doSettle j own own in
+          let call : Call (bytesOf terms) (wordsOf terms) = doSettle j own own in
           advances call refl settle-accepts (outcome w call .world) refl (empties j more settled-empty)
-          (logs-work (stackCount kind n) S (w .job) settled settled-phase
-          (stacks-stay (stackCount kind n) S (w .job) settled settled-passed)
-          (logs-fall (stackCount kind n) S (w .job) settled j h more settled-empty settled-others))
+          (logs-work (N terms) (terms .S) (w .job) settled settled-phase
+          (stacks-stay (N terms) (terms .S) (w .job) settled settled-passed)
+          (logs-fall (N terms) (terms .S) (w .job) settled j h more settled-empty settled-others))
 
       -- with no log waiting an Expand passes a stack
-      module _ (left : passedOf (w .job) j < stacksIn (stackCount kind n) S j) (none : (t : ℕ) → waitingOf (w .job) t ≡ 0) where
+      module _ (left : passedOf (w .job) j < m terms j) (none : (t : ℕ) → waitingOf (w .job) t ≡ 0) where
         pub expand-accepts : expandRefusal (w .job) j (length (getD (w .segments) j [])) (length (w .log)) ≡ 0
         expand-accepts =
             facts-expand (w .job) j (length (getD (w .segments) j [])) (length (w .log)) (facts-of j h) (rw (stacks-is (invariant .shaped) j) left)
@@ -280,7 +275,7 @@ module _ {kind n : ℕ} {wanted : List ℤ} {S C : ℕ} (given : Given kind n wa
             ∙ getD-set-other (w .job .passed) j i (expansion (w .job) j (getD (w .segments) j []) (w .log) .at) 0 ne
 
         listed : j < length (w .job .passed)
-        listed = omega (arith, invariant .shaped .passed-length, few)
+        listed = omega (arith, invariant .shaped .passed-length, few given)
 
         -- an empty log has room for all children of a stack
         roomy : (t : ℕ) → MustWait (w .job) j (getD (w .segments) j []) t → ⊥
@@ -293,9 +288,9 @@ module _ {kind n : ℕ} {wanted : List ℤ} {S C : ℕ} (given : Given kind n wa
               room-lacks (w .job .size) (w .job .room) j (w .job .waiting) children t (must .lacks) .1,
               falling-le (w .job .size) t children,
               children-count (w .job .kind) (w .job .n) (j * w .job .size + passedOf (w .job) j)
-                  (rw (invariant .shaped .kind-is, invariant .shaped .n-is) (given .size)),
-              invariant .shaped .room-is,
-              log-room-facts C (given .room) .least,
+                  (subst (λ (t : Terms). isPaneCount (t .kind) (t .n) ≡ true) (sym (invariant .shaped .terms-is)) (given .in-range)),
+              (room-is (invariant .shaped)),
+              log-room-facts (terms .C) (given .room) .least,
             )
 
         pub grown-here : passedOf (w .job) j < passedOf grown j
@@ -314,10 +309,10 @@ module _ {kind n : ℕ} {wanted : List ℤ} {S C : ℕ} (given : Given kind n wa
         unfoldable pub expand-advances : Advances
         unfolding outcome isLentOwn isOwn refusalOf lent kept
         expand-advances =
-            let call : Call (rightBytes kind n S) (rightWords kind n S C) = doExpand j own own in
+            let call : Call (bytesOf terms) (wordsOf terms) = doExpand j own own in
             advances call refl expand-accepts (outcome w call .world) refl (passes j grown-here)
-            (stacks-work (stackCount kind n) S (w .job) grown grown-phase
-            (stacks-fall (stackCount kind n) S (w .job) grown some j left grown-here (λ i. each i (eq-or-ne i j))))
+            (stacks-work (N terms) (terms .S) (w .job) grown grown-phase
+            (stacks-fall (N terms) (terms .S) (w .job) grown (some given) j left grown-here (λ i. each i (eq-or-ne i j))))
           where
             each : (i : ℕ) → (i ≡ j) ⊎ (i ≡ j → ⊥) → passedOf (w .job) i ≤ passedOf grown i
             each i (inl e) = omega (arith, grown-here, ap (passedOf (w .job)) e, ap (passedOf grown) e)
@@ -325,39 +320,39 @@ module _ {kind n : ℕ} {wanted : List ℤ} {S C : ℕ} (given : Given kind n wa
 
     searches-advance : Advances
     unfolding isFinished levelOf
-    searches-advance = logs (some-or-none (λ j. ltb 0 (waitingOf (w .job) j)) (segmentCount (stackCount kind n) S))
+    searches-advance = logs (some-or-none (λ j. ltb 0 (waitingOf (w .job) j)) (G terms))
       where
-        none-waits : ((j : ℕ) → j < segmentCount (stackCount kind n) S → ltb 0 (waitingOf (w .job) j) ≡ false) → (j : ℕ) → waitingOf (w .job) j ≡ 0
-        none-waits none j = go (lt-or-ge j (segmentCount (stackCount kind n) S))
+        none-waits : ((j : ℕ) → j < G terms → ltb 0 (waitingOf (w .job) j) ≡ false) → (j : ℕ) → waitingOf (w .job) j ≡ 0
+        none-waits none j = go (lt-or-ge j (G terms))
           where
-            go : (j < segmentCount (stackCount kind n) S) ⊎ (segmentCount (stackCount kind n) S ≤ j) → waitingOf (w .job) j ≡ 0
+            go : (j < G terms) ⊎ (G terms ≤ j) → waitingOf (w .job) j ≡ 0
             go (inl h) = omega (arith, ltb-false 0 (waitingOf (w .job) j) (none j h))
             go (inr h) = search .waiting-beyond j h
 
         stacks : ((j : ℕ) → waitingOf (w .job) j ≡ 0)
-            → ((j : ℕ) × (j < segmentCount (stackCount kind n) S) × (ltb (passedOf (w .job) j) (stacksIn (stackCount kind n) S j) ≡ true))
-            ⊎ ((j : ℕ) → j < segmentCount (stackCount kind n) S → ltb (passedOf (w .job) j) (stacksIn (stackCount kind n) S j) ≡ false)
+            → ((j : ℕ) × (j < G terms) × (ltb (passedOf (w .job) j) (m terms j) ≡ true))
+            ⊎ ((j : ℕ) → j < G terms → ltb (passedOf (w .job) j) (m terms j) ≡ false)
             → Advances
         stacks none (inl r) =
-            expand-advances (r .0) (r .1) (ltb-true (passedOf (w .job) (r .0)) (stacksIn (stackCount kind n) S (r .0)) (r .2)) none
+            expand-advances (r .0) (r .1) (ltb-true (passedOf (w .job) (r .0)) (m terms (r .0)) (r .2)) none
         stacks none (inr all) =
             close-advances
-            (all-ready (λ j h. ltb-false (passedOf (w .job) j) (stacksIn (stackCount kind n) S j) (all j h)) (λ j h. none j))
+            (all-ready (λ j h. ltb-false (passedOf (w .job) j) (m terms j) (all j h)) (λ j h. none j))
             (ap isFinished (search .phase-is))
             (omega (arith, ap levelOf (search .phase-is), search .last))
 
-        logs : ((j : ℕ) × (j < segmentCount (stackCount kind n) S) × (ltb 0 (waitingOf (w .job) j) ≡ true))
-            ⊎ ((j : ℕ) → j < segmentCount (stackCount kind n) S → ltb 0 (waitingOf (w .job) j) ≡ false) → Advances
+        logs : ((j : ℕ) × (j < G terms) × (ltb 0 (waitingOf (w .job) j) ≡ true))
+            ⊎ ((j : ℕ) → j < G terms → ltb 0 (waitingOf (w .job) j) ≡ false) → Advances
         logs (inl r) = settle-advances (r .0) (r .1) (ltb-true 0 (waitingOf (w .job) (r .0)) (r .2))
         logs (inr none) =
             stacks (none-waits none)
-            (some-or-none (λ j. ltb (passedOf (w .job) j) (stacksIn (stackCount kind n) S j)) (segmentCount (stackCount kind n) S))
+            (some-or-none (λ j. ltb (passedOf (w .job) j) (m terms j)) (G terms))
 
   pub invariant-advances : isFinished (w .job .phase) ≡ false → Advances
   unfolding isFinished
   invariant-advances unfinished = go (invariant .phase)
     where
-      go : Blanks kind n wanted S C w ⊎ (((d : ℕ) × Searches kind n wanted S C w d) ⊎ ((d : ℕ) × Ended kind n wanted S C w d)) → Advances
-      go (inl blanks) = blanks-advance blanks
-      go (inr (inl s)) = searches-advance (s .1)
-      go (inr (inr s)) = never (ap isFinished (s .1 .phase-is)) unfinished
+      go : InPhase terms w → Advances
+      go (blanking blanks) = blanks-advance blanks
+      go (searching d s) = searches-advance s
+      go (ended d s) = never (ap isFinished (s .phase-is)) unfinished

@@ -8,7 +8,7 @@ use lib.IntN.{ℤ}
 use lib.ListN.{length, getD, length-map}
 use Rattle.base.specs.Words.{from}
 use Rattle.base.proofs.Lists.{from-length, getD-from, getD-map}
-use Rattle.stacks.specs.Stack.{isSize, isStack, stackCount}
+use Rattle.stacks.specs.Stack.{isPaneCount, isStack, stackCount}
 use Rattle.stacks.specs.Index.{rankOf, stackAt, allStacks}
 use Rattle.stacks.proofs.Numbering.{rank-lt, unrank-rank, rank-unrank}
 
@@ -23,10 +23,10 @@ all-stacks-at kind n v h =
     getD-map (stackAt kind n) (from 0 (stackCount kind n)) v 0 [] (rw (from-length 0 (stackCount kind n)) h)
     ∙ ap (stackAt kind n) (getD-from 0 (stackCount kind n) v 0 h ∙ zero-add v)
 
-module _ (kind n : ℕ) (s : List ℤ) (size : isSize kind n ≡ true) where
+module _ (kind n : ℕ) (s : List ℤ) (in-range : isPaneCount kind n ≡ true) where
   -- a stack stands at the place of its index, and at no other
   pub all-stacks-each : isStack kind n s ≡ true → getD (allStacks kind n) (rankOf kind n s) [] ≡ s
-  all-stacks-each h = all-stacks-at kind n (rankOf kind n s) (rank-lt kind n s size h) ∙ unrank-rank kind n s size h
+  all-stacks-each h = all-stacks-at kind n (rankOf kind n s) (rank-lt kind n s in-range h) ∙ unrank-rank kind n s in-range h
 
   pub all-stacks-once : (v : ℕ) → v < stackCount kind n → getD (allStacks kind n) v [] ≡ s → v ≡ rankOf kind n s
-  all-stacks-once v h e = sym (rank-unrank kind n v size h) ∙ ap (rankOf kind n) (sym (all-stacks-at kind n v h) ∙ e)
+  all-stacks-once v h e = sym (rank-unrank kind n v in-range h) ∙ ap (rankOf kind n) (sym (all-stacks-at kind n v h) ∙ e)

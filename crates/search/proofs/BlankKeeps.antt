@@ -11,33 +11,27 @@ use lib.ListN.{length, getD, set, length-set}
 use lib.Seq.{getD-set-same, getD-set-other}
 use Rattle.base.proofs.Lists.{replicate-zero}
 use Rattle.base.proofs.Tests.{never, eq-or-ne}
-use Rattle.stacks.specs.Stack.{stackCount}
 use Rattle.search.specs.Begin.{begun}
 use Rattle.search.specs.Blank.{blankRefusal, goalOf, blanked, blankOf}
 use Rattle.search.specs.Build.{World}
 use Rattle.search.specs.Entries.{bytesFor, blank, setEntry}
-use Rattle.search.specs.JobState.{isBlanking, stacksAll, stacksOf, passedOf, waitingOf, countOf, progressed}
+use Rattle.search.specs.JobState.{isBlanking, stackCountOf, stackCountAt, passedOf, waitingOf, countOf, progressed}
 use Rattle.search.specs.Promise.{Buffers, rightBytes, rightWords}
-use Rattle.search.specs.Segments.{segmentCount, stacksIn}
 use Rattle.search.specs.declared.Answer.{Answer}
 use Rattle.search.specs.declared.Job.{Job}
 use Rattle.search.proofs.Accepted.{BlankFacts, blank-facts, blank-accepted}
 use Rattle.search.proofs.EntryLaws.{set-length, blank-length}
-use Rattle.search.proofs.Invariant.{Given, Shaped, Blanks, Searches, Ended, Invariant}
-use Rattle.search.proofs.SegmentLaws.{segment-size-facts}
+use Rattle.search.proofs.Invariant.{Shaped, Blanks, Invariant, InPhase, blanking, searching, ended}
 use Rattle.search.proofs.Shapes.{segments-is, stacks-is}
+use Rattle.search.proofs.Terms.{Terms, termsWith, Given, G, m, few}
 
 pub begun-invariant : (kind n : ℕ) (wanted : List ℤ) (S C : ℕ) (segments : List (List ℕ)) (log : List ℕ) → Buffers kind n S C segments log
-    → Invariant kind n wanted S C (record { job = begun kind n wanted S C; segments = segments; log = log })
+    → Invariant (termsWith kind n wanted S C) (record { job = begun kind n wanted S C; segments = segments; log = log })
 unfolding begun passedOf waitingOf countOf rightBytes rightWords
 begun-invariant kind n wanted S C segments log buffers =
     record {
       shaped = record {
-        kind-is = refl;
-        n-is = refl;
-        wanted-is = refl;
-        size-is = refl;
-        room-is = refl;
+        terms-is = refl;
         passed-length = refl;
         waiting-length = refl;
         counts-length = refl;
@@ -45,7 +39,7 @@ begun-invariant kind n wanted S C segments log buffers =
         segment-bytes = buffers .each;
         log-length = buffers .area;
       };
-      phase = inl (record {
+      phase = blanking (record {
         phase-is = refl;
         none-waits = replicate-zero 64;
         none-counted = replicate-zero 32;
@@ -54,19 +48,19 @@ begun-invariant kind n wanted S C segments log buffers =
       });
     }
 
-pub blanked-length : (job : Job) (j : ℕ) → length (blanked job j) ≡ bytesFor (stacksOf job j)
+pub blanked-length : (job : Job) (j : ℕ) → length (blanked job j) ≡ bytesFor (stackCountAt job j)
 unfolding blanked
 blanked-length job j = go (eqb (goalOf job / job .size) j)
   where
-    go : (t : Bool) → length (cond t (setEntry (blank (stacksOf job j)) (goalOf job % job .size) 0) (blank (stacksOf job j))) ≡ bytesFor (stacksOf job j)
-    go true = set-length (blank (stacksOf job j)) (goalOf job % job .size) 0 ∙ blank-length (stacksOf job j)
-    go false = blank-length (stacksOf job j)
+    go : (t : Bool) → length (cond t (setEntry (blank (stackCountAt job j)) (goalOf job % job .size) 0) (blank (stackCountAt job j))) ≡ bytesFor (stackCountAt job j)
+    go true = set-length (blank (stackCountAt job j)) (goalOf job % job .size) 0 ∙ blank-length (stackCountAt job j)
+    go false = blank-length (stackCountAt job j)
 
 -- the world after segment j is blanked
 unfoldable pub blankedWorld : World → ℕ → World
 blankedWorld w j =
     record {
-      job = progressed (w .job) (w .job .phase) (set (w .job .passed) j (stacksOf (w .job) j)) (w .job .waiting) (w .job .counts);
+      job = progressed (w .job) (w .job .phase) (set (w .job .passed) j (stackCountAt (w .job) j)) (w .job .waiting) (w .job .counts);
       segments = set (w .segments) j (blanked (w .job) j);
       log = w .log;
     }
@@ -79,18 +73,14 @@ blank-world w j h =
     ap (λ (o : List ℕ × Answer). record { job = o .1 .job; segments = set (w .segments) j (o .0); log = w .log })
     (blank-accepted (w .job) j (getD (w .segments) j []) h)
 
-module _ {kind n : ℕ} {wanted : List ℤ} {S C : ℕ} (given : Given kind n wanted S C) {w : World} (shaped : Shaped kind n wanted S C w)
-    (j : ℕ) (inside : j < segmentCount (stackCount kind n) S) where
-  blanked-shaped : Shaped kind n wanted S C (blankedWorld w j)
+module _ {terms : Terms} (given : Given terms) {w : World} (shaped : Shaped terms w)
+    (j : ℕ) (inside : j < G terms) where
+  blanked-shaped : Shaped terms (blankedWorld w j)
   unfolding blankedWorld progressed
   blanked-shaped =
       record {
-        kind-is = shaped .kind-is;
-        n-is = shaped .n-is;
-        wanted-is = shaped .wanted-is;
-        size-is = shaped .size-is;
-        room-is = shaped .room-is;
-        passed-length = length-set (w .job .passed) j (stacksOf (w .job) j) ∙ shaped .passed-length;
+        terms-is = shaped .terms-is;
+        passed-length = length-set (w .job .passed) j (stackCountAt (w .job) j) ∙ shaped .passed-length;
         waiting-length = shaped .waiting-length;
         counts-length = shaped .counts-length;
         segments-length = length-set (w .segments) j (blanked (w .job) j) ∙ shaped .segments-length;
@@ -98,8 +88,8 @@ module _ {kind n : ℕ} {wanted : List ℤ} {S C : ℕ} (given : Given kind n wa
         log-length = shaped .log-length;
       }
     where
-      go : (i : ℕ) → i < segmentCount (stackCount kind n) S → (i ≡ j) ⊎ (i ≡ j → ⊥)
-          → length (getD (set (w .segments) j (blanked (w .job) j)) i []) ≡ bytesFor (stacksIn (stackCount kind n) S i)
+      go : (i : ℕ) → i < G terms → (i ≡ j) ⊎ (i ≡ j → ⊥)
+          → length (getD (set (w .segments) j (blanked (w .job) j)) i []) ≡ bytesFor (m terms i)
       go i h (inl e) =
           rw e
           (ap length (getD-set-same (w .segments) j (blanked (w .job) j) [] (omega (arith, shaped .segments-length)))
@@ -107,19 +97,19 @@ module _ {kind n : ℕ} {wanted : List ℤ} {S C : ℕ} (given : Given kind n wa
           ∙ ap bytesFor (stacks-is shaped j))
       go i h (inr e) = ap length (getD-set-other (w .segments) j i (blanked (w .job) j) [] e) ∙ shaped .segment-bytes i h
 
-  pub passed-here : passedOf (blankedWorld w j .job) j ≡ stacksIn (stackCount kind n) S j
+  pub passed-here : passedOf (blankedWorld w j .job) j ≡ m terms j
   unfolding blankedWorld progressed passedOf
   passed-here =
-      getD-set-same (w .job .passed) j (stacksOf (w .job) j) 0
-      (omega (arith, shaped .passed-length, segment-size-facts (stackCount kind n) S (given .segments) .few))
+      getD-set-same (w .job .passed) j (stackCountAt (w .job) j) 0
+      (omega (arith, shaped .passed-length, few given))
       ∙ stacks-is shaped j
 
   pub passed-elsewhere : (i : ℕ) → (i ≡ j → ⊥) → passedOf (blankedWorld w j .job) i ≡ passedOf (w .job) i
   unfolding blankedWorld progressed passedOf
-  passed-elsewhere i ne = getD-set-other (w .job .passed) j i (stacksOf (w .job) j) 0 ne
+  passed-elsewhere i ne = getD-set-other (w .job .passed) j i (stackCountAt (w .job) j) 0 ne
 
-  blanked-blanks : Blanks kind n wanted S C w → Blanks kind n wanted S C (blankedWorld w j)
-  unfolding blankedWorld progressed waitingOf countOf blanked goalOf stacksOf stacksAll
+  blanked-blanks : Blanks terms w → Blanks terms (blankedWorld w j)
+  unfolding blankedWorld progressed waitingOf countOf blanked goalOf stackCountAt stackCountOf
   blanked-blanks blanks =
       record {
         phase-is = blanks .phase-is;
@@ -129,14 +119,14 @@ module _ {kind n : ℕ} {wanted : List ℤ} {S C : ℕ} (given : Given kind n wa
         each = λ i h. go i h (eq-or-ne i j) (blanks .each i h);
       }
     where
-      go : (i : ℕ) → i < segmentCount (stackCount kind n) S → (i ≡ j) ⊎ (i ≡ j → ⊥)
-          → (passedOf (w .job) i ≡ 0) ⊎ ((passedOf (w .job) i ≡ stacksIn (stackCount kind n) S i) × (getD (w .segments) i [] ≡ blanked (w .job) i))
+      go : (i : ℕ) → i < G terms → (i ≡ j) ⊎ (i ≡ j → ⊥)
+          → (passedOf (w .job) i ≡ 0) ⊎ ((passedOf (w .job) i ≡ m terms i) × (getD (w .segments) i [] ≡ blanked (w .job) i))
           → (passedOf (blankedWorld w j .job) i ≡ 0)
-          ⊎ ((passedOf (blankedWorld w j .job) i ≡ stacksIn (stackCount kind n) S i)
+          ⊎ ((passedOf (blankedWorld w j .job) i ≡ m terms i)
           × (getD (set (w .segments) j (blanked (w .job) j)) i [] ≡ blanked (w .job) i))
       go i h (inl e) was =
           subst (λ (x : ℕ). (passedOf (blankedWorld w j .job) x ≡ 0)
-          ⊎ ((passedOf (blankedWorld w j .job) x ≡ stacksIn (stackCount kind n) S x)
+          ⊎ ((passedOf (blankedWorld w j .job) x ≡ m terms x)
           × (getD (set (w .segments) j (blanked (w .job) j)) x [] ≡ blanked (w .job) x)))
           (sym e)
           (inr (passed-here, getD-set-same (w .segments) j (blanked (w .job) j) [] (omega (arith, shaped .segments-length))))
@@ -144,23 +134,23 @@ module _ {kind n : ℕ} {wanted : List ℤ} {S C : ℕ} (given : Given kind n wa
       go i h (inr ne) (inr z) =
           inr (passed-elsewhere i ne ∙ z .0, getD-set-other (w .segments) j i (blanked (w .job) j) [] ne ∙ z .1)
 
-pub blank-keeps : {kind n : ℕ} {wanted : List ℤ} {S C : ℕ} {w : World} → Given kind n wanted S C → Invariant kind n wanted S C w → (j : ℕ)
-    → blankRefusal (w .job) j (length (getD (w .segments) j [])) ≡ 0 → Invariant kind n wanted S C (blankedWorld w j)
+pub blank-keeps : {terms : Terms} {w : World} → Given terms → Invariant terms w → (j : ℕ)
+    → blankRefusal (w .job) j (length (getD (w .segments) j [])) ≡ 0 → Invariant terms (blankedWorld w j)
 unfolding isBlanking
-blank-keeps {kind} {n} {wanted} {S} {C} {w} given invariant j h = go (invariant .phase)
+blank-keeps {terms} {w} given invariant j h = go (invariant .phase)
   where
     facts : BlankFacts (w .job) j (length (getD (w .segments) j []))
     facts = blank-facts (w .job) j (length (getD (w .segments) j [])) h
 
-    inside : j < segmentCount (stackCount kind n) S
+    inside : j < G terms
     inside = rw (segments-is (invariant .shaped)) at (facts .inside)
 
-    go : Blanks kind n wanted S C w ⊎ (((d : ℕ) × Searches kind n wanted S C w d) ⊎ ((d : ℕ) × Ended kind n wanted S C w d))
-        → Invariant kind n wanted S C (blankedWorld w j)
-    go (inl blanks) =
+    go : InPhase terms w
+        → Invariant terms (blankedWorld w j)
+    go (blanking blanks) =
         record {
           shaped = blanked-shaped given (invariant .shaped) j inside;
-          phase = inl (blanked-blanks given (invariant .shaped) j inside blanks);
+          phase = blanking (blanked-blanks given (invariant .shaped) j inside blanks);
         }
-    go (inr (inl s)) = never (facts .blanking) (ap isBlanking (s .1 .phase-is))
-    go (inr (inr s)) = never (facts .blanking) (ap isBlanking (s .1 .phase-is))
+    go (searching d s) = never (facts .blanking) (ap isBlanking (s .phase-is))
+    go (ended d s) = never (facts .blanking) (ap isBlanking (s .phase-is))

@@ -18,9 +18,10 @@ use Rattle.search.specs.Begin.{begun, beginOf}
 use Rattle.search.specs.Blank.{blankRefusal, blankOf}
 use Rattle.search.specs.Close.{isPastLast, closeRefusal, nextPhase, nextCounts, closed, closeOf}
 use Rattle.search.specs.Entries.{entryAt, bytesFor}
-use Rattle.search.specs.Expand.{Marks, markOne}
-use Rattle.search.specs.JobState.{lastLevel, countLimit, beginRefusal, levelOf, segmentsOf, stacksOf, stacksAll, passedOf, waitingOf, countOf, phaseFits, isCoherent, progressed}
-use Rattle.search.specs.Settle.{pending, settleRefusal, markAll, settleOf}
+use Rattle.search.specs.JobState.{lastLevel, countLimit, beginRefusal, levelOf, segmentCountOf, stackCountAt, stackCountOf, passedOf, waitingOf, countOf, phaseFits, isCoherent, progressed}
+use Rattle.search.specs.Settle.{settleRefusal, settleOf}
+use Rattle.search.specs.Marks.{Marks, markOne, markAll}
+use Rattle.search.specs.Logs.{pending}
 use Rattle.search.specs.declared.Answer.{Answer}
 use Rattle.search.specs.declared.Job.{Job}
 use Rattle.search.specs.declared.Phase.{Phase}
@@ -105,14 +106,14 @@ module _ (job : Job) (coherent : isCoherent job ≡ true) where
 
   -- ---- Blank
 
-  blanked-coherent : (j : ℕ) → isCoherent (progressed job (job .phase) (set (job .passed) j (stacksOf job j)) (job .waiting) (job .counts)) ≡ true
-  unfolding progressed passedOf waitingOf countOf stacksOf stacksAll segmentsOf
+  blanked-coherent : (j : ℕ) → isCoherent (progressed job (job .phase) (set (job .passed) j (stackCountAt job j)) (job .waiting) (job .counts)) ≡ true
+  unfolding progressed passedOf waitingOf countOf stackCountAt stackCountOf segmentCountOf
   blanked-coherent j =
-      facts-coherent (progressed job (job .phase) (set (job .passed) j (stacksOf job j)) (job .waiting) (job .counts))
+      facts-coherent (progressed job (job .phase) (set (job .passed) j (stackCountAt job j)) (job .waiting) (job .counts))
       (record {
         begins = facts .begins;
         phase-fits = facts .phase-fits;
-        passed-fits = λ i l. set-fits (job .passed) j (stacksOf job j) i (stacksOf job i) (λ e. omega (arith, ap (stacksOf job) e)) (facts .passed-fits i l);
+        passed-fits = λ i l. set-fits (job .passed) j (stackCountAt job j) i (stackCountAt job i) (λ e. omega (arith, ap (stackCountAt job) e)) (facts .passed-fits i l);
         waiting-fits = facts .waiting-fits;
         counts-fit = facts .counts-fit;
       })
@@ -162,7 +163,7 @@ module _ (job : Job) (coherent : isCoherent job ≡ true) where
   next-counts (Finished l) d = facts .counts-fit d
 
   closed-coherent : isPastLast job ≡ false → isCoherent (closed job) ≡ true
-  unfolding closed progressed passedOf waitingOf countOf segmentsOf stacksAll
+  unfolding closed progressed passedOf waitingOf countOf segmentCountOf stackCountOf
   closed-coherent unpast =
       facts-coherent (closed job)
       (record {
@@ -182,7 +183,7 @@ module _ (job : Job) (coherent : isCoherent job ≡ true) where
 
   -- ---- Settle
 
-  module _ (j : ℕ) (segment log : List ℕ) (room : countOf job (levelOf (job .phase)) + stacksOf job j ≤ countLimit) where
+  module _ (j : ℕ) (segment log : List ℕ) (room : countOf job (levelOf (job .phase)) + stackCountAt job j ≤ countLimit) where
     abbrev marked : Marks
     marked =
         markAll (levelOf (job .phase)) (pending job j log) (record { segment = segment; count = countOf job (levelOf (job .phase)) })
@@ -192,17 +193,17 @@ module _ (job : Job) (coherent : isCoherent job ≡ true) where
         let f = settle-facts job j (length segment) log h in
         omega (
           arith,
-          all-budget (levelOf (job .phase)) (stacksOf job j) (pending job j log)
+          all-budget (levelOf (job .phase)) (stackCountAt job j) (pending job j log)
               (record { segment = segment; count = countOf job (levelOf (job .phase)) })
               (f .1)
               (f .0 .long),
-          tally-le (λ i. eqb (entryAt segment i) 3) (stacksOf job j),
+          tally-le (λ i. eqb (entryAt segment i) 3) (stackCountAt job j),
         )
 
     settled-coherent : settleRefusal job j (length segment) log ≡ 0
         → isCoherent (progressed job (job .phase) (job .passed) (set (job .waiting) j 0) (set (job .counts) (levelOf (job .phase)) (marked .count)))
         ≡ true
-    unfolding progressed passedOf waitingOf countOf stacksOf stacksAll segmentsOf
+    unfolding progressed passedOf waitingOf countOf stackCountAt stackCountOf segmentCountOf
     settled-coherent h =
         facts-coherent
         (progressed job (job .phase) (job .passed) (set (job .waiting) j 0) (set (job .counts) (levelOf (job .phase)) (marked .count)))
@@ -210,7 +211,7 @@ module _ (job : Job) (coherent : isCoherent job ≡ true) where
           begins = facts .begins;
           phase-fits = facts .phase-fits;
           passed-fits = facts .passed-fits;
-          waiting-fits = λ i l. set-fits (job .waiting) j 0 i (cond (ltb i (segmentsOf job)) (job .room) 0) (λ e. omega arith) (facts .waiting-fits i l);
+          waiting-fits = λ i l. set-fits (job .waiting) j 0 i (cond (ltb i (segmentCountOf job)) (job .room) 0) (λ e. omega arith) (facts .waiting-fits i l);
           counts-fit = λ d. set-fits (job .counts) (levelOf (job .phase)) (marked .count) d countLimit (λ e. settled-count h) (facts .counts-fit d);
         })
 

@@ -1,4 +1,4 @@
--- Coherent jobs: what coherence says, and that Begin and every accepted call give a coherent job.
+-- Coherent jobs: what coherence says, and that it asks of the first five fields what Begin asks of its arguments.
 use mathlib.Core.Path.{_≡_}
 use mathlib.Core.Logic.{_⊎_, inl, inr}
 use mathlib.Core.Bool.{true, _&&_, cond}
@@ -12,39 +12,38 @@ use borrow.Author.Tests.{leb-true, le-leb, eqb-true, eq-eqb}
 use Rattle.base.specs.Words.{unless, all, from}
 use Rattle.base.proofs.Counting.{all-at, at-all, all-below, below-all}
 use Rattle.base.proofs.Tests.{unless-zero, and-left, and-right, and-both, lt-or-ge}
-use Rattle.stacks.specs.Operations.{sizeRefusal}
-use Rattle.stacks.specs.Stack.{isKind, isSize, isStack, stackCount}
-use Rattle.search.specs.JobState.{countLimit, beginRefusal, segmentsOf, stacksOf, passedOf, waitingOf, countOf, phaseFits, segmentFits, countFits, isCoherent}
+use Rattle.stacks.specs.Operations.{kindRefusal}
+use Rattle.stacks.specs.Stack.{isKind, isPaneCount, isStack, stackCount}
+use Rattle.search.specs.JobState.{countLimit, beginRefusal, segmentCountOf, stackCountAt, passedOf, waitingOf, countOf, phaseFits, segmentFits, countFits, isCoherent}
 use Rattle.search.specs.Segments.{segmentLimit, isSegmentSize, isLogRoom}
 use Rattle.search.specs.declared.Job.{Job}
-use Rattle.search.proofs.Invariant.{Given}
+use Rattle.search.proofs.Terms.{Terms, termsWith, Given}
 
 -- ---- what an accepted Begin was given
 
-module _ (kind n : ℕ) (wanted : List ℤ) (S C : ℕ) where
-  pub begin-given : beginRefusal kind n wanted S C ≡ 0 → Given kind n wanted S C
-  unfolding beginRefusal sizeRefusal
-  begin-given h =
-      let room : ℕ = unless (isLogRoom C) 6 0 in
-      let segments : ℕ = unless (isSegmentSize (stackCount kind n) S) 5 room in
-      let stack : ℕ = unless (isStack kind n wanted) 3 segments in
-      let a = unless-zero (isKind kind) 0 (unless (isSize kind n) 2 stack) h in
-      let b = unless-zero (isSize kind n) 1 stack (a .1) in
-      let c = unless-zero (isStack kind n wanted) 2 segments (b .1) in
-      let d = unless-zero (isSegmentSize (stackCount kind n) S) 4 room (c .1) in
-      record { is-kind = a .0; size = b .0; stack = c .0; segments = d .0; room = unless-zero (isLogRoom C) 5 0 (d .1) .0 }
+pub begin-given : (kind n : ℕ) (wanted : List ℤ) (S C : ℕ) → beginRefusal kind n wanted S C ≡ 0 → Given (termsWith kind n wanted S C)
+unfolding beginRefusal kindRefusal
+begin-given kind n wanted S C h =
+    let room : ℕ = unless (isLogRoom C) 6 0 in
+    let segments : ℕ = unless (isSegmentSize (stackCount kind n) S) 5 room in
+    let stack : ℕ = unless (isStack kind n wanted) 3 segments in
+    let a = unless-zero (isKind kind) 0 (unless (isPaneCount kind n) 2 stack) h in
+    let b = unless-zero (isPaneCount kind n) 1 stack (a .1) in
+    let c = unless-zero (isStack kind n wanted) 2 segments (b .1) in
+    let d = unless-zero (isSegmentSize (stackCount kind n) S) 4 room (c .1) in
+    record { is-kind = a .0; in-range = b .0; stack = c .0; segments = d .0; room = unless-zero (isLogRoom C) 5 0 (d .1) .0 }
 
-  pub given-begin : Given kind n wanted S C → beginRefusal kind n wanted S C ≡ 0
-  unfolding beginRefusal sizeRefusal
-  given-begin g = rw (g .is-kind, g .size, g .stack, g .segments, g .room)
+pub given-begin : (terms : Terms) → Given terms → beginRefusal (terms .kind) (terms .n) (terms .wanted) (terms .S) (terms .C) ≡ 0
+unfolding beginRefusal kindRefusal
+given-begin terms g = rw (g .is-kind, g .in-range, g .stack, g .segments, g .room)
 
 -- ---- coherence
 
 pub record Coherent (job : Job) : Type 0 where
   pub begins : beginRefusal (job .kind) (job .n) (job .wanted) (job .size) (job .room) ≡ 0
   pub phase-fits : phaseFits (job .phase) ≡ true
-  pub passed-fits : (j : ℕ) → j < segmentLimit → passedOf job j ≤ stacksOf job j
-  pub waiting-fits : (j : ℕ) → j < segmentLimit → waitingOf job j ≤ cond (ltb j (segmentsOf job)) (job .room) 0
+  pub passed-fits : (j : ℕ) → j < segmentLimit → passedOf job j ≤ stackCountAt job j
+  pub waiting-fits : (j : ℕ) → j < segmentLimit → waitingOf job j ≤ cond (ltb j (segmentCountOf job)) (job .room) 0
   pub counts-fit : (d : ℕ) → countOf job d ≤ countLimit
 
 module _ (job : Job) where
@@ -62,10 +61,10 @@ module _ (job : Job) where
       record {
         begins = eqb-true (beginRefusal (job .kind) (job .n) (job .wanted) (job .size) (job .room)) 0 (and-left begins phase two);
         phase-fits = and-right begins phase two;
-        passed-fits = λ j l. leb-true (passedOf job j) (stacksOf job j)
-            (and-left (leb (passedOf job j) (stacksOf job j)) (leb (waitingOf job j) (cond (ltb j (segmentsOf job)) (job .room) 0)) (each j l));
-        waiting-fits = λ j l. leb-true (waitingOf job j) (cond (ltb j (segmentsOf job)) (job .room) 0)
-            (and-right (leb (passedOf job j) (stacksOf job j)) (leb (waitingOf job j) (cond (ltb j (segmentsOf job)) (job .room) 0)) (each j l));
+        passed-fits = λ j l. leb-true (passedOf job j) (stackCountAt job j)
+            (and-left (leb (passedOf job j) (stackCountAt job j)) (leb (waitingOf job j) (cond (ltb j (segmentCountOf job)) (job .room) 0)) (each j l));
+        waiting-fits = λ j l. leb-true (waitingOf job j) (cond (ltb j (segmentCountOf job)) (job .room) 0)
+            (and-right (leb (passedOf job j) (stackCountAt job j)) (leb (waitingOf job j) (cond (ltb j (segmentCountOf job)) (job .room) 0)) (each j l));
         counts-fit = λ d. go d (and-right (begins && phase && segments) counts h) (lt-or-ge d (length (job .counts)));
       }
     where
@@ -84,7 +83,7 @@ module _ (job : Job) where
       (and-both (begins && phase) segments
       (and-both begins phase (eq-eqb (beginRefusal (job .kind) (job .n) (job .wanted) (job .size) (job .room)) 0 (c .begins)) (c .phase-fits))
       (below-all (segmentFits job) segmentLimit
-      (λ j l. and-both (leb (passedOf job j) (stacksOf job j)) (leb (waitingOf job j) (cond (ltb j (segmentsOf job)) (job .room) 0))
-      (le-leb (passedOf job j) (stacksOf job j) (c .passed-fits j l))
-      (le-leb (waitingOf job j) (cond (ltb j (segmentsOf job)) (job .room) 0) (c .waiting-fits j l)))))
+      (λ j l. and-both (leb (passedOf job j) (stackCountAt job j)) (leb (waitingOf job j) (cond (ltb j (segmentCountOf job)) (job .room) 0))
+      (le-leb (passedOf job j) (stackCountAt job j) (c .passed-fits j l))
+      (le-leb (waitingOf job j) (cond (ltb j (segmentCountOf job)) (job .room) 0) (c .waiting-fits j l)))))
       (at-all countFits (job .counts) 0 (λ d l. le-leb (getD (job .counts) d 0) countLimit (c .counts-fit d)))

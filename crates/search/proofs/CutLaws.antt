@@ -13,8 +13,8 @@ use Rattle.base.proofs.Lists.{from-length}
 use Rattle.base.proofs.Tests.{lt-or-ge}
 use Rattle.search.specs.Drive.{cut}
 use Rattle.search.specs.Entries.{bytesFor}
-use Rattle.search.specs.Segments.{segmentCount, stacksIn, joined}
-use Rattle.search.proofs.SegmentLaws.{Segmented, full-length, four-mul, segment-starts, starts-segment, segment-full, stacksIn-le, bytes-last}
+use Rattle.search.specs.Segments.{segmentCount, stackCountIn, joined}
+use Rattle.search.proofs.SegmentLaws.{Segmented, full-length, four-mul, segment-starts, starts-segment, segment-full, stackCountIn-le, bytes-last}
 
 -- ---- lists of one length B, but for the last
 
@@ -75,24 +75,24 @@ map-from-at f a (suc n) (suc i) d h = map-from-at f (suc a) n i d (omega arith) 
 module _ (N S : ℕ) (some : 0 < S) (four : S % 4 ≡ 0) where
   -- the bytes of segment j end where segment j + 1 starts, or at the end of the table
   segment-ends : (j : ℕ) → j < segmentCount N S
-      → (j * (S / 4) + bytesFor (stacksIn N S j) ≡ suc j * (S / 4))
-      ⊎ ((j * (S / 4) + bytesFor (stacksIn N S j) ≡ bytesFor N) × (bytesFor N ≤ suc j * (S / 4)))
+      → (j * (S / 4) + bytesFor (stackCountIn N S j) ≡ suc j * (S / 4))
+      ⊎ ((j * (S / 4) + bytesFor (stackCountIn N S j) ≡ bytesFor N) × (bytesFor N ≤ suc j * (S / 4)))
   unfolding bytesFor
   segment-ends j h = go (lt-or-ge (suc j) (segmentCount N S))
     where
       go : (suc j < segmentCount N S) ⊎ (segmentCount N S ≤ suc j)
-          → (j * (S / 4) + bytesFor (stacksIn N S j) ≡ suc j * (S / 4))
-          ⊎ ((j * (S / 4) + bytesFor (stacksIn N S j) ≡ bytesFor N) × (bytesFor N ≤ suc j * (S / 4)))
+          → (j * (S / 4) + bytesFor (stackCountIn N S j) ≡ suc j * (S / 4))
+          ⊎ ((j * (S / 4) + bytesFor (stackCountIn N S j) ≡ bytesFor N) × (bytesFor N ≤ suc j * (S / 4)))
       go (inl l) = inl (omega (arith, suc-mul j (S / 4), segment-full N S some j l))
       go (inr l) =
           inr (
             sym (bytes-last N S some j four (omega arith)),
-            omega (arith, suc-mul j (S / 4), bytes-last N S some j four (omega arith), stacksIn-le N S some j),
+            omega (arith, suc-mul j (S / 4), bytes-last N S some j four (omega arith), stackCountIn-le N S some j),
           )
 
   -- so they lie in the table, which ends with the last
-  pub segment-within : (j : ℕ) → j < segmentCount N S → j * (S / 4) + bytesFor (stacksIn N S j) ≤ bytesFor N
-  unfolding bytesFor stacksIn
+  pub segment-within : (j : ℕ) → j < segmentCount N S → j * (S / 4) + bytesFor (stackCountIn N S j) ≤ bytesFor N
+  unfolding bytesFor stackCountIn
   segment-within j h = omega (arith, segment-starts N S some j h, four-mul j S four)
 
   table-ends : bytesFor N ≤ segmentCount N S * (S / 4)
@@ -104,15 +104,15 @@ module _ (N S : ℕ) (some : 0 < S) (four : S % 4 ≡ 0) where
       go (inr l) = omega (arith, four-mul (segmentCount N S) S four)
 
   module _ (table : List ℕ) where
-    pub cut-at : (j : ℕ) → j < segmentCount N S → getD (cut N S table) j [] ≡ take (bytesFor (stacksIn N S j)) (drop (j * (S / 4)) table)
+    pub cut-at : (j : ℕ) → j < segmentCount N S → getD (cut N S table) j [] ≡ take (bytesFor (stackCountIn N S j)) (drop (j * (S / 4)) table)
     unfolding cut
     cut-at j h =
-        map-from-at (λ i. take (bytesFor (stacksIn N S i)) (drop (i * (S / 4)) table)) 0 (segmentCount N S) j [] h
-        ∙ ap (λ (i : ℕ). take (bytesFor (stacksIn N S i)) (drop (i * (S / 4)) table)) (zero-add j)
+        map-from-at (λ i. take (bytesFor (stackCountIn N S i)) (drop (i * (S / 4)) table)) 0 (segmentCount N S) j [] h
+        ∙ ap (λ (i : ℕ). take (bytesFor (stackCountIn N S i)) (drop (i * (S / 4)) table)) (zero-add j)
 
     pub cut-count : length (cut N S table) ≡ segmentCount N S
     unfolding cut
-    cut-count = length-map (from 0 (segmentCount N S)) (λ j. take (bytesFor (stacksIn N S j)) (drop (j * (S / 4)) table)) ∙ from-length 0 (segmentCount N S)
+    cut-count = length-map (from 0 (segmentCount N S)) (λ j. take (bytesFor (stackCountIn N S j)) (drop (j * (S / 4)) table)) ∙ from-length 0 (segmentCount N S)
 
   module _ (table : List ℕ) (long : length table ≡ bytesFor N) where
     pub cut-segmented : Segmented N S (cut N S table)
@@ -127,23 +127,23 @@ module _ (N S : ℕ) (some : 0 < S) (four : S % 4 ≡ 0) where
     pub joined-cut : joined (cut N S table) ≡ table
     unfolding cut
     joined-cut =
-        joined-parts table (S / 4) (λ j. bytesFor (stacksIn N S j)) 0 (segmentCount N S) (segmentCount N S) (zero-add (segmentCount N S))
+        joined-parts table (S / 4) (λ j. bytesFor (stackCountIn N S j)) 0 (segmentCount N S) (segmentCount N S) (zero-add (segmentCount N S))
         (λ j h. same j (segment-ends j h))
         (omega (arith, table-ends))
         ∙ ap (λ (a : ℕ). drop a table) (zero-mul (S / 4))
       where
-        same : (j : ℕ) → (j * (S / 4) + bytesFor (stacksIn N S j) ≡ suc j * (S / 4))
-            ⊎ ((j * (S / 4) + bytesFor (stacksIn N S j) ≡ bytesFor N) × (bytesFor N ≤ suc j * (S / 4)))
-            → drop (j * (S / 4) + bytesFor (stacksIn N S j)) table ≡ drop (suc j * (S / 4)) table
+        same : (j : ℕ) → (j * (S / 4) + bytesFor (stackCountIn N S j) ≡ suc j * (S / 4))
+            ⊎ ((j * (S / 4) + bytesFor (stackCountIn N S j) ≡ bytesFor N) × (bytesFor N ≤ suc j * (S / 4)))
+            → drop (j * (S / 4) + bytesFor (stackCountIn N S j)) table ≡ drop (suc j * (S / 4)) table
         same j (inl e) = ap (λ (a : ℕ). drop a table) e
         same j (inr e) =
-            drop-of-length-le table {i = j * (S / 4) + bytesFor (stacksIn N S j)} (omega arith)
+            drop-of-length-le table {i = j * (S / 4) + bytesFor (stackCountIn N S j)} (omega arith)
             ∙ sym (drop-of-length-le table {i = suc j * (S / 4)} (omega arith))
 
     -- segment j replaced
     pub joined-replaced : (j : ℕ) (new : List ℕ) → j < segmentCount N S
         → joined (set (cut N S table) j new)
-        ≡ take (j * (S / 4)) table ++ (new ++ drop (j * (S / 4) + bytesFor (stacksIn N S j)) table)
+        ≡ take (j * (S / 4)) table ++ (new ++ drop (j * (S / 4) + bytesFor (stackCountIn N S j)) table)
     joined-replaced j new h =
         joined-set (S / 4) (cut N S table) j new (full-length N S (cut N S table) cut-segmented) (omega (arith, cut-count table))
         ∙ ap (λ (l : List ℕ). take (j * (S / 4)) l ++ (new ++ drop (j * (S / 4) + length (getD (cut N S table) j [])) l)) joined-cut
@@ -155,5 +155,5 @@ module _ (N S : ℕ) (some : 0 < S) (four : S % 4 ≡ 0) where
       ext-getD [] (cut N S (joined segs)) segs (cut-count (joined segs) ∙ sym (whole .count))
       (λ j l. let h : j < segmentCount N S = omega (arith, cut-count (joined segs)) in
       cut-at (joined segs) j h
-      ∙ ap (λ (l : List ℕ). take (bytesFor (stacksIn N S j)) l) (joined-from (S / 4) segs j (full-length N S segs whole) (omega (arith, whole .count)))
-      ∙ take-at (getD segs j []) (joined (drop (suc j) segs)) (bytesFor (stacksIn N S j)) (whole .sizes j h))
+      ∙ ap (λ (l : List ℕ). take (bytesFor (stackCountIn N S j)) l) (joined-from (S / 4) segs j (full-length N S segs whole) (omega (arith, whole .count)))
+      ∙ take-at (getD segs j []) (joined (drop (suc j) segs)) (bytesFor (stackCountIn N S j)) (whole .sizes j h))

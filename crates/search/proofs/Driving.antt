@@ -2,111 +2,108 @@
 use mathlib.Core.Path.{_≡_, refl, sym, ap, _∙_, subst}
 use mathlib.Core.Logic.{_⊎_, inl, inr}
 use mathlib.Core.Bool.{Bool, true, false, cond}
-use mathlib.Core.List.{List}
 use Prim.Native.Nat.{ℕ, zero, suc, _+_, _*_, _≤_, _<_}
 use native.Mathlib.Omega.{arith}
 use lib.Dec.{ltb}
-use lib.IntN.{ℤ}
 use borrow.Author.Tests.{ltb-true, ltb-false, lt-ltb, le-ltb}
 use Rattle.base.proofs.Radix.{digits-less}
 use Rattle.base.proofs.Tests.{test-cases, never, lt-or-ge}
-use Rattle.stacks.specs.Stack.{stackCount}
 use Rattle.search.specs.Build.{World, Call, own, doBlank, doExpand, doSettle, doClose, outcome, Outcome, lent, kept}
 use Rattle.search.specs.Drive.{isOpen, isPending, firstOpen, firstPending, nextCall, advanced, drive, mostCalls}
-use Rattle.search.specs.JobState.{isBlanking, isFinished, levelOf, lastLevel, segmentsOf, stacksOf, passedOf, waitingOf}
-use Rattle.search.specs.Promise.{rightBytes, rightWords}
-use Rattle.search.specs.Segments.{segmentCount, stacksIn}
+use Rattle.search.specs.JobState.{isBlanking, isFinished, levelOf, lastLevel, segmentCountOf, stackCountAt, passedOf, waitingOf}
+use Rattle.search.specs.Segments.{segmentCount}
 use Rattle.search.specs.declared.Job.{Job}
 use Rattle.search.specs.declared.Phase.{Phase}
 use Rattle.search.specs.declared.Phase.the-variants.{Blanking, Level, Finished}
 use Rattle.search.proofs.Advancing.{Advances, advances, close-advances, all-ready, blank-advances, settle-advances, expand-advances}
 use Rattle.search.proofs.ExpandCases.{first-before, first-passes}
-use Rattle.search.proofs.Invariant.{Given, Blanks, Searches, Ended, Invariant}
+use Rattle.search.proofs.Invariant.{Blanks, Searches, Invariant, InPhase, blanking, searching, ended}
 use Rattle.search.proofs.Shapes.{segments-is, stacks-is}
 use Rattle.search.proofs.Steps.{step-keeps}
 use Rattle.search.proofs.WorkLeft.{workLeft, levelsLeft, stacksLeft, logsLeft, stacks-le, logs-le}
+use Rattle.search.proofs.Terms.{Terms, termsOf, Given, N, G, m, bytesOf, wordsOf}
 
 -- ---- the driver's choice, case by case
 
 module _ {bytes : ℕ → ℕ} {words : ℕ} (job : Job) where
   module _ (blanking : isBlanking (job .phase) ≡ true) where
-    pub next-blank : firstOpen job < segmentsOf job → nextCall {bytes = bytes} {words = words} job ≡ doBlank (firstOpen job) own
+    pub next-blank : firstOpen job < segmentCountOf job → nextCall {bytes = bytes} {words = words} job ≡ doBlank (firstOpen job) own
     unfolding nextCall
-    next-blank h = rw (blanking, lt-ltb (firstOpen job) (segmentsOf job) h)
+    next-blank h = rw (blanking, lt-ltb (firstOpen job) (segmentCountOf job) h)
 
-    pub next-level : segmentsOf job ≤ firstOpen job → nextCall {bytes = bytes} {words = words} job ≡ doClose
+    pub next-level : segmentCountOf job ≤ firstOpen job → nextCall {bytes = bytes} {words = words} job ≡ doClose
     unfolding nextCall
-    next-level h = rw (blanking, le-ltb (firstOpen job) (segmentsOf job) h)
+    next-level h = rw (blanking, le-ltb (firstOpen job) (segmentCountOf job) h)
 
   module _ (blanked : isBlanking (job .phase) ≡ false) where
-    pub next-settle : firstPending job < segmentsOf job → nextCall {bytes = bytes} {words = words} job ≡ doSettle (firstPending job) own own
+    pub next-settle : firstPending job < segmentCountOf job → nextCall {bytes = bytes} {words = words} job ≡ doSettle (firstPending job) own own
     unfolding nextCall
-    next-settle h = rw (blanked, lt-ltb (firstPending job) (segmentsOf job) h)
+    next-settle h = rw (blanked, lt-ltb (firstPending job) (segmentCountOf job) h)
 
-    pub next-expand : segmentsOf job ≤ firstPending job → firstOpen job < segmentsOf job
+    pub next-expand : segmentCountOf job ≤ firstPending job → firstOpen job < segmentCountOf job
         → nextCall {bytes = bytes} {words = words} job ≡ doExpand (firstOpen job) own own
     unfolding nextCall
-    next-expand h l = rw (blanked, le-ltb (firstPending job) (segmentsOf job) h, lt-ltb (firstOpen job) (segmentsOf job) l)
+    next-expand h l = rw (blanked, le-ltb (firstPending job) (segmentCountOf job) h, lt-ltb (firstOpen job) (segmentCountOf job) l)
 
-    pub next-close : segmentsOf job ≤ firstPending job → segmentsOf job ≤ firstOpen job → nextCall {bytes = bytes} {words = words} job ≡ doClose
+    pub next-close : segmentCountOf job ≤ firstPending job → segmentCountOf job ≤ firstOpen job → nextCall {bytes = bytes} {words = words} job ≡ doClose
     unfolding nextCall
-    next-close h l = rw (blanked, le-ltb (firstPending job) (segmentsOf job) h, le-ltb (firstOpen job) (segmentsOf job) l)
+    next-close h l = rw (blanked, le-ltb (firstPending job) (segmentCountOf job) h, le-ltb (firstOpen job) (segmentCountOf job) l)
 
 -- ---- it carries the build on
 
-module _ {kind n : ℕ} {wanted : List ℤ} {S C : ℕ} (given : Given kind n wanted S C) {w : World} (invariant : Invariant kind n wanted S C w) where
-  G-is : segmentsOf (w .job) ≡ segmentCount (stackCount kind n) S
+module _ {terms : Terms} (given : Given terms) {w : World} (invariant : Invariant terms w) where
+  G-is : segmentCountOf (w .job) ≡ G terms
   G-is = segments-is (invariant .shaped)
 
   -- the first open segment has stacks left, and where there is none all segments are passed; so with logs
-  open-left : firstOpen (w .job) < segmentsOf (w .job) → passedOf (w .job) (firstOpen (w .job)) < stacksIn (stackCount kind n) S (firstOpen (w .job))
+  open-left : firstOpen (w .job) < segmentCountOf (w .job) → passedOf (w .job) (firstOpen (w .job)) < m terms (firstOpen (w .job))
   unfolding firstOpen isOpen
   open-left h =
       let j = firstOpen (w .job) in
       omega (
         arith,
-        ltb-true (passedOf (w .job) j) (stacksOf (w .job) j) (first-passes (isOpen (w .job)) 0 (segmentsOf (w .job)) (omega arith)),
+        ltb-true (passedOf (w .job) j) (stackCountAt (w .job) j) (first-passes (isOpen (w .job)) 0 (segmentCountOf (w .job)) (omega arith)),
         stacks-is (invariant .shaped) j,
       )
 
-  open-none : segmentsOf (w .job) ≤ firstOpen (w .job) → (j : ℕ) → j < segmentCount (stackCount kind n) S
-      → stacksIn (stackCount kind n) S j ≤ passedOf (w .job) j
+  open-none : segmentCountOf (w .job) ≤ firstOpen (w .job) → (j : ℕ) → j < G terms
+      → m terms j ≤ passedOf (w .job) j
   unfolding firstOpen isOpen
   open-none h j l =
       omega (
         arith,
-        ltb-false (passedOf (w .job) j) (stacksOf (w .job) j)
-            (first-before (isOpen (w .job)) 0 (segmentsOf (w .job)) j (omega arith) (omega (arith, G-is))),
+        ltb-false (passedOf (w .job) j) (stackCountAt (w .job) j)
+            (first-before (isOpen (w .job)) 0 (segmentCountOf (w .job)) j (omega arith) (omega (arith, G-is))),
         stacks-is (invariant .shaped) j,
       )
 
-  pending-some : firstPending (w .job) < segmentsOf (w .job) → 0 < waitingOf (w .job) (firstPending (w .job))
+  pending-some : firstPending (w .job) < segmentCountOf (w .job) → 0 < waitingOf (w .job) (firstPending (w .job))
   unfolding firstPending isPending
   pending-some h =
       ltb-true 0 (waitingOf (w .job) (firstPending (w .job)))
-      (first-passes (isPending (w .job)) 0 (segmentsOf (w .job)) (omega arith))
+      (first-passes (isPending (w .job)) 0 (segmentCountOf (w .job)) (omega arith))
 
-  pending-none : segmentsOf (w .job) ≤ firstPending (w .job) → (j : ℕ) → j < segmentCount (stackCount kind n) S → waitingOf (w .job) j ≡ 0
+  pending-none : segmentCountOf (w .job) ≤ firstPending (w .job) → (j : ℕ) → j < G terms → waitingOf (w .job) j ≡ 0
   unfolding firstPending isPending
   pending-none h j l =
       omega (
         arith,
         ltb-false 0 (waitingOf (w .job) j)
-            (first-before (isPending (w .job)) 0 (segmentsOf (w .job)) j (omega arith) (omega (arith, G-is))),
+            (first-before (isPending (w .job)) 0 (segmentCountOf (w .job)) j (omega arith) (omega (arith, G-is))),
       )
 
   -- the call that the driver makes, and that it advances
   pub Nexts : Type 0
   Nexts = (a : Advances given invariant) × (a .next .call ≡ nextCall (w .job))
 
-  blanks-next : Blanks kind n wanted S C w → Nexts
+  blanks-next : Blanks terms w → Nexts
   unfolding Nexts blank-advances close-advances advances isBlanking isFinished levelOf
-  blanks-next blanks = go (lt-or-ge (firstOpen (w .job)) (segmentsOf (w .job)))
+  blanks-next blanks = go (lt-or-ge (firstOpen (w .job)) (segmentCountOf (w .job)))
     where
       blanking : isBlanking (w .job .phase) ≡ true
       blanking = ap isBlanking (blanks .phase-is)
 
-      go : (firstOpen (w .job) < segmentsOf (w .job)) ⊎ (segmentsOf (w .job) ≤ firstOpen (w .job)) → Nexts
+      go : (firstOpen (w .job) < segmentCountOf (w .job)) ⊎ (segmentCountOf (w .job) ≤ firstOpen (w .job)) → Nexts
       go (inl h) =
           let j = firstOpen (w .job) in
           (blank-advances given invariant blanks j (omega (arith, G-is)) (open-left h), sym (next-blank (w .job) blanking h))
@@ -118,24 +115,24 @@ module _ {kind n : ℕ} {wanted : List ℤ} {S C : ℕ} (given : Given kind n wa
         sym (next-level (w .job) blanking h),
       )
 
-  searches-next : {d : ℕ} → Searches kind n wanted S C w d → Nexts
+  searches-next : {d : ℕ} → Searches terms w d → Nexts
   unfolding Nexts settle-advances expand-advances close-advances advances isBlanking isFinished levelOf
-  searches-next search = logs (lt-or-ge (firstPending (w .job)) (segmentsOf (w .job)))
+  searches-next search = logs (lt-or-ge (firstPending (w .job)) (segmentCountOf (w .job)))
     where
       blanked : isBlanking (w .job .phase) ≡ false
       blanked = ap isBlanking (search .phase-is)
 
-      none-waits : segmentsOf (w .job) ≤ firstPending (w .job) → (j : ℕ)
-          → (j < segmentCount (stackCount kind n) S) ⊎ (segmentCount (stackCount kind n) S ≤ j) → waitingOf (w .job) j ≡ 0
+      none-waits : segmentCountOf (w .job) ≤ firstPending (w .job) → (j : ℕ)
+          → (j < G terms) ⊎ (G terms ≤ j) → waitingOf (w .job) j ≡ 0
       none-waits h j (inl l) = pending-none h j l
       none-waits h j (inr l) = search .waiting-beyond j l
 
-      stacks : segmentsOf (w .job) ≤ firstPending (w .job)
-          → (firstOpen (w .job) < segmentsOf (w .job)) ⊎ (segmentsOf (w .job) ≤ firstOpen (w .job)) → Nexts
+      stacks : segmentCountOf (w .job) ≤ firstPending (w .job)
+          → (firstOpen (w .job) < segmentCountOf (w .job)) ⊎ (segmentCountOf (w .job) ≤ firstOpen (w .job)) → Nexts
       stacks h (inl l) =
           let j = firstOpen (w .job) in (
             expand-advances given invariant search j (omega (arith, G-is)) (open-left l)
-                (λ t. none-waits h t (lt-or-ge t (segmentCount (stackCount kind n) S))),
+                (λ t. none-waits h t (lt-or-ge t (G terms))),
             sym (next-expand (w .job) blanked h l),
           )
       stacks h (inr l) = (
@@ -146,20 +143,20 @@ module _ {kind n : ℕ} {wanted : List ℤ} {S C : ℕ} (given : Given kind n wa
         sym (next-close (w .job) blanked h l),
       )
 
-      logs : (firstPending (w .job) < segmentsOf (w .job)) ⊎ (segmentsOf (w .job) ≤ firstPending (w .job)) → Nexts
+      logs : (firstPending (w .job) < segmentCountOf (w .job)) ⊎ (segmentCountOf (w .job) ≤ firstPending (w .job)) → Nexts
       logs (inl h) =
           let j = firstPending (w .job) in
           (settle-advances given invariant search j (omega (arith, G-is)) (pending-some h), sym (next-settle (w .job) blanked h))
-      logs (inr h) = stacks h (lt-or-ge (firstOpen (w .job)) (segmentsOf (w .job)))
+      logs (inr h) = stacks h (lt-or-ge (firstOpen (w .job)) (segmentCountOf (w .job)))
 
   next-advances : isFinished (w .job .phase) ≡ false → Nexts
   unfolding isFinished
   next-advances unfinished = go (invariant .phase)
     where
-      go : Blanks kind n wanted S C w ⊎ (((d : ℕ) × Searches kind n wanted S C w d) ⊎ ((d : ℕ) × Ended kind n wanted S C w d)) → Nexts
-      go (inl blanks) = blanks-next blanks
-      go (inr (inl s)) = searches-next (s .1)
-      go (inr (inr s)) = never (ap isFinished (s .1 .phase-is)) unfinished
+      go : InPhase terms w → Nexts
+      go (blanking blanks) = blanks-next blanks
+      go (searching d s) = searches-next s
+      go (ended d s) = never (ap isFinished (s .phase-is)) unfinished
 
 -- ---- the driver's steps
 
@@ -168,16 +165,16 @@ next-same : (bytes bytes′ : ℕ → ℕ) (words words′ : ℕ) (w : World)
     → outcome {bytes = bytes} {words = words} w (nextCall (w .job)) ≡ outcome {bytes = bytes′} {words = words′} w (nextCall (w .job))
 unfolding nextCall outcome lent kept
 next-same bytes bytes′ words words′ w =
-    go (isBlanking (w .job .phase)) (ltb (firstOpen (w .job)) (segmentsOf (w .job))) (ltb (firstPending (w .job)) (segmentsOf (w .job)))
+    go (isBlanking (w .job .phase)) (ltb (firstOpen (w .job)) (segmentCountOf (w .job))) (ltb (firstPending (w .job)) (segmentCountOf (w .job)))
   where
     chosen : {b : ℕ → ℕ} {l : ℕ} → Bool → Bool → Bool → Call b l
-    chosen blanking left pending =
-        cond blanking (cond left (doBlank (firstOpen (w .job)) own) doClose)
+    chosen starts left pending =
+        cond starts (cond left (doBlank (firstOpen (w .job)) own) doClose)
         (cond pending (doSettle (firstPending (w .job)) own own) (cond left (doExpand (firstOpen (w .job)) own own) doClose))
 
-    go : (blanking left pending : Bool)
-        → outcome {bytes = bytes} {words = words} w (chosen blanking left pending)
-        ≡ outcome {bytes = bytes′} {words = words′} w (chosen blanking left pending)
+    go : (starts left pending : Bool)
+        → outcome {bytes = bytes} {words = words} w (chosen starts left pending)
+        ≡ outcome {bytes = bytes′} {words = words′} w (chosen starts left pending)
     go true true pending = refl
     go true false pending = refl
     go false left true = refl
@@ -215,34 +212,34 @@ work-most N S job =
           )),
     )
 
-module _ {kind n : ℕ} {wanted : List ℤ} {S C : ℕ} (given : Given kind n wanted S C) where
-  module _ {w : World} (invariant : Invariant kind n wanted S C w) where
-    advanced-is : advanced w ≡ outcome {bytes = rightBytes kind n S} {words = rightWords kind n S C} w (nextCall (w .job)) .world
+module _ {terms : Terms} (given : Given terms) where
+  module _ {w : World} (invariant : Invariant terms w) where
+    advanced-is : advanced w ≡ outcome {bytes = bytesOf terms} {words = wordsOf terms} w (nextCall (w .job)) .world
     unfolding advanced
     advanced-is =
         ap (λ (o : Outcome). o .world)
         (next-same
-        (rightBytes (w .job .kind) (w .job .n) (w .job .size))
-        (rightBytes kind n S)
-        (rightWords (w .job .kind) (w .job .n) (w .job .size) (w .job .room))
-        (rightWords kind n S C)
+        (bytesOf (termsOf (w .job)))
+        (bytesOf terms)
+        (wordsOf (termsOf (w .job)))
+        (wordsOf terms)
         w)
 
-    pub advanced-keeps : Invariant kind n wanted S C (advanced w)
-    advanced-keeps = subst (Invariant kind n wanted S C) (sym advanced-is) (step-keeps given invariant (nextCall (w .job)))
+    pub advanced-keeps : Invariant terms (advanced w)
+    advanced-keeps = subst (Invariant terms) (sym advanced-is) (step-keeps given invariant (nextCall (w .job)))
 
     pub advanced-falls : isFinished (w .job .phase) ≡ false
-        → workLeft (stackCount kind n) S (advanced w .job) < workLeft (stackCount kind n) S (w .job)
+        → workLeft (N terms) (terms .S) (advanced w .job) < workLeft (N terms) (terms .S) (w .job)
     unfolding Nexts
     advanced-falls unfinished =
         let a = next-advances given invariant unfinished in
-        subst (λ (x : World). workLeft (stackCount kind n) S (x .job) < workLeft (stackCount kind n) S (w .job)) (sym advanced-is)
-        (subst (λ (c : Call (rightBytes kind n S) (rightWords kind n S C)). workLeft (stackCount kind n) S (outcome w c .world .job) < workLeft (stackCount kind n) S (w .job))
+        subst (λ (x : World). workLeft (N terms) (terms .S) (x .job) < workLeft (N terms) (terms .S) (w .job)) (sym advanced-is)
+        (subst (λ (c : Call (bytesOf terms) (wordsOf terms)). workLeft (N terms) (terms .S) (outcome w c .world .job) < workLeft (N terms) (terms .S) (w .job))
         (a .1)
         (a .0 .falls))
 
     -- with nothing left to do it has finished
-    idle-finished : workLeft (stackCount kind n) S (w .job) ≤ 0 → isFinished (w .job .phase) ≡ true
+    idle-finished : workLeft (N terms) (terms .S) (w .job) ≤ 0 → isFinished (w .job .phase) ≡ true
     idle-finished h = go (test-cases (isFinished (w .job .phase)))
       where
         go : (isFinished (w .job .phase) ≡ true) ⊎ (isFinished (w .job .phase) ≡ false) → isFinished (w .job .phase) ≡ true
@@ -250,25 +247,25 @@ module _ {kind n : ℕ} {wanted : List ℤ} {S C : ℕ} (given : Given kind n wa
         go (inr e) = absurd (omega (arith, advanced-falls e))
 
   -- as many calls as there is work left bring it to its end, and more change nothing
-  pub drive-keeps : (calls : ℕ) (w : World) → Invariant kind n wanted S C w → workLeft (stackCount kind n) S (w .job) ≤ calls
-      → Invariant kind n wanted S C (drive calls w) × (isFinished (drive calls w .job .phase) ≡ true)
+  pub drive-keeps : (calls : ℕ) (w : World) → Invariant terms w → workLeft (N terms) (terms .S) (w .job) ≤ calls
+      → Invariant terms (drive calls w) × (isFinished (drive calls w .job .phase) ≡ true)
   unfolding drive
   drive-keeps zero w invariant h = (invariant, idle-finished invariant h)
   drive-keeps (suc calls) w invariant h = go (λ x i l. drive-keeps calls x i l) (isFinished (w .job .phase)) refl
     where
-      go : ((x : World) → Invariant kind n wanted S C x → workLeft (stackCount kind n) S (x .job) ≤ calls
-          → Invariant kind n wanted S C (drive calls x) × (isFinished (drive calls x .job .phase) ≡ true))
+      go : ((x : World) → Invariant terms x → workLeft (N terms) (terms .S) (x .job) ≤ calls
+          → Invariant terms (drive calls x) × (isFinished (drive calls x .job .phase) ≡ true))
           → (t : Bool) → isFinished (w .job .phase) ≡ t
-          → (let x = cond t w (drive calls (advanced w)) in Invariant kind n wanted S C x × (isFinished (x .job .phase) ≡ true))
+          → (let x = cond t w (drive calls (advanced w)) in Invariant terms x × (isFinished (x .job .phase) ≡ true))
       go rest true e = (invariant, e)
       go rest false e = rest (advanced w) (advanced-keeps invariant) (omega (arith, advanced-falls invariant e))
 
-  drive-more : (calls : ℕ) (w : World) → Invariant kind n wanted S C w → workLeft (stackCount kind n) S (w .job) ≤ calls
+  drive-more : (calls : ℕ) (w : World) → Invariant terms w → workLeft (N terms) (terms .S) (w .job) ≤ calls
       → drive (suc calls) w ≡ drive calls w
   drive-more zero w invariant h = drive-done 1 w (idle-finished invariant h) ∙ sym (drive-done 0 w (idle-finished invariant h))
   drive-more (suc calls) w invariant h = go (λ x i l. drive-more calls x i l) (test-cases (isFinished (w .job .phase)))
     where
-      go : ((x : World) → Invariant kind n wanted S C x → workLeft (stackCount kind n) S (x .job) ≤ calls → drive (suc calls) x ≡ drive calls x)
+      go : ((x : World) → Invariant terms x → workLeft (N terms) (terms .S) (x .job) ≤ calls → drive (suc calls) x ≡ drive calls x)
           → (isFinished (w .job .phase) ≡ true) ⊎ (isFinished (w .job .phase) ≡ false) → drive (suc (suc calls)) w ≡ drive (suc calls) w
       go rest (inl e) = drive-done (suc (suc calls)) w e ∙ sym (drive-done (suc calls) w e)
       go rest (inr e) =
@@ -276,7 +273,7 @@ module _ {kind n : ℕ} {wanted : List ℤ} {S C : ℕ} (given : Given kind n wa
           ∙ rest (advanced w) (advanced-keeps invariant) (omega (arith, advanced-falls invariant e))
           ∙ sym (drive-on calls w e)
 
-  pub drive-advanced : (calls : ℕ) (w : World) → Invariant kind n wanted S C w → workLeft (stackCount kind n) S (w .job) ≤ calls
+  pub drive-advanced : (calls : ℕ) (w : World) → Invariant terms w → workLeft (N terms) (terms .S) (w .job) ≤ calls
       → isFinished (w .job .phase) ≡ false → drive calls w ≡ drive calls (advanced w)
   drive-advanced zero w invariant h unfinished = absurd (omega (arith, advanced-falls invariant unfinished))
   drive-advanced (suc calls) w invariant h unfinished =

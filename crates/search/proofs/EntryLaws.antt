@@ -7,9 +7,9 @@ use Prim.Native.Nat.{ℕ, zero, suc, _+_, _-_, _*_, _/_, _%_, _^_, _<_, _≤_}
 use native.Mathlib.Nat.{mod-lt, mod-add-mod, div-add-mod', div-div-eq-div-mul, div-lt-iff-lt-mul, mul-add-div-right, mul-add-mod-self-right, add-assoc, add-mul, mul-assoc, mul-comm, pow-suc, pow-succ', one-le-pow}
 use native.Mathlib.Omega.{arith}
 use lib.Arith.{digits-lt, digits-div, digits-mod}
-use lib.ListN.{length, getD, set, length-set, length-replicate, getD-replicate}
+use lib.ListN.{length, getD, length-set, length-replicate, getD-replicate}
 use lib.Pow.{pow-add}
-use lib.Seq.{getD-set-same, getD-set-other, set-out, set-set, set-comm}
+use lib.Seq.{getD-set-same, getD-set-other, set-out}
 use Rattle.base.proofs.Tests.{lt-or-ge, eq-or-ne}
 use Rattle.search.specs.Entries.{digit, withDigit, entryAt, setEntry, nextEntry, bytesFor, blank}
 
@@ -121,28 +121,6 @@ withDigit-byte b k v h m n =
     let l : b / 4 ^ suc k < 4 ^ (4 - suc k) = div-lt-iff-lt-mul (place-pos (suc k)) .1 (rw (← e) h) in
     rw (with-rest b k v, e) (digits-lt l (rest-lt b k v n))
 
-pub withDigit-twice : (b k v w : ℕ) → v < 4 → withDigit (withDigit b k v) k w ≡ withDigit b k w
-withDigit-twice b k v w h =
-    omega (
-      arith,
-      withDigit-sum b k v,
-      withDigit-sum b k w,
-      ap (λ (d : ℕ). withDigit (withDigit b k v) k w + d * 4 ^ k) (sym (digit-same b k v h)) ∙ withDigit-sum (withDigit b k v) k w,
-    )
-
-pub withDigit-comm : (b k l v w : ℕ) → v < 4 → w < 4 → (k ≡ l → ⊥)
-    → withDigit (withDigit b k v) l w ≡ withDigit (withDigit b l w) k v
-withDigit-comm b k l v w g h ne =
-    omega (
-      arith,
-      withDigit-sum b k v,
-      withDigit-sum b l w,
-      ap (λ (d : ℕ). withDigit (withDigit b k v) l w + d * 4 ^ l) (sym (digit-other b k l v g (λ e. ne (sym e))))
-          ∙ withDigit-sum (withDigit b k v) l w,
-      ap (λ (d : ℕ). withDigit (withDigit b l w) k v + d * 4 ^ k) (sym (digit-other b l k w h ne))
-          ∙ withDigit-sum (withDigit b l w) k v,
-    )
-
 pub entry-lt : (bytes : List ℕ) (i : ℕ) → entryAt bytes i < 4
 unfolding entryAt
 entry-lt bytes i = digit-lt (getD bytes (i / 4) 0) (i % 4)
@@ -183,48 +161,6 @@ get-set-other bytes i l v h ne = go (eq-or-ne (l / 4) (i / 4)) (lt-or-ge (i / 4)
         rw e
         (ap (λ (b : ℕ). digit b (l % 4)) (set-byte-same bytes i v m)
         ∙ digit-other (getD bytes (i / 4) 0) (i % 4) (l % 4) v h (λ q. ne (omega arith)))
-
--- two settings within one byte are one store
-set-pair : (bytes : List ℕ) (i l v w : ℕ) → i / 4 ≡ l / 4 → l / 4 < length bytes
-    → setEntry (setEntry bytes i v) l w ≡ set bytes (l / 4) (withDigit (withDigit (getD bytes (l / 4) 0) (i % 4) v) (l % 4) w)
-unfolding setEntry
-set-pair bytes i l v w e h =
-    let x = withDigit (getD bytes (l / 4) 0) (i % 4) v in
-    rw e
-    (ap (λ (b : ℕ). set (set bytes (l / 4) x) (l / 4) (withDigit b (l % 4) w)) (getD-set-same bytes (l / 4) x 0 h)
-    ∙ set-set bytes (l / 4) x (withDigit x (l % 4) w))
-
-pub set-set-same : (bytes : List ℕ) (i v w : ℕ) → v < 4 → setEntry (setEntry bytes i v) i w ≡ setEntry bytes i w
-unfolding setEntry
-set-set-same bytes i v w h = go (lt-or-ge (i / 4) (length bytes))
-  where
-    go : (i / 4 < length bytes) ⊎ (length bytes ≤ i / 4) → setEntry (setEntry bytes i v) i w ≡ setEntry bytes i w
-    go (inl m) =
-        set-pair bytes i i v w refl m
-        ∙ ap (λ (b : ℕ). set bytes (i / 4) b) (withDigit-twice (getD bytes (i / 4) 0) (i % 4) v w h)
-    go (inr m) = ap (λ (bs : List ℕ). setEntry bs i w) (set-past bytes i v m)
-
--- two settings at different places come in either order
-pub set-set-other : (bytes : List ℕ) (i l v w : ℕ) → v < 4 → w < 4 → (i ≡ l → ⊥)
-    → setEntry (setEntry bytes i v) l w ≡ setEntry (setEntry bytes l w) i v
-unfolding setEntry
-set-set-other bytes i l v w g h ne = go (eq-or-ne (i / 4) (l / 4)) (lt-or-ge (l / 4) (length bytes))
-  where
-    go : (i / 4 ≡ l / 4) ⊎ (i / 4 ≡ l / 4 → ⊥) → (l / 4 < length bytes) ⊎ (length bytes ≤ l / 4)
-        → setEntry (setEntry bytes i v) l w ≡ setEntry (setEntry bytes l w) i v
-    go (inl e) (inl m) =
-        set-pair bytes i l v w e m
-        ∙ ap (λ (b : ℕ). set bytes (l / 4) b)
-        (withDigit-comm (getD bytes (l / 4) 0) (i % 4) (l % 4) v w g h (λ q. ne (omega arith)))
-        ∙ sym (set-pair bytes l i w v (sym e) (rw e m) ∙ rw e refl)
-    go (inl e) (inr m) =
-        ap (λ (bs : List ℕ). setEntry bs l w) (set-past bytes i v (rw e m))
-        ∙ set-past bytes l w m
-        ∙ sym (ap (λ (bs : List ℕ). setEntry bs i v) (set-past bytes l w m) ∙ set-past bytes i v (rw e m))
-    go (inr d) s =
-        ap (λ (b : ℕ). set (setEntry bytes i v) (l / 4) (withDigit b (l % 4) w)) (set-byte-other bytes i v (l / 4) (λ q. d (sym q)))
-        ∙ set-comm bytes (i / 4) (l / 4) (withDigit (getD bytes (i / 4) 0) (i % 4) v) (withDigit (getD bytes (l / 4) 0) (l % 4) w) d
-        ∙ sym (ap (λ (b : ℕ). set (setEntry bytes l w) (i / 4) (withDigit b (i % 4) v)) (set-byte-other bytes l w (i / 4) d))
 
 pub blank-length : (m : ℕ) → length (blank m) ≡ bytesFor m
 unfolding blank

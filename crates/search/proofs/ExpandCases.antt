@@ -10,9 +10,12 @@ use lib.ListN.{length, getD}
 use borrow.Author.Tests.{ltb-true, ltb-false, lt-ltb, le-ltb, eqb-false, eq-eqb, ne-eqb, not-true}
 use Rattle.base.proofs.Counting.{tally-le, tally-true, tally-false}
 use Rattle.base.proofs.Tests.{and-left, and-right, test-cases, lt-or-ge, eq-or-ne}
+use Rattle.base.specs.Words.{firstFrom}
 use Rattle.search.specs.Entries.{entryAt}
-use Rattle.search.specs.Expand.{Expansion, markOne, logOne, childrenOf, fallingIn, lacksRoom, firstFrom, placeChild, placeAll, passOne, waitFor, expandStack, expandNext}
-use Rattle.search.specs.JobState.{levelOf, segmentsOf}
+use Rattle.search.specs.Expand.{Expansion, isParent, childrenOf, placeChild, placeAll, passOne, waitFor, expandStack, expandNext}
+use Rattle.search.specs.JobState.{levelOf, segmentCountOf}
+use Rattle.search.specs.Marks.{markOne}
+use Rattle.search.specs.Logs.{logOne, fallingIn, lacksRoom}
 use Rattle.search.specs.declared.Job.{Job}
 
 module _ (p : ℕ → Bool) where
@@ -96,27 +99,27 @@ module _ (job : Job) (j : ℕ) where
     nextChildren = childrenOf (job .kind) (job .n) (j * job .size + e .at)
 
     abbrev pub nextWait : ℕ
-    nextWait = firstFrom (lacksRoom (job .size) (job .room) j (e .logs .waiting) nextChildren) 0 (segmentsOf job)
+    nextWait = firstFrom (lacksRoom (job .size) (job .room) j (e .logs .waiting) nextChildren) 0 (segmentCountOf job)
 
-    -- the next stack has the entry of the level before
-    abbrev pub IsDue : Type 0
-    IsDue = entryAt (e .marks .segment) (e .at) ≡ (levelOf (job .phase) - 1) % 3
+    -- the next stack is taken for one of the level before
+    abbrev pub isDue : Bool
+    isDue = isParent (levelOf (job .phase)) (entryAt (e .marks .segment) (e .at))
 
     pub data NextCase : Type 0 where
       stopped : e .waits ≡ true → expandNext job j e ≡ e → NextCase
-      skipped : e .waits ≡ false → (IsDue → ⊥) → expandNext job j e ≡ passOne job j e → NextCase
-      blocked : e .waits ≡ false → IsDue → nextWait < segmentsOf job → expandNext job j e ≡ waitFor job j nextWait e → NextCase
-      expanded : e .waits ≡ false → IsDue → segmentsOf job ≤ nextWait → expandNext job j e ≡ passOne job j (placeAll job j nextChildren e) → NextCase
+      skipped : e .waits ≡ false → isDue ≡ false → expandNext job j e ≡ passOne job j e → NextCase
+      blocked : e .waits ≡ false → isDue ≡ true → nextWait < segmentCountOf job → expandNext job j e ≡ waitFor job j nextWait e → NextCase
+      expanded : e .waits ≡ false → isDue ≡ true → segmentCountOf job ≤ nextWait → expandNext job j e ≡ passOne job j (placeAll job j nextChildren e) → NextCase
 
     pub next-case : NextCase
     unfolding expandNext expandStack
-    next-case = go (test-cases (e .waits)) (eq-or-ne (entryAt (e .marks .segment) (e .at)) ((levelOf (job .phase) - 1) % 3)) (lt-or-ge nextWait (segmentsOf job))
+    next-case = go (test-cases (e .waits)) (test-cases isDue) (lt-or-ge nextWait (segmentCountOf job))
       where
-        go : (e .waits ≡ true) ⊎ (e .waits ≡ false) → (IsDue) ⊎ (IsDue → ⊥) → (nextWait < segmentsOf job) ⊎ (segmentsOf job ≤ nextWait) → NextCase
+        go : (e .waits ≡ true) ⊎ (e .waits ≡ false) → (isDue ≡ true) ⊎ (isDue ≡ false) → (nextWait < segmentCountOf job) ⊎ (segmentCountOf job ≤ nextWait) → NextCase
         go (inl s) i l = stopped s (rw s)
-        go (inr s) (inr i) l = skipped s i (rw (s, ne-eqb (entryAt (e .marks .segment) (e .at)) ((levelOf (job .phase) - 1) % 3) i))
-        go (inr s) (inl i) (inl l) = blocked s i l (rw (s, eq-eqb (entryAt (e .marks .segment) (e .at)) ((levelOf (job .phase) - 1) % 3) i, lt-ltb nextWait (segmentsOf job) l))
-        go (inr s) (inl i) (inr l) = expanded s i l (rw (s, eq-eqb (entryAt (e .marks .segment) (e .at)) ((levelOf (job .phase) - 1) % 3) i, le-ltb nextWait (segmentsOf job) l))
+        go (inr s) (inr i) l = skipped s i (rw (s, i))
+        go (inr s) (inl i) (inl l) = blocked s i l (rw (s, i, lt-ltb nextWait (segmentCountOf job) l))
+        go (inr s) (inl i) (inr l) = expanded s i l (rw (s, i, le-ltb nextWait (segmentCountOf job) l))
 
     -- a step passes one stack or none
     pub next-at : (expandNext job j e .at ≡ e .at) ⊎ (expandNext job j e .at ≡ suc (e .at))

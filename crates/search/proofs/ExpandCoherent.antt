@@ -12,9 +12,10 @@ use borrow.Author.Tests.{lt-ltb}
 use Rattle.base.proofs.Tests.{eq-or-ne}
 use Rattle.graph.proofs.Tally.{tally-le}
 use Rattle.search.specs.Entries.{entryAt, bytesFor}
-use Rattle.search.specs.Expand.{Expansion, logOne, fallingIn, lacksRoom, placeChild, placeAll, passOne, waitFor, expandNext, expandRun, expansion, expandedJob, expandRefusal, expandOf}
-use Rattle.search.specs.JobState.{countLimit, levelOf, segmentsOf, stacksOf, stacksAll, passedOf, waitingOf, countOf, isCoherent, progressed}
+use Rattle.search.specs.Expand.{Expansion, placeChild, placeAll, passOne, waitFor, expandNext, expandRun, expansion, expandedJob, expandRefusal, expandOf}
+use Rattle.search.specs.JobState.{countLimit, levelOf, segmentCountOf, stackCountAt, stackCountOf, passedOf, waitingOf, countOf, isCoherent, progressed}
 use Rattle.search.specs.Segments.{segmentLimit}
+use Rattle.search.specs.Logs.{logOne, fallingIn, lacksRoom}
 use Rattle.search.specs.declared.Expanded.{Expanded}
 use Rattle.search.specs.declared.Job.{Job}
 use Rattle.search.proofs.Accepted.{expand-facts, expand-accepted, expand-refused}
@@ -22,61 +23,61 @@ use Rattle.search.proofs.CallsCoherent.{set-fits, unseenIn, mark-budget
 use Rattle.search.proofs.Children.{children-inside}
 use Rattle.search.proofs.Coherence.{Coherent, coherent-facts, facts-coherent, begin-given}
 use Rattle.search.proofs.ExpandCases.{NextCase, stopped, skipped, blocked, expanded, next-case, next-at, nextChildren, nextWait, first-before, room-enough, falling-here, falling-elsewhere, place-here, place-elsewhere, place-at}
-use Rattle.search.proofs.Invariant.{Given}
+use Rattle.search.proofs.Terms.{termsOf, Given}
 use Rattle.search.proofs.MarkLaws.{mark-length}
 use Rattle.search.proofs.SegmentLaws.{SegmentSizeFacts, segment-size-facts, segment-stack, stack-segment, stack-offset}
 
-module _ (job : Job) (coherent : isCoherent job ≡ true) (j : ℕ) (inside : j < segmentsOf job) where
+module _ (job : Job) (coherent : isCoherent job ≡ true) (j : ℕ) (inside : j < segmentCountOf job) where
   facts : Coherent job
   facts = coherent-facts job coherent
 
-  given : Given (job .kind) (job .n) (job .wanted) (job .size) (job .room)
+  given : Given (termsOf job)
   given = begin-given (job .kind) (job .n) (job .wanted) (job .size) (job .room) (facts .begins)
 
-  sizes : SegmentSizeFacts (stacksAll job) (job .size)
-  unfolding stacksAll
-  sizes = segment-size-facts (stacksAll job) (job .size) (given .segments)
+  sizes : SegmentSizeFacts (stackCountOf job) (job .size)
+  unfolding stackCountOf
+  sizes = segment-size-facts (stackCountOf job) (job .size) (given .segments)
 
   some : 0 < job .size
   some = omega (arith, sizes .least)
 
   -- the logs that a segment may have
   abbrev logBound : ℕ → ℕ
-  logBound t = cond (ltb t (segmentsOf job)) (job .room) 0
+  logBound t = cond (ltb t (segmentCountOf job)) (job .room) 0
 
   -- how far a call may have come: total is what was counted and what was unseen when it began
   record Fitting (total : ℕ) (e : Expansion) : Type 0 where
-    bytes : length (e .marks .segment) ≡ bytesFor (stacksOf job j)
-    budget : e .marks .count + unseenIn (stacksOf job j) (e .marks .segment) ≡ total
-    at-fits : e .at ≤ stacksOf job j
+    bytes : length (e .marks .segment) ≡ bytesFor (stackCountAt job j)
+    budget : e .marks .count + unseenIn (stackCountAt job j) (e .marks .segment) ≡ total
+    at-fits : e .at ≤ stackCountAt job j
     waiting : (t : ℕ) → t < segmentLimit → getD (e .logs .waiting) t 0 ≤ logBound t
 
   -- every other log has room for the children that fall there
   record Room (children : List ℕ) (e : Expansion) : Type 0 where
-    free : (t : ℕ) → t < segmentsOf job → (t ≡ j → ⊥) → getD (e .logs .waiting) t 0 + fallingIn (job .size) t children ≤ job .room
+    free : (t : ℕ) → t < segmentCountOf job → (t ≡ j → ⊥) → getD (e .logs .waiting) t 0 + fallingIn (job .size) t children ≤ job .room
 
-  few : (t : ℕ) → t < segmentsOf job → t < segmentLimit
-  unfolding segmentsOf segmentLimit
+  few : (t : ℕ) → t < segmentCountOf job → t < segmentLimit
+  unfolding segmentCountOf segmentLimit
   few t h = omega (arith, sizes .few)
 
-  module _ (total c : ℕ) (children : List ℕ) (e : Expansion) (low : c < stacksAll job) (fitting : Fitting total e) (room : Room (c ∷ children) e) where
-    home : c / job .size < segmentsOf job
-    unfolding segmentsOf
-    home = stack-segment (stacksAll job) (job .size) some c low
+  module _ (total c : ℕ) (children : List ℕ) (e : Expansion) (low : c < stackCountOf job) (fitting : Fitting total e) (room : Room (c ∷ children) e) where
+    home : c / job .size < segmentCountOf job
+    unfolding segmentCountOf
+    home = stack-segment (stackCountOf job) (job .size) some c low
 
-    offset : c % job .size < stacksOf job (c / job .size)
-    unfolding stacksOf
-    offset = stack-offset (stacksAll job) (job .size) some c low
+    offset : c % job .size < stackCountAt job (c / job .size)
+    unfolding stackCountAt
+    offset = stack-offset (stackCountOf job) (job .size) some c low
 
     placed-here : c / job .size ≡ j → Fitting total (placeChild job j c e) × Room children (placeChild job j c e)
     placed-here h =
         let d = levelOf (job .phase) in
         let i = c % job .size in
-        let fits : i < stacksOf job j = subst (λ (t : ℕ). i < stacksOf job t) h offset in
+        let fits : i < stackCountAt job j = subst (λ (t : ℕ). i < stackCountAt job t) h offset in
         rw (place-here job j c e h) (
           record {
             bytes = mark-length d i (e .marks) ∙ fitting .bytes;
-            budget = mark-budget d i (stacksOf job j) (e .marks) fits (fitting .bytes) ∙ fitting .budget;
+            budget = mark-budget d i (stackCountAt job j) (e .marks) fits (fitting .bytes) ∙ fitting .budget;
             at-fits = fitting .at-fits;
             waiting = fitting .waiting;
           },
@@ -96,7 +97,7 @@ module _ (job : Job) (coherent : isCoherent job ≡ true) (j : ℕ) (inside : j 
             budget = fitting .budget;
             at-fits = fitting .at-fits;
             waiting = λ t l. set-fits old u (getD old u 0 + 1) t (logBound t)
-                (λ q. rw (q, lt-ltb u (segmentsOf job) home) (omega arith))
+                (λ q. rw (q, lt-ltb u (segmentCountOf job) home) (omega arith))
                 (fitting .waiting t l);
           },
           record { free = λ t l other. after t (room .free t l other) (eq-or-ne t u) },
@@ -130,7 +131,7 @@ module _ (job : Job) (coherent : isCoherent job ≡ true) (j : ℕ) (inside : j 
         go (inl h) = placed-here h
         go (inr ne) = placed-elsewhere ne
 
-  placed-all : (total : ℕ) (children : List ℕ) (e : Expansion) → ((i : ℕ) → i < length children → getD children i 0 < stacksAll job)
+  placed-all : (total : ℕ) (children : List ℕ) (e : Expansion) → ((i : ℕ) → i < length children → getD children i 0 < stackCountOf job)
       → Fitting total e → Room children e → Fitting total (placeAll job j children e)
   unfolding placeAll
   placed-all total [] e low fitting room = fitting
@@ -139,22 +140,22 @@ module _ (job : Job) (coherent : isCoherent job ≡ true) (j : ℕ) (inside : j 
       placed-all total children (placeChild job j c e) (λ i l. low (suc i) (omega arith)) (p .0) (p .1)
 
   -- where no other segment lacks room, there is room
-  roomy : (total : ℕ) (e : Expansion) → Fitting total e → segmentsOf job ≤ nextWait job j e → Room (nextChildren job j e) e
+  roomy : (total : ℕ) (e : Expansion) → Fitting total e → segmentCountOf job ≤ nextWait job j e → Room (nextChildren job j e) e
   roomy total e fitting l =
       record {
         free = λ t h ne. omega (
           arith,
           room-enough (job .size) (job .room) j (e .logs .waiting) (nextChildren job j e) t
-              (first-before (lacksRoom (job .size) (job .room) j (e .logs .waiting) (nextChildren job j e)) 0 (segmentsOf job) t (omega arith) (omega arith))
+              (first-before (lacksRoom (job .size) (job .room) j (e .logs .waiting) (nextChildren job j e)) 0 (segmentCountOf job) t (omega arith) (omega arith))
               ne,
           bound t h,
         );
       }
     where
-      bound : (t : ℕ) → t < segmentsOf job → getD (e .logs .waiting) t 0 ≤ job .room
-      bound t h = rw (lt-ltb t (segmentsOf job) h) at (fitting .waiting t (few t h))
+      bound : (t : ℕ) → t < segmentCountOf job → getD (e .logs .waiting) t 0 ≤ job .room
+      bound t h = rw (lt-ltb t (segmentCountOf job) h) at (fitting .waiting t (few t h))
 
-  passed-fits : (total : ℕ) (e : Expansion) → e .at < stacksOf job j → Fitting total e → Fitting total (passOne job j e)
+  passed-fits : (total : ℕ) (e : Expansion) → e .at < stackCountAt job j → Fitting total e → Fitting total (passOne job j e)
   unfolding passOne
   passed-fits total e h fitting =
       record { bytes = fitting .bytes; budget = fitting .budget; at-fits = omega arith; waiting = fitting .waiting }
@@ -164,17 +165,17 @@ module _ (job : Job) (coherent : isCoherent job ≡ true) (j : ℕ) (inside : j 
   waited-fits total t e fitting =
       record { bytes = fitting .bytes; budget = fitting .budget; at-fits = fitting .at-fits; waiting = fitting .waiting }
 
-  next-fitting : (total : ℕ) (e : Expansion) → e .at < stacksOf job j → Fitting total e → Fitting total (expandNext job j e)
-  unfolding stacksOf stacksAll
+  next-fitting : (total : ℕ) (e : Expansion) → e .at < stackCountAt job j → Fitting total e → Fitting total (expandNext job j e)
+  unfolding stackCountAt stackCountOf
   next-fitting total e h fitting = go (next-case job j e)
     where
       after : Expansion
       after = placeAll job j (nextChildren job j e) e
 
-      low : (i : ℕ) → i < length (nextChildren job j e) → getD (nextChildren job j e) i 0 < stacksAll job
+      low : (i : ℕ) → i < length (nextChildren job j e) → getD (nextChildren job j e) i 0 < stackCountOf job
       low =
-          children-inside (job .kind) (job .n) (j * job .size + e .at) (given .size)
-          (segment-stack (stacksAll job) (job .size) some j (e .at) h)
+          children-inside (job .kind) (job .n) (j * job .size + e .at) (given .in-range)
+          (segment-stack (stackCountOf job) (job .size) some j (e .at) h)
 
       go : NextCase job j e → Fitting total (expandNext job j e)
       go (stopped s i) = rw i fitting
@@ -185,24 +186,24 @@ module _ (job : Job) (coherent : isCoherent job ≡ true) (j : ℕ) (inside : j 
           (passed-fits total after (rw (place-at job j (nextChildren job j e) e) h)
           (placed-all total (nextChildren job j e) e low fitting (roomy total e fitting l)))
 
-  run-fitting : (total left : ℕ) (e : Expansion) → e .at + left ≤ stacksOf job j → Fitting total e → Fitting total (expandRun job j left e)
+  run-fitting : (total left : ℕ) (e : Expansion) → e .at + left ≤ stackCountAt job j → Fitting total e → Fitting total (expandRun job j left e)
   unfolding expandRun
   run-fitting total zero e h fitting = fitting
   run-fitting total (suc left) e h fitting =
       run-fitting total left (expandNext job j e) (fits (next-at job j e)) (next-fitting total e (omega arith) fitting)
     where
-      fits : (expandNext job j e .at ≡ e .at) ⊎ (expandNext job j e .at ≡ suc (e .at)) → expandNext job j e .at + left ≤ stacksOf job j
+      fits : (expandNext job j e .at ≡ e .at) ⊎ (expandNext job j e .at ≡ suc (e .at)) → expandNext job j e .at + left ≤ stackCountAt job j
       fits (inl i) = omega arith
       fits (inr i) = omega arith
 
-  module _ (segment log : List ℕ) (long : length segment ≡ bytesFor (stacksOf job j)) where
-    end-fitting : Fitting (countOf job (levelOf (job .phase)) + unseenIn (stacksOf job j) segment) (expansion job j segment log)
+  module _ (segment log : List ℕ) (long : length segment ≡ bytesFor (stackCountAt job j)) where
+    end-fitting : Fitting (countOf job (levelOf (job .phase)) + unseenIn (stackCountAt job j) segment) (expansion job j segment log)
     unfolding expansion waitingOf
     end-fitting =
         let passed = facts .passed-fits j (few j inside) in
         run-fitting
-        (countOf job (levelOf (job .phase)) + unseenIn (stacksOf job j) segment)
-        (stacksOf job j - passedOf job j)
+        (countOf job (levelOf (job .phase)) + unseenIn (stackCountAt job j) segment)
+        (stackCountAt job j - passedOf job j)
         (record {
           at = passedOf job j;
           waits = false;
@@ -213,9 +214,9 @@ module _ (job : Job) (coherent : isCoherent job ≡ true) (j : ℕ) (inside : j 
         (omega arith)
         (record { bytes = long; budget = refl; at-fits = passed; waiting = facts .waiting-fits })
 
-    expanded-coherent : countOf job (levelOf (job .phase)) + stacksOf job j ≤ countLimit
+    expanded-coherent : countOf job (levelOf (job .phase)) + stackCountAt job j ≤ countLimit
         → isCoherent (expandedJob job j (expansion job j segment log)) ≡ true
-    unfolding expandedJob progressed passedOf waitingOf countOf stacksOf stacksAll segmentsOf
+    unfolding expandedJob progressed passedOf waitingOf countOf stackCountAt stackCountOf segmentCountOf
     expanded-coherent room =
         let e = expansion job j segment log in
         let f = end-fitting in
@@ -223,15 +224,15 @@ module _ (job : Job) (coherent : isCoherent job ≡ true) (j : ℕ) (inside : j 
         (record {
           begins = facts .begins;
           phase-fits = facts .phase-fits;
-          passed-fits = λ i l. set-fits (job .passed) j (e .at) i (stacksOf job i) (λ q. omega (arith, f .at-fits, ap (stacksOf job) q)) (facts .passed-fits i l);
+          passed-fits = λ i l. set-fits (job .passed) j (e .at) i (stackCountAt job i) (λ q. omega (arith, f .at-fits, ap (stackCountAt job) q)) (facts .passed-fits i l);
           waiting-fits = f .waiting;
           counts-fit = λ d. set-fits (job .counts) (levelOf (job .phase)) (e .marks .count) d countLimit
-              (λ q. omega (arith, f .budget, tally-le (λ i. eqb (entryAt segment i) 3) (stacksOf job j)))
+              (λ q. omega (arith, f .budget, tally-le (λ i. eqb (entryAt segment i) 3) (stackCountAt job j)))
               (facts .counts-fit d);
         })
 
 pub expand-coherent : (job : Job) → isCoherent job ≡ true → (j : ℕ) (segment log : List ℕ)
-    → countOf job (levelOf (job .phase)) + stacksOf job j ≤ countLimit → isCoherent (expandOf job j segment log .2 .job) ≡ true
+    → countOf job (levelOf (job .phase)) + stackCountAt job j ≤ countLimit → isCoherent (expandOf job j segment log .2 .job) ≡ true
 expand-coherent job coherent j segment log room = go (eq-or-ne (expandRefusal job j (length segment) (length log)) 0)
   where
     go : (expandRefusal job j (length segment) (length log) ≡ 0) ⊎ (expandRefusal job j (length segment) (length log) ≡ 0 → ⊥)

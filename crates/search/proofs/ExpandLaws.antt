@@ -4,27 +4,25 @@ use mathlib.Core.Path.{_≡_, refl, sym, ap, _∙_, subst}
 use mathlib.Core.Logic.{_⊎_, inl, inr}
 use mathlib.Core.Bool.{Bool, true, false, false≢true}
 use mathlib.Core.List.{List}
-use Prim.Native.Nat.{ℕ, zero, suc, _+_, _-_, _*_, _%_, _<_, _≤_}
+use Prim.Native.Nat.{ℕ, zero, suc, _+_, _-_, _*_, _<_, _≤_}
 use native.Mathlib.Nat.{add-zero}
 use native.Mathlib.Omega.{arith}
 use lib.ListN.{length}
 use lib.Seq.{getD-set-same}
 use Rattle.base.proofs.Tests.{never, lt-or-ge}
 use Rattle.search.specs.Entries.{entryAt}
-use Rattle.search.specs.Expand.{Expansion, childrenOf, lacksRoom, passOne, waitFor, expandNext, expandRun, expansion, expandedJob, expandOf, expandRefusal}
-use Rattle.search.specs.JobState.{levelOf, segmentsOf, stacksOf, passedOf, waitingOf, countOf, progressed}
+use Rattle.search.specs.Expand.{Expansion, isParent, childrenOf, passOne, waitFor, expandNext, expandRun, expansion, expandedJob, expandOf, expandRefusal}
+use Rattle.search.specs.JobState.{levelOf, segmentCountOf, stackCountAt, passedOf, countOf, progressed}
+use Rattle.search.specs.Logs.{lacksRoom}
 use Rattle.search.specs.declared.Expanded.{Expanded}
 use Rattle.search.specs.declared.Job.{Job}
 use Rattle.search.proofs.Accepted.{expand-facts, expand-accepted}
-use Rattle.search.proofs.Children.{children-count}
-use Rattle.search.proofs.Coherence.{begin-given, coherent-facts}
-use Rattle.search.proofs.ExpandCases.{first-before, first-passes, room-lacks, falling-le, place-at, place-waits, NextCase, stopped, skipped, blocked, expanded, next-case, next-at, nextChildren, nextWait}
-use Rattle.search.proofs.SegmentLaws.{log-room-facts}
+use Rattle.search.proofs.ExpandCases.{first-before, first-passes, place-at, place-waits, NextCase, stopped, skipped, blocked, expanded, next-case, next-at, nextChildren, nextWait}
 
--- the first stack not passed has the entry of the level before, and t is the lowest other segment that lacks room for its children
+-- the first stack not passed is taken for one of the level before, and t is the lowest other segment that lacks room for its children
 pub record MustWait (job : Job) (j : ℕ) (segment : List ℕ) (t : ℕ) : Type 0 where
-  pub due : entryAt segment (passedOf job j) ≡ (levelOf (job .phase) - 1) % 3
-  pub inside : t < segmentsOf job
+  pub due : isParent (levelOf (job .phase)) (entryAt segment (passedOf job j)) ≡ true
+  pub inside : t < segmentCountOf job
   pub lacks : lacksRoom (job .size) (job .room) j (job .waiting) (childrenOf (job .kind) (job .n) (j * job .size + passedOf job j)) t ≡ true
   pub lowest : (u : ℕ) → u < t → lacksRoom (job .size) (job .room) j (job .waiting) (childrenOf (job .kind) (job .n) (j * job .size + passedOf job j)) u ≡ false
 
@@ -36,13 +34,6 @@ must-unique {t} {u} a b = go (lt-or-ge t u) (lt-or-ge u t)
     go (inl l) m = never (a .lacks) (b .lowest t l)
     go (inr l) (inl m) = never (b .lacks) (a .lowest u m)
     go (inr l) (inr m) = omega arith
-
--- segment t is another one, and its log has fewer than 12 free places, so that something waits there
-pub record NearlyFull (job : Job) (j t : ℕ) (after : Job) : Type 0 where
-  pub inside : t < segmentsOf job
-  pub other : t ≡ j → ⊥
-  pub full : job .room < waitingOf after t + 12
-  pub waits : 0 < waitingOf after t
 
 -- ---- runs
 
@@ -92,7 +83,7 @@ module _ (job : Job) (j : ℕ) where
   -- what a call waits for is another segment that lacks room for the next stack's children
   abbrev WaitsOn : Expansion → Type 0
   WaitsOn e =
-      e .waits ≡ true → (e .on < segmentsOf job)
+      e .waits ≡ true → (e .on < segmentCountOf job)
       × (lacksRoom (job .size) (job .room) j (e .logs .waiting) (nextChildren job j e) (e .on) ≡ true)
 
   run-on : (left : ℕ) (e : Expansion) → WaitsOn e → WaitsOn (expandRun job j left e)
@@ -104,7 +95,7 @@ module _ (job : Job) (j : ℕ) where
       go (stopped s i) = rw i h
       go (skipped s due i) = rw i (λ t. never t s)
       go (blocked s due l i) =
-          rw i (λ t. (l, first-passes (lacksRoom (job .size) (job .room) j (e .logs .waiting) (nextChildren job j e)) 0 (segmentsOf job) (omega arith)))
+          rw i (λ t. (l, first-passes (lacksRoom (job .size) (job .room) j (e .logs .waiting) (nextChildren job j e)) 0 (segmentCountOf job) (omega arith)))
       go (expanded s due l i) = rw i (λ t. never t (place-waits job j (nextChildren job j e) e ∙ s))
 
 -- ---- the answer
@@ -130,36 +121,15 @@ module _ (job : Job) (j : ℕ) (segment log : List ℕ) (accepted : expandRefusa
   answer-is : expandOf job j segment log .2 ≡ record { refusal = 0; waits = end .waits; on = end .on; job = expandedJob job j end }
   answer-is = ap (λ o. o .2) (expand-accepted job j segment log accepted)
 
-  left : passedOf job j < stacksOf job j
+  left : passedOf job j < stackCountAt job j
   left = expand-facts job j (length segment) (length log) accepted .1
 
   -- there is a first step
-  end-first : end ≡ expandRun job j (stacksOf job j - suc (passedOf job j)) (expandNext job j start)
+  end-first : end ≡ expandRun job j (stackCountAt job j - suc (passedOf job j)) (expandNext job j start)
   unfolding expansion expandRun
   end-first =
       ap (λ (k : ℕ). expandRun job j k start)
-      (let e : stacksOf job j - passedOf job j ≡ suc (stacksOf job j - suc (passedOf job j)) = omega (arith, left) in e)
-
-  end-waits : WaitsOn job j end
-  unfolding expansion
-  end-waits = run-on job j (stacksOf job j - passedOf job j) start (λ t. absurd (false≢true t))
-
-  end-full : end .waits ≡ true → NearlyFull job j (end .on) (expandedJob job j end)
-  unfolding expandedJob progressed waitingOf
-  end-full h =
-      let given =
-      begin-given (job .kind) (job .n) (job .wanted) (job .size) (job .room)
-      (coherent-facts job (expand-facts job j (length segment) (length log) accepted .0 .coherent) .begins) in
-      let on = end-waits h in
-      let children = nextChildren job j end in
-      let lacks = room-lacks (job .size) (job .room) j (end .logs .waiting) children (end .on) (on .1) in
-      let few = children-count (job .kind) (job .n) (j * job .size + end .at) (given .size) in
-      let falls = falling-le (job .size) (end .on) children in
-      let room = log-room-facts (job .room) (given .room) .least in
-      record { inside = on .0; other = lacks .0; full = omega arith; waits = omega arith }
-
-  pub expand-waits-full : (let out = expandOf job j segment log .2 in out .waits ≡ true → NearlyFull job j (out .on) (out .job))
-  expand-waits-full = subst (λ (out : Expanded). out .waits ≡ true → NearlyFull job j (out .on) (out .job)) (sym answer-is) end-full
+      (let e : stackCountAt job j - passedOf job j ≡ suc (stackCountAt job j - suc (passedOf job j)) = omega (arith, left) in e)
 
   -- it waits before the first stack, or passes it
   abbrev EndCase : Type 0
@@ -175,42 +145,33 @@ module _ (job : Job) (j : ℕ) (segment log : List ℕ) (accepted : expandRefusa
       lacks = lacksRoom (job .size) (job .room) j (job .waiting) (nextChildren job j start)
 
       more : expandNext job j start .at ≡ suc (passedOf job j) → passedOf job j < end .at
-      more i = rw end-first (omega (arith, run-from job j (stacksOf job j - suc (passedOf job j)) (expandNext job j start)))
+      more i = rw end-first (omega (arith, run-from job j (stackCountAt job j - suc (passedOf job j)) (expandNext job j start)))
 
       go : NextCase job j start → EndCase
       go (stopped s i) = absurd (false≢true s)
-      go (skipped s due i) = inr (more (ap (λ (e : Expansion). e .at) i), λ t must. due (must .due))
+      go (skipped s due i) = inr (more (ap (λ (e : Expansion). e .at) i), λ t must. never (must .due) due)
       go (blocked s due l i) =
           inl (
             end-first
-                ∙ ap (expandRun job j (stacksOf job j - suc (passedOf job j))) i
-                ∙ run-stopped job j (stacksOf job j - suc (passedOf job j)) (waitFor job j (nextWait job j start) start) refl,
+                ∙ ap (expandRun job j (stackCountAt job j - suc (passedOf job j))) i
+                ∙ run-stopped job j (stackCountAt job j - suc (passedOf job j)) (waitFor job j (nextWait job j start) start) refl,
             record {
               due = due;
               inside = l;
-              lacks = first-passes lacks 0 (segmentsOf job) (omega arith);
-              lowest = λ u h. first-before lacks 0 (segmentsOf job) u (omega arith) h;
+              lacks = first-passes lacks 0 (segmentCountOf job) (omega arith);
+              lowest = λ u h. first-before lacks 0 (segmentCountOf job) u (omega arith) h;
             },
           )
       go (expanded s due l i) =
           inr (
             more (ap (λ (e : Expansion). e .at) i ∙ ap suc (place-at job j (nextChildren job j start) start)),
-            λ t must. never (must .lacks) (first-before lacks 0 (segmentsOf job) t (omega arith) (omega (arith, must .inside))),
+            λ t must. never (must .lacks) (first-before lacks 0 (segmentCountOf job) t (omega arith) (omega (arith, must .inside))),
           )
 
   module _ (listed : j < length (job .passed)) where
     end-at : passedOf (expandedJob job j end) j ≡ end .at
     unfolding expandedJob progressed passedOf
     end-at = getD-set-same (job .passed) j (end .at) 0 listed
-
-    -- where it does not wait it passes all
-    pub expand-passes-all : (let out = expandOf job j segment log .2 in out .waits ≡ false → passedOf (out .job) j ≡ stacksOf job j)
-    unfolding expansion
-    expand-passes-all =
-        subst (λ (out : Expanded). out .waits ≡ false → passedOf (out .job) j ≡ stacksOf job j) (sym answer-is) (λ h. end-at ∙ whole h)
-      where
-        whole : end .waits ≡ false → end .at ≡ stacksOf job j
-        whole h = omega (arith, run-all job j (stacksOf job j - passedOf job j) start h, left)
 
     -- it passes stacks, or waits before the first
     pub expand-passes : (let out = expandOf job j segment log .2 in

@@ -14,7 +14,8 @@ use Rattle.graph.specs.Walks.{dist}
 use Rattle.graph.proofs.Distance.{walk-dist, dist-walk}
 use Rattle.graph.proofs.Depths.{Depths, dist-depths}
 use Rattle.graph.proofs.Tally.{tally-same}
-use Rattle.stacks.specs.Stack.{isSize, isStack, stackCount}
+use Rattle.stacks.specs.Counts.{Tells, CountsAt}
+use Rattle.stacks.specs.Stack.{isPaneCount, isStack, stackCount}
 use Rattle.stacks.specs.Index.{rankOf, stackAt, allStacks}
 use Rattle.stacks.specs.Turn.{turnsOf, turnBound, Fewest}
 use Rattle.stacks.proofs.Numbering.{rank-lt, unrank-stack, rank-unrank}
@@ -27,34 +28,34 @@ abbrev pub depth : ℕ → ℕ → List ℤ → ℕ → ℕ → ℕ
 depth kind n w b v = dist (turnsOf kind n) (childAt kind n) (rankOf kind n w) b v
 
 -- the levels that are searched reach past every stack
-pub levels-bound : (kind n : ℕ) → isSize kind n ≡ true → turnBound kind n < suc lastLevel
+pub levels-bound : (kind n : ℕ) → isPaneCount kind n ≡ true → turnBound kind n < suc lastLevel
 unfolding lastLevel
-levels-bound kind n size = omega (arith, turn-bound-30 kind n size)
+levels-bound kind n in-range = omega (arith, turn-bound-30 kind n in-range)
 
 pub fewest-unique : {kind n : ℕ} {s w : List ℤ} {d e : ℕ} → Fewest kind n s w d → Fewest kind n s w e → d ≡ e
 fewest-unique f g = omega (arith, f .least (g .road) (g .leads), g .least (f .road) (f .leads), f .long, g .long)
 
-module _ (kind n : ℕ) (w : List ℤ) (b : ℕ) (size : isSize kind n ≡ true) (wanted : isStack kind n w ≡ true) (bound : turnBound kind n < b) where
+module _ (kind n : ℕ) (w : List ℤ) (b : ℕ) (in-range : isPaneCount kind n ≡ true) (wanted : isStack kind n w ≡ true) (bound : turnBound kind n < b) where
   pub goal-inside : rankOf kind n w < stackCount kind n
-  goal-inside = rank-lt kind n w size wanted
+  goal-inside = rank-lt kind n w in-range wanted
 
   pub turn-depths : Depths (stackCount kind n) (turnsOf kind n) (childAt kind n) (rankOf kind n w) b (depth kind n w b)
-  turn-depths = dist-depths (turn-graph kind n size) (rankOf kind n w) b (omega arith)
+  turn-depths = dist-depths (turn-graph kind n in-range) (rankOf kind n w) b (omega arith)
 
   -- no stack is deeper than the turns that it takes at most
   pub stack-depth : (s : List ℤ) → isStack kind n s ≡ true → depth kind n w b (rankOf kind n s) ≤ turnBound kind n
   stack-depth s h =
-      let r = road-bound kind n size s w h wanted in
+      let r = road-bound kind n in-range s w h wanted in
       omega (
         arith,
         r .2,
-        walk-dist (turnsOf kind n) (childAt kind n) (rankOf kind n w) b (r .0) (rankOf kind n s) (road-walk kind n size (r .0) s w h (r .1)),
+        walk-dist (turnsOf kind n) (childAt kind n) (rankOf kind n w) b (r .0) (rankOf kind n s) (road-walk kind n in-range (r .0) s w h (r .1)),
       )
 
   pub depth-small : (v : ℕ) → v < stackCount kind n → depth kind n w b v ≤ turnBound kind n
   depth-small v h =
-      subst (λ (u : ℕ). depth kind n w b u ≤ turnBound kind n) (rank-unrank kind n v size h)
-      (stack-depth (stackAt kind n v) (unrank-stack kind n v size h))
+      subst (λ (u : ℕ). depth kind n w b u ≤ turnBound kind n) (rank-unrank kind n v in-range h)
+      (stack-depth (stackAt kind n v) (unrank-stack kind n v in-range h))
 
   module _ (s : List ℤ) (h : isStack kind n s ≡ true) where
     pub depth-fewest : Fewest kind n s w (depth kind n w b (rankOf kind n s))
@@ -63,28 +64,45 @@ module _ (kind n : ℕ) (w : List ℤ) (b : ℕ) (size : isSize kind n ≡ true)
         let r = dist-walk (turnsOf kind n) (childAt kind n) (rankOf kind n w) b v (omega (arith, stack-depth s h)) in
         record {
           road = r .0;
-          leads = walk-road kind n size (r .0) s w h wanted (r .1);
+          leads = walk-road kind n in-range (r .0) s w h wanted (r .1);
           long = r .2;
-          least = λ ks road. walk-dist (turnsOf kind n) (childAt kind n) (rankOf kind n w) b ks v (road-walk kind n size ks s w h road);
+          least = λ ks road. walk-dist (turnsOf kind n) (childAt kind n) (rankOf kind n w) b ks v (road-walk kind n in-range ks s w h road);
         }
 
     pub fewest-depth : {d : ℕ} → Fewest kind n s w d → depth kind n w b (rankOf kind n s) ≡ d
     fewest-depth f = fewest-unique depth-fewest f
 
-  -- any test that decides "the fewest turns to w are d" counts the stacks at depth d
-  pub count-decided : (d : ℕ) (test : List ℤ → Bool) → ((s : List ℤ) → isStack kind n s ≡ true → test s ≡ true → Fewest kind n s w d)
-      → ((s : List ℤ) → isStack kind n s ≡ true → Fewest kind n s w d → test s ≡ true)
-      → tally test (allStacks kind n) ≡ tally (λ v. eqb (depth kind n w b v) d) (from 0 (stackCount kind n))
+  -- any test that tells the stacks at d turns counts those at depth d
+  tally-told : (d : ℕ) (test : List ℤ → Bool) → Tells kind n w d test
+      → tally (λ v. eqb (depth kind n w b v) d) (from 0 (stackCount kind n)) ≡ tally test (allStacks kind n)
   unfolding allStacks
-  count-decided d test sound complete =
+  tally-told d test tells =
+      sym (
       tally-map test (stackAt kind n) (from 0 (stackCount kind n))
       ∙ tally-same (λ v. test (stackAt kind n v)) (λ v. eqb (depth kind n w b v) d) (stackCount kind n) same
+      )
     where
       same : (v : ℕ) → v < stackCount kind n → test (stackAt kind n v) ≡ eqb (depth kind n w b v) d
       same v h =
           let s : List ℤ = stackAt kind n v in
-          let stack : isStack kind n s ≡ true = unrank-stack kind n v size h in
-          let here : depth kind n w b (rankOf kind n s) ≡ depth kind n w b v = ap (depth kind n w b) (rank-unrank kind n v size h) in
+          let stack : isStack kind n s ≡ true = unrank-stack kind n v in-range h in
+          let here : depth kind n w b (rankOf kind n s) ≡ depth kind n w b v = ap (depth kind n w b) (rank-unrank kind n v in-range h) in
           same-test (test s) (eqb (depth kind n w b v) d)
-          (λ t. eq-eqb (depth kind n w b v) d (sym here ∙ fewest-depth s stack (sound s stack t)))
-          (λ t. complete s stack (subst (Fewest kind n s w) (here ∙ eqb-true (depth kind n w b v) d t) (depth-fewest s stack)))
+          (λ t. eq-eqb (depth kind n w b v) d (sym here ∙ fewest-depth s stack (tells .only s stack t)))
+          (λ t. tells .every s stack (subst (Fewest kind n s w) (here ∙ eqb-true (depth kind n w b v) d t) (depth-fewest s stack)))
+
+  -- the stacks at depth d are told by their depth
+  depth-tells : (d : ℕ) → Tells kind n w d (λ s. eqb (depth kind n w b (rankOf kind n s)) d)
+  depth-tells d =
+      record {
+        only = λ s h t. subst (Fewest kind n s w) (eqb-true (depth kind n w b (rankOf kind n s)) d t) (depth-fewest s h);
+        every = λ s h f. eq-eqb (depth kind n w b (rankOf kind n s)) d (fewest-depth s h f);
+      }
+
+  pub counts-at : (d count : ℕ) → count ≡ tally (λ v. eqb (depth kind n w b v) d) (from 0 (stackCount kind n)) → CountsAt kind n w d count
+  counts-at d count e =
+      record {
+        test = λ s. eqb (depth kind n w b (rankOf kind n s)) d;
+        tells = depth-tells d;
+        tallied = λ other tells. e ∙ tally-told d other tells;
+      }

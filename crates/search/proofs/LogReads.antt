@@ -8,14 +8,17 @@ use native.Mathlib.Omega.{arith}
 use lib.Dec.{ltb, eqb}
 use lib.ListN.{length, getD, set, take, drop}
 use borrow.Author.Tests.{lt-ltb, le-ltb}
-use Rattle.base.specs.Words.{unless, all}
+use Rattle.base.specs.Words.{unless, all, firstFrom}
 use Rattle.base.proofs.Tests.{test-cases, lt-or-ge, eq-or-ne}
 use Rattle.search.specs.Entries.{entryAt}
-use Rattle.search.specs.Expand.{Expansion, logOne, childrenOf, lacksRoom, firstFrom, placeChild, placeAll, passOne, waitFor, expandStack, expandNext, expandRun, expansion, expandedJob, expandOf, expandRefusal, levelRefusal}
-use Rattle.search.specs.JobState.{isCoherent, isLevel, levelOf, stacksAll, segmentsOf, stacksOf, passedOf, waitingOf, countOf, progressed}
+use Rattle.search.specs.Expand.{Expansion, isParent, childrenOf, placeChild, placeAll, passOne, waitFor, expandStack, expandNext, expandRun, expansion, expandedJob, expandOf, expandRefusal}
+use Rattle.search.specs.JobState.{isCoherent, isLevel, levelOf, stackCountOf, segmentCountOf, stackCountAt, passedOf, waitingOf, countOf, progressed}
 use Rattle.search.specs.Look.{lookRefusal, lookOf}
 use Rattle.search.specs.Segments.{segmentLimit}
-use Rattle.search.specs.Settle.{pending, settleRefusal, markAll, settleOf}
+use Rattle.search.specs.Settle.{settleRefusal, settleOf}
+use Rattle.search.specs.Logs.{logOne, lacksRoom, pending}
+use Rattle.search.specs.Level.{levelRefusal}
+use Rattle.search.specs.Marks.{markAll}
 use Rattle.search.specs.declared.Answer.{Answer}
 use Rattle.search.specs.declared.Expanded.{Expanded}
 use Rattle.search.specs.declared.Job.{Job}
@@ -52,8 +55,8 @@ module _ (job : Job) (j : ℕ) where
   unfolding expandNext expandStack passOne waitFor
   next-swap e log =
       let children = childrenOf (job .kind) (job .n) (j * job .size + e .at) in
-      let t = firstFrom (lacksRoom (job .size) (job .room) j (e .logs .waiting) children) 0 (segmentsOf job) in
-      go children t (e .waits) (eqb (entryAt (e .marks .segment) (e .at)) ((levelOf (job .phase) - 1) % 3)) (ltb t (segmentsOf job))
+      let t = firstFrom (lacksRoom (job .size) (job .room) j (e .logs .waiting) children) 0 (segmentCountOf job) in
+      go children t (e .waits) (isParent (levelOf (job .phase)) (entryAt (e .marks .segment) (e .at))) (ltb t (segmentCountOf job))
     where
       go : (children : List ℕ) (t : ℕ) (stops due full : Bool)
           → (log′ : List ℕ) × (cond stops (swap log e) (cond due (cond full (waitFor job j t (swap log e)) (passOne job j (placeAll job j children (swap log e)))) (passOne job j (swap log e)))
@@ -75,7 +78,7 @@ module _ (job : Job) (j : ℕ) where
     expansion-swap : (log″ : List ℕ) × (expansion job j segment log′ ≡ swap log″ (expansion job j segment log))
     unfolding expansion
     expansion-swap =
-        run-swap (stacksOf job j - passedOf job j)
+        run-swap (stackCountAt job j - passedOf job j)
         (record {
           at = passedOf job j;
           waits = false;
@@ -117,24 +120,24 @@ module _ (job : Job) (j : ℕ) where
 module _ (job : Job) (j : ℕ) (log log′ : List ℕ) (long : length log ≡ length log′)
     (stretch : take (job .room) (drop (j * job .room) log) ≡ take (job .room) (drop (j * job .room) log′)) where
   -- what waits fits the stretch
-  pending-same : isCoherent job ≡ true → j < segmentsOf job → pending job j log ≡ pending job j log′
-  unfolding pending segmentLimit segmentsOf stacksAll
+  pending-same : isCoherent job ≡ true → j < segmentCountOf job → pending job j log ≡ pending job j log′
+  unfolding pending segmentLimit segmentCountOf stackCountOf
   pending-same h inside =
       let facts = coherent-facts job h in
       let given = begin-given (job .kind) (job .n) (job .wanted) (job .size) (job .room) (facts .begins) in
       let few = segment-size-facts (stackCount (job .kind) (job .n)) (job .size) (given .segments) .few in
       let fits : waitingOf job j ≤ job .room =
-      subst (λ (b : Bool). waitingOf job j ≤ cond b (job .room) 0) (lt-ltb j (segmentsOf job) inside) (facts .waiting-fits j (omega arith)) in
+      subst (λ (b : Bool). waitingOf job j ≤ cond b (job .room) 0) (lt-ltb j (segmentCountOf job) inside) (facts .waiting-fits j (omega arith)) in
       log-same (job .room) j (waitingOf job j) log log′ fits stretch
 
   -- Settle and Look give the same for two log areas of one length with the same stretch of segment j
   pub settle-log-own : (segment : List ℕ) → settleOf job j segment log ≡ settleOf job j segment log′
   unfolding settleOf settleRefusal levelRefusal
-  settle-log-own segment = go (test-cases (isCoherent job)) (test-cases (isLevel (job .phase))) (lt-or-ge j (segmentsOf job))
+  settle-log-own segment = go (test-cases (isCoherent job)) (test-cases (isLevel (job .phase))) (lt-or-ge j (segmentCountOf job))
     where
       by : ℕ → List ℕ → List ℕ × Answer
       by logs offsets =
-          let r = levelRefusal job j (length segment) logs (unless (all (λ i. ltb i (stacksOf job j)) offsets) 12 0) in
+          let r = levelRefusal job j (length segment) logs (unless (all (λ i. ltb i (stackCountAt job j)) offsets) 12 0) in
           let d = levelOf (job .phase) in
           let marks = markAll d offsets (record { segment = segment; count = countOf job d }) in
           cond (eqb r 0) (
@@ -147,21 +150,21 @@ module _ (job : Job) (j : ℕ) (log log′ : List ℕ) (long : length log ≡ le
           (segment, record { refusal = r; job = job })
 
       go : (isCoherent job ≡ true) ⊎ (isCoherent job ≡ false) → (isLevel (job .phase) ≡ true) ⊎ (isLevel (job .phase) ≡ false)
-          → (j < segmentsOf job) ⊎ (segmentsOf job ≤ j) → settleOf job j segment log ≡ settleOf job j segment log′
+          → (j < segmentCountOf job) ⊎ (segmentCountOf job ≤ j) → settleOf job j segment log ≡ settleOf job j segment log′
       go (inl h) (inl g) (inl l) = λ i. by (long i) (pending-same h l i)
-      go (inl h) (inl g) (inr l) = rw (h, g, le-ltb j (segmentsOf job) l)
+      go (inl h) (inl g) (inr l) = rw (h, g, le-ltb j (segmentCountOf job) l)
       go (inl h) (inr g) l = rw (h, g)
       go (inr h) g l = rw h
 
   pub look-log-own : lookOf job j log ≡ lookOf job j log′
   unfolding lookOf lookRefusal
-  look-log-own = go (test-cases (isCoherent job)) (lt-or-ge j (segmentsOf job))
+  look-log-own = go (test-cases (isCoherent job)) (lt-or-ge j (segmentCountOf job))
     where
       by : ℕ → List ℕ → List ℕ × ℕ
       by logs offsets = let r = lookRefusal job j logs in (cond (eqb r 0) offsets [], r)
 
-      go : (isCoherent job ≡ true) ⊎ (isCoherent job ≡ false) → (j < segmentsOf job) ⊎ (segmentsOf job ≤ j)
+      go : (isCoherent job ≡ true) ⊎ (isCoherent job ≡ false) → (j < segmentCountOf job) ⊎ (segmentCountOf job ≤ j)
           → lookOf job j log ≡ lookOf job j log′
       go (inl h) (inl l) = λ i. by (long i) (pending-same h l i)
-      go (inl h) (inr l) = rw (h, le-ltb j (segmentsOf job) l)
+      go (inl h) (inr l) = rw (h, le-ltb j (segmentCountOf job) l)
       go (inr h) l = rw h

@@ -14,8 +14,8 @@ use Rattle.base.proofs.Tests.{eq-or-ne}
 use Rattle.graph.proofs.Counts.{found, found-mark}
 use Rattle.graph.proofs.Levels.{Level, Marked, marked-seen}
 use Rattle.search.specs.Entries.{entryAt, setEntry, bytesFor, unseen}
-use Rattle.search.specs.Expand.{Marks, markOne}
-use Rattle.search.specs.Segments.{stacksIn}
+use Rattle.search.specs.Segments.{stackCountIn}
+use Rattle.search.specs.Marks.{Marks, markOne}
 use Rattle.search.proofs.EntryLaws.{set-length, get-set-same, get-set-other, byte-inside}
 use Rattle.search.proofs.Invariant.{entryIn}
 use Rattle.search.proofs.SegmentLaws.{segment-stack, segment-stack-div, segment-stack-mod}
@@ -80,18 +80,18 @@ module _ (S : ℕ) (segments : List (List ℕ)) (j : ℕ) (segment : List ℕ) w
   entry-elsewhere v ne = ap (λ (bytes : List ℕ). entryAt bytes (v % S)) (getD-set-other segments j (v / S) segment [] ne)
 
 module _ (N S : ℕ) (some : 0 < S) (segments : List (List ℕ)) (j : ℕ) (inside : j < length segments) where
-  pub entry-place : (segment : List ℕ) (i : ℕ) → i < stacksIn N S j → entryIn S (set segments j segment) (j * S + i) ≡ entryAt segment i
+  pub entry-place : (segment : List ℕ) (i : ℕ) → i < stackCountIn N S j → entryIn S (set segments j segment) (j * S + i) ≡ entryAt segment i
   entry-place segment i h =
       entry-here S segments j segment inside (j * S + i) (segment-stack-div N S some j i h)
       ∙ ap (entryAt segment) (segment-stack-mod N S some j i h)
 
-  module _ (d i : ℕ) (marks : Marks) (fits : i < stacksIn N S j) (bytes : length (marks .segment) ≡ bytesFor (stacksIn N S j)) where
+  module _ (d i : ℕ) (marks : Marks) (fits : i < stackCountIn N S j) (bytes : length (marks .segment) ≡ bytesFor (stackCountIn N S j)) where
     pub mark-marked : Marked N d (entryIn S (set segments j (marks .segment))) (entryIn S (set segments j (markOne d i marks .segment))) (j * S + i)
     mark-marked =
         record {
           others = λ u h ne. go u ne (eq-or-ne (u / S) j);
           unseen = λ e. entry-place (markOne d i marks .segment) i fits
-              ∙ mark-new d i (stacksIn N S j) marks fits bytes (sym (entry-place (marks .segment) i fits) ∙ e);
+              ∙ mark-new d i (stackCountIn N S j) marks fits bytes (sym (entry-place (marks .segment) i fits) ∙ e);
           seen = λ ne. ap (λ (m : Marks). entryIn S (set segments j (m .segment)) (j * S + i))
               (mark-seen d i marks (λ e. ne (entry-place (marks .segment) i fits ∙ e)));
         }

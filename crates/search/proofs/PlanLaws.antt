@@ -14,68 +14,82 @@ use Rattle.base.proofs.Tests.{unless-zero, and-right, and-both, test-cases, nev
 use Rattle.graph.specs.Walks.{isMove}
 use Rattle.graph.proofs.Moves.{isMove-cases, isMove-first, isMove-rest}
 use Rattle.graph.proofs.Depths.{Depths, nearer-label}
-use Rattle.stacks.specs.Stack.{isKind, isSize, isStack, stackCount}
+use Rattle.stacks.specs.Stack.{isKind, isPaneCount, isStack, stackCount}
 use Rattle.stacks.specs.Index.{rankOf}
 use Rattle.stacks.specs.Turn.{isTurn, turnsOf, turnOf, turnsFrom, turnBound, Road, Fewest}
-use Rattle.stacks.specs.Operations.{sizeRefusal}
+use Rattle.stacks.specs.Operations.{kindRefusal}
 use Rattle.stacks.proofs.Numbering.{rank-lt, rank-injective}
 use Rattle.stacks.proofs.Roads.{road-none, road-append}
 use Rattle.stacks.proofs.TurnLaws.{turned-stack, turns-stack}
 use Rattle.stacks.proofs.TurnBound.{turn-bound-30}
 use Rattle.search.specs.Entries.{bytesFor, entryAt, unseen, nextEntry}
-use Rattle.search.specs.Plan.{planLimit, Route, entryOf, leadsTo, follow, isWanted, planStep, planRun, routeFrom, hasPlan, planRefusal}
+use Rattle.search.specs.Plan.{planLimit, Route, entryOf, leadsTo, follow, isWanted, planStep, planRun, routeFrom, hasPlan, planRow, planRefusal}
 use Rattle.search.proofs.Turning.{childAt, move-turn, child-rank}
 use Rattle.search.proofs.Fewest.{depth, turn-depths, stack-depth, depth-fewest}
 
 -- ---- what an accepted call was given
 
-pub record PlanFacts (kind n : ℕ) (wanted given : List ℤ) (table : List ℕ) (room : ℕ) : Type 0 where
+-- by its row of refusals up to 15
+pub record RowFacts (kind n : ℕ) (wanted given : List ℤ) (bytes slots : ℕ) : Type 0 where
   pub of-kind : isKind kind ≡ true
-  pub of-size : isSize kind n ≡ true
+  pub of-panes : isPaneCount kind n ≡ true
   pub goal : isStack kind n wanted ≡ true
   pub start : isStack kind n given ≡ true
-  pub bytes : length table ≡ bytesFor (stackCount kind n)
-  pub wide : planLimit ≤ room
-  pub plan : hasPlan kind n table wanted given ≡ true
+  pub long : bytes ≡ bytesFor (stackCount kind n)
+  pub wide : planLimit ≤ slots
 
-module _ (kind n : ℕ) (wanted given : List ℤ) (table : List ℕ) (room : ℕ) where
-  pub facts-plan : PlanFacts kind n wanted given table room → planRefusal kind n wanted given table room ≡ 0
-  unfolding planRefusal sizeRefusal
-  facts-plan f =
+module _ (kind n : ℕ) (wanted given : List ℤ) (bytes slots : ℕ) where
+  -- a row that refuses nothing goes on with the rest
+  pub row-goes-on : RowFacts kind n wanted given bytes slots → (rest : ℕ) → planRow kind n wanted given bytes slots rest ≡ rest
+  unfolding planRow kindRefusal
+  row-goes-on f rest =
       rw (
         f .of-kind,
-        f .of-size,
+        f .of-panes,
         f .goal,
         f .start,
-        eq-eqb (length table) (bytesFor (stackCount kind n)) (f .bytes),
-        le-leb planLimit room (f .wide),
-        f .plan,
+        eq-eqb bytes (bytesFor (stackCount kind n)) (f .long),
+        le-leb planLimit slots (f .wide),
       )
 
-  pub plan-facts : planRefusal kind n wanted given table room ≡ 0 → PlanFacts kind n wanted given table room
-  unfolding planRefusal sizeRefusal
-  plan-facts h =
-      let last : ℕ = unless (hasPlan kind n table wanted given) 15 0 in
-      let long : ℕ = unless (leb planLimit room) 10 last in
-      let bytes : ℕ = unless (eqb (length table) (bytesFor (stackCount kind n))) 10 long in
-      let start : ℕ = unless (isStack kind n given) 3 bytes in
+  pub row-facts : (rest : ℕ) → planRow kind n wanted given bytes slots rest ≡ 0 → RowFacts kind n wanted given bytes slots × (rest ≡ 0)
+  unfolding planRow kindRefusal
+  row-facts rest h =
+      let wide : ℕ = unless (leb planLimit slots) 10 rest in
+      let long : ℕ = unless (eqb bytes (bytesFor (stackCount kind n))) 10 wide in
+      let start : ℕ = unless (isStack kind n given) 3 long in
       let goal : ℕ = unless (isStack kind n wanted) 3 start in
-      let a = unless-zero (isKind kind) 0 (unless (isSize kind n) 2 goal) h in
-      let b = unless-zero (isSize kind n) 1 goal (a .1) in
+      let a = unless-zero (isKind kind) 0 (unless (isPaneCount kind n) 2 goal) h in
+      let b = unless-zero (isPaneCount kind n) 1 goal (a .1) in
       let c = unless-zero (isStack kind n wanted) 2 start (b .1) in
-      let d = unless-zero (isStack kind n given) 2 bytes (c .1) in
-      let e = unless-zero (eqb (length table) (bytesFor (stackCount kind n))) 9 long (d .1) in
-      let f = unless-zero (leb planLimit room) 9 last (e .1) in
-      let g = unless-zero (hasPlan kind n table wanted given) 14 0 (f .1) in
-      record {
-        of-kind = a .0;
-        of-size = b .0;
-        goal = c .0;
-        start = d .0;
-        bytes = eqb-true (length table) (bytesFor (stackCount kind n)) (e .0);
-        wide = leb-true planLimit room (f .0);
-        plan = g .0;
-      }
+      let d = unless-zero (isStack kind n given) 2 long (c .1) in
+      let e = unless-zero (eqb bytes (bytesFor (stackCount kind n))) 9 wide (d .1) in
+      let f = unless-zero (leb planLimit slots) 9 rest (e .1) in (
+        record {
+          of-kind = a .0;
+          of-panes = b .0;
+          goal = c .0;
+          start = d .0;
+          long = eqb-true bytes (bytesFor (stackCount kind n)) (e .0);
+          wide = leb-true planLimit slots (f .0);
+        },
+        f .1,
+      )
+
+pub record PlanFacts (kind n : ℕ) (wanted given : List ℤ) (table : List ℕ) (slots : ℕ) : Type 0 where
+  pub row : RowFacts kind n wanted given (length table) slots
+  pub plan : hasPlan kind n table wanted given ≡ true
+
+module _ (kind n : ℕ) (wanted given : List ℤ) (table : List ℕ) (slots : ℕ) where
+  pub facts-plan : PlanFacts kind n wanted given table slots → planRefusal kind n wanted given table slots ≡ 0
+  unfolding planRefusal
+  facts-plan f = row-goes-on kind n wanted given (length table) slots (f .row) (unless (hasPlan kind n table wanted given) 15 0) ∙ rw (f .plan)
+
+  pub plan-facts : planRefusal kind n wanted given table slots ≡ 0 → PlanFacts kind n wanted given table slots
+  unfolding planRefusal
+  plan-facts h =
+      let f = row-facts kind n wanted given (length table) slots (unless (hasPlan kind n table wanted given) 15 0) h in
+      record { row = f .0; plan = unless-zero (hasPlan kind n table wanted given) 14 0 (f .1) .0 }
 
 -- ---- a plan in the making, whatever the table holds
 
@@ -133,19 +147,19 @@ module _ (kind n : ℕ) (table : List ℕ) (wanted given : List ℤ) where
       (r .0, omega (arith, r .1))
 
 -- an accepted plan leads from the given stack to the wanted one, in at most as many turns as the list must hold
-pub plan-arrives : (kind n : ℕ) (wanted given : List ℤ) (table : List ℕ) (room : ℕ) → planRefusal kind n wanted given table room ≡ 0
+pub route-arrives : (kind n : ℕ) (wanted given : List ℤ) (table : List ℕ) (slots : ℕ) → planRefusal kind n wanted given table slots ≡ 0
     → Road kind n (routeFrom kind n table wanted given .turns) given wanted × (length (routeFrom kind n table wanted given .turns) ≤ planLimit)
 unfolding hasPlan isWanted
-plan-arrives kind n wanted given table room h =
-    let f : PlanFacts kind n wanted given table room = plan-facts kind n wanted given table room h in
+route-arrives kind n wanted given table slots h =
+    let f : PlanFacts kind n wanted given table slots = plan-facts kind n wanted given table slots h in
     let route : Route = routeFrom kind n table wanted given in
     let r : RouteWithin kind n given planLimit route = route-within kind n table wanted given in
     let stack : isStack kind n (route .stack) ≡ true =
-    subst (λ (s : List ℤ). isStack kind n s ≡ true) (r .0 .arrives) (turns-stack kind n (f .of-size) (route .turns) given (r .0 .turns) (f .start)) in
+    subst (λ (s : List ℤ). isStack kind n s ≡ true) (r .0 .arrives) (turns-stack kind n (f .row .of-panes) (route .turns) given (r .0 .turns) (f .row .start)) in
     let same : rankOf kind n (route .stack) ≡ rankOf kind n wanted =
     eqb-true (rankOf kind n (route .stack)) (rankOf kind n wanted)
     (and-right (not (eqb (entryOf kind n table given) unseen) && eqb (entryOf kind n table wanted) 0) (isWanted kind n table wanted (route .stack)) (f .plan)) in
-    (subst (Road kind n (route .turns) given) (rank-injective kind n (route .stack) wanted (f .of-size) stack (f .goal) same) (r .0), r .1)
+    (subst (Road kind n (route .turns) given) (rank-injective kind n (route .stack) wanted (f .row .of-panes) stack (f .row .goal) same) (r .0), r .1)
 
 -- ---- over a right table
 
@@ -180,21 +194,21 @@ abbrev pub RightTable : ℕ → ℕ → List ℤ → ℕ → List ℕ → Type 0
 RightTable kind n wanted b table =
     (s : List ℤ) → isStack kind n s ≡ true → entryAt table (rankOf kind n s) ≡ depth kind n wanted b (rankOf kind n s) % 3
 
-module _ (kind n : ℕ) (wanted : List ℤ) (b : ℕ) (table : List ℕ) (size : isSize kind n ≡ true) (goal : isStack kind n wanted ≡ true)
+module _ (kind n : ℕ) (wanted : List ℤ) (b : ℕ) (table : List ℕ) (in-range : isPaneCount kind n ≡ true) (goal : isStack kind n wanted ≡ true)
     (bound : turnBound kind n < b) (right : RightTable kind n wanted b table) where
   -- the depth of a stack
   abbrev far : List ℤ → ℕ
   far s = depth kind n wanted b (rankOf kind n s)
 
   depths : Depths (stackCount kind n) (turnsOf kind n) (childAt kind n) (rankOf kind n wanted) b (depth kind n wanted b)
-  depths = turn-depths kind n wanted b size goal bound
+  depths = turn-depths kind n wanted b in-range goal bound
 
   module _ (s : List ℤ) (stack : isStack kind n s ≡ true) where
     child-far : (k : ℕ) → depth kind n wanted b (childAt kind n k (rankOf kind n s)) ≡ far (turnOf kind k s)
-    child-far k = ap (depth kind n wanted b) (child-rank kind n size k s stack)
+    child-far k = ap (depth kind n wanted b) (child-rank kind n in-range k s stack)
 
     turned : (k : ℕ) → isMove (turnsOf kind n) k ≡ true → isStack kind n (turnOf kind k s) ≡ true
-    turned k m = turned-stack kind n size k s (move-turn kind n k m) stack
+    turned k m = turned-stack kind n in-range k s (move-turn kind n k m) stack
 
     -- a turn leads on just where it leads one nearer
     leads-nearer : (k : ℕ) → isMove (turnsOf kind n) k ≡ true → leadsOn kind n table s k ≡ true → suc (far (turnOf kind k s)) ≡ far s
@@ -204,7 +218,7 @@ module _ (kind n : ℕ) (wanted : List ℤ) (b : ℕ) (table : List ℕ) (size :
         let c = child-far k in
         let here = right s stack in
         let there = right (turnOf kind k s) (turned k m) in
-        let near = nearer-label depths k (rankOf kind n s) m (rank-lt kind n s size stack) (omega arith) in
+        let near = nearer-label depths k (rankOf kind n s) m (rank-lt kind n s in-range stack) (omega arith) in
         omega arith
 
     nearer-leads : (k : ℕ) → isMove (turnsOf kind n) k ≡ true → suc (far (turnOf kind k s)) ≡ far s → leadsOn kind n table s k ≡ true
@@ -217,7 +231,7 @@ module _ (kind n : ℕ) (wanted : List ℤ) (b : ℕ) (table : List ℕ) (size :
     -- some turn leads nearer, unless the stack is the wanted one
     nearer-turn : 0 < far s → (k : ℕ) × (isMove (turnsOf kind n) k ≡ true) × (suc (far (turnOf kind k s)) ≡ far s)
     nearer-turn h =
-        let c = depths .closer (rankOf kind n s) h (omega (arith, stack-depth kind n wanted b size goal bound s stack)) in
+        let c = depths .closer (rankOf kind n s) h (omega (arith, stack-depth kind n wanted b in-range goal bound s stack)) in
         (c .0, c .1, omega (arith, c .2, child-far (c .0)))
 
     wanted-near : isWanted kind n table wanted s ≡ true → far s ≡ 0
@@ -270,7 +284,7 @@ module _ (kind n : ℕ) (wanted : List ℤ) (b : ℕ) (table : List ℕ) (size :
     unfolding planLimit
     route-ends =
         let r = route-nearer in
-        omega (arith, r .1, stack-depth kind n wanted b size goal bound given start, turn-bound-30 kind n size)
+        omega (arith, r .1, stack-depth kind n wanted b in-range goal bound given start, turn-bound-30 kind n in-range)
 
     pub plan-there : hasPlan kind n table wanted given ≡ true
     unfolding hasPlan entryOf unseen
@@ -286,10 +300,13 @@ module _ (kind n : ℕ) (wanted : List ℤ) (b : ℕ) (table : List ℕ) (size :
 
     -- so no road is shorter than the plan
     pub plan-fewest : Fewest kind n given wanted (length (routeFrom kind n table wanted given .turns))
-    plan-fewest = subst (Fewest kind n given wanted) (sym plan-length) (depth-fewest kind n wanted b size goal bound given start)
+    plan-fewest = subst (Fewest kind n given wanted) (sym plan-length) (depth-fewest kind n wanted b in-range goal bound given start)
 
-    pub plan-accepts : (room : ℕ) → isKind kind ≡ true → length table ≡ bytesFor (stackCount kind n) → planLimit ≤ room
-        → planRefusal kind n wanted given table room ≡ 0
-    plan-accepts room known bytes wide =
-        facts-plan kind n wanted given table room
-        (record { of-kind = known; of-size = size; goal = goal; start = start; bytes = bytes; wide = wide; plan = plan-there })
+    pub plan-accepts : (slots : ℕ) → isKind kind ≡ true → length table ≡ bytesFor (stackCount kind n) → planLimit ≤ slots
+        → planRefusal kind n wanted given table slots ≡ 0
+    plan-accepts slots known bytes wide =
+        facts-plan kind n wanted given table slots
+        (record {
+          row = record { of-kind = known; of-panes = in-range; goal = goal; start = start; long = bytes; wide = wide };
+          plan = plan-there;
+        })

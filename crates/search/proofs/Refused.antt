@@ -1,30 +1,27 @@
--- A refused call leaves the world as it was; in a build whose buffers have their right lengths, every call that is lent another
--- buffer is refused, and so is every call on a segment that is not there.
+-- A refused call leaves the world as it was; in a build whose buffers have their right lengths, every call that is lent another buffer is
+-- refused.
 use mathlib.Core.Path.{_≡_, refl, sym, ap, _∙_}
 use mathlib.Core.Bool.{true, _&&_}
 use mathlib.Core.List.{List, []}
-use Prim.Native.Nat.{ℕ, _<_}
-use native.Mathlib.Omega.{arith}
-use lib.IntN.{ℤ}
+use Prim.Native.Nat.{ℕ}
 use lib.ListN.{length, getD, set}
 use lib.Seq.{set-getD}
 use Rattle.base.proofs.Tests.{and-both}
-use Rattle.stacks.specs.Stack.{stackCount}
 use Rattle.search.specs.Blank.{blankRefusal}
 use Rattle.search.specs.Build.{World, Lent, Call, own, other, doBlank, doExpand, doSettle, doLook, doClose, lent, kept, isOwn, isLentOwn, outcome}
 use Rattle.search.specs.Close.{closeRefusal, closeOf}
 use Rattle.search.specs.Entries.{bytesFor}
 use Rattle.search.specs.Expand.{expandRefusal}
-use Rattle.search.specs.JobState.{segmentsOf, stacksOf, logLength}
+use Rattle.search.specs.JobState.{stackCountAt, logLength}
 use Rattle.search.specs.Look.{lookRefusal, lookOf}
 use Rattle.search.specs.Promise.{rightBytes, rightWords}
-use Rattle.search.specs.Segments.{segmentCount}
 use Rattle.search.specs.Settle.{settleRefusal}
 use Rattle.search.specs.declared.Answer.{Answer}
 use Rattle.search.specs.declared.Expanded.{Expanded}
 use Rattle.search.proofs.Accepted.{LevelFacts, blank-facts, expand-facts, settle-facts, look-facts, blank-refused, blank-refusal, expand-refused, expand-refusal, settle-refused, settle-refusal, close-refused}
 use Rattle.search.proofs.Invariant.{Shaped}
-use Rattle.search.proofs.Shapes.{segments-is, stacks-is, area-is}
+use Rattle.search.proofs.Shapes.{stacks-is, area-is}
+use Rattle.search.proofs.Terms.{Terms, bytesOf, wordsOf}
 
 -- what a call gives back as it was lent it, the build keeps
 kept-lent : {right : ℕ} (buffer : Lent right) (mine : List ℕ) → kept buffer mine (lent buffer mine) ≡ mine
@@ -90,32 +87,24 @@ module _ {bytes : ℕ → ℕ} {words : ℕ} (w : World) where
 
 -- ---- wrong arguments are refused
 
--- the segment that a call names
-unfoldable pub Names : {bytes : ℕ → ℕ} {words : ℕ} → Call bytes words → ℕ → Type 0
-Names (doBlank j segment) i = j ≡ i
-Names (doExpand j segment log) i = j ≡ i
-Names (doSettle j segment log) i = j ≡ i
-Names (doLook j log) i = j ≡ i
-Names doClose i = ⊥
-
-module _ {kind n : ℕ} {wanted : List ℤ} {S C : ℕ} {w : World} (shaped : Shaped kind n wanted S C w) where
-  own-segment : (j : ℕ) (segment : Lent (rightBytes kind n S j))
-      → length (lent segment (getD (w .segments) j [])) ≡ bytesFor (stacksOf (w .job) j) → isOwn segment ≡ true
+module _ {terms : Terms} {w : World} (shaped : Shaped terms w) where
+  own-segment : (j : ℕ) (segment : Lent (bytesOf terms j))
+      → length (lent segment (getD (w .segments) j [])) ≡ bytesFor (stackCountAt (w .job) j) → isOwn segment ≡ true
   unfolding rightBytes lent isOwn
   own-segment j own h = refl
   own-segment j (other xs wrong) h = absurd (wrong (h ∙ ap bytesFor (stacks-is shaped j)))
 
-  own-log : (log : Lent (rightWords kind n S C)) → length (lent log (w .log)) ≡ logLength (w .job) → isOwn log ≡ true
+  own-log : (log : Lent (wordsOf terms)) → length (lent log (w .log)) ≡ logLength (w .job) → isOwn log ≡ true
   unfolding rightWords lent isOwn
   own-log own h = refl
   own-log (other xs wrong) h = absurd (wrong (h ∙ area-is shaped))
 
-  own-both : (j : ℕ) (segment : Lent (rightBytes kind n S j)) (log : Lent (rightWords kind n S C))
+  own-both : (j : ℕ) (segment : Lent (bytesOf terms j)) (log : Lent (wordsOf terms))
       → LevelFacts (w .job) j (length (lent segment (getD (w .segments) j []))) (length (lent log (w .log)))
       → (isOwn segment && isOwn log) ≡ true
   own-both j segment log f = and-both (isOwn segment) (isOwn log) (own-segment j segment (f .long)) (own-log log (f .wide))
 
-  own-accepted : (call : Call (rightBytes kind n S) (rightWords kind n S C)) → refusalOf w call ≡ 0 → isLentOwn call ≡ true
+  own-accepted : (call : Call (bytesOf terms) (wordsOf terms)) → refusalOf w call ≡ 0 → isLentOwn call ≡ true
   unfolding refusalOf isLentOwn
   own-accepted (doBlank j segment) e = own-segment j segment (blank-facts (w .job) j (length (lent segment (getD (w .segments) j []))) e .long)
   own-accepted (doExpand j segment log) e =
@@ -125,23 +114,6 @@ module _ {kind n : ℕ} {wanted : List ℤ} {S C : ℕ} {w : World} (shaped : Sh
   own-accepted (doLook j log) e = own-log log (look-facts (w .job) j (length (lent log (w .log))) e .wide)
   own-accepted doClose e = refl
 
-  inside-accepted : (call : Call (rightBytes kind n S) (rightWords kind n S C)) (i : ℕ) → Names call i → refusalOf w call ≡ 0
-      → i < segmentsOf (w .job)
-  unfolding refusalOf Names
-  inside-accepted (doBlank j segment) i q e =
-      omega (arith, blank-facts (w .job) j (length (lent segment (getD (w .segments) j []))) e .inside)
-  inside-accepted (doExpand j segment log) i q e =
-      omega (arith, expand-facts (w .job) j (length (lent segment (getD (w .segments) j []))) (length (lent log (w .log))) e .0 .inside)
-  inside-accepted (doSettle j segment log) i q e =
-      omega (arith, settle-facts (w .job) j (length (lent segment (getD (w .segments) j []))) (lent log (w .log)) e .0 .inside)
-  inside-accepted (doLook j log) i q e = omega (arith, look-facts (w .job) j (length (lent log (w .log))) e .inside)
-  inside-accepted doClose i q e = absurd q
-
   -- a call lent another buffer is refused
-  pub accepted-own : (call : Call (rightBytes kind n S) (rightWords kind n S C)) → outcome w call .refusal ≡ 0 → isLentOwn call ≡ true
+  pub accepted-own : (call : Call (bytesOf terms) (wordsOf terms)) → outcome w call .refusal ≡ 0 → isLentOwn call ≡ true
   accepted-own call h = own-accepted call (sym (refusal-is w call) ∙ h)
-
-  -- so is a call that names a segment from G up
-  pub accepted-inside : (call : Call (rightBytes kind n S) (rightWords kind n S C)) (j : ℕ) → Names call j → outcome w call .refusal ≡ 0
-      → j < segmentCount (stackCount kind n) S
-  accepted-inside call j q h = rw (segments-is shaped) at (inside-accepted call j q (sym (refusal-is w call) ∙ h))

@@ -14,7 +14,8 @@ use lib.Seq.{take-take, getD-take, getD-drop, getD-append-add}
 use borrow.Author.Tests.{leb-true, eqb-true}
 use Rattle.base.proofs.Tests.{and-left, and-right, lt-or-ge}
 use Rattle.search.specs.Entries.{entryAt, bytesFor, digit}
-use Rattle.search.specs.Segments.{segmentLimit, segmentCount, stacksIn, isSegmentSize, isLogRoom, logPart, joined}
+use Rattle.search.specs.Segments.{segmentLimit, segmentCount, stackCountIn, isSegmentSize, isLogRoom, joined}
+use Rattle.search.specs.Logs.{logPart}
 
 -- what the tests of S and C say
 pub record SegmentSizeFacts (N S : ℕ) : Type 0 where
@@ -85,38 +86,38 @@ module _ (N S : ℕ) (some : 0 < S) where
           omega (arith, segment-starts g (omega arith), le-mul-of-pos-right g some)
       go (inr h) = omega arith
 
-  pub stacksIn-le : (j : ℕ) → stacksIn N S j ≤ S
-  unfolding stacksIn
-  stacksIn-le j = omega arith
+  pub stackCountIn-le : (j : ℕ) → stackCountIn N S j ≤ S
+  unfolding stackCountIn
+  stackCountIn-le j = omega arith
 
   pub stack-segment : (v : ℕ) → v < N → v / S < segmentCount N S
   stack-segment v h = starts-segment (v / S) (omega (arith, div-add-mod' v S))
 
-  pub stack-offset : (v : ℕ) → v < N → v % S < stacksIn N S (v / S)
-  unfolding stacksIn
+  pub stack-offset : (v : ℕ) → v < N → v % S < stackCountIn N S (v / S)
+  unfolding stackCountIn
   stack-offset v h = omega (arith, div-add-mod' v S, mod-lt v some)
 
-  pub segment-stack : (j i : ℕ) → i < stacksIn N S j → j * S + i < N
-  unfolding stacksIn
+  pub segment-stack : (j i : ℕ) → i < stackCountIn N S j → j * S + i < N
+  unfolding stackCountIn
   segment-stack j i h = omega arith
 
-  pub segment-stack-div : (j i : ℕ) → i < stacksIn N S j → (j * S + i) / S ≡ j
-  segment-stack-div j i h = digits-div j (let l : i < S = omega (arith, stacksIn-le j) in l)
+  pub segment-stack-div : (j i : ℕ) → i < stackCountIn N S j → (j * S + i) / S ≡ j
+  segment-stack-div j i h = digits-div j (let l : i < S = omega (arith, stackCountIn-le j) in l)
 
-  pub segment-stack-mod : (j i : ℕ) → i < stacksIn N S j → (j * S + i) % S ≡ i
-  segment-stack-mod j i h = digits-mod j (let l : i < S = omega (arith, stacksIn-le j) in l)
+  pub segment-stack-mod : (j i : ℕ) → i < stackCountIn N S j → (j * S + i) % S ≡ i
+  segment-stack-mod j i h = digits-mod j (let l : i < S = omega (arith, stackCountIn-le j) in l)
 
-  pub segment-some : (j : ℕ) → j < segmentCount N S → 0 < stacksIn N S j
-  unfolding stacksIn
+  pub segment-some : (j : ℕ) → j < segmentCount N S → 0 < stackCountIn N S j
+  unfolding stackCountIn
   segment-some j h = omega (arith, segment-starts j h)
 
-  pub segment-full : (j : ℕ) → suc j < segmentCount N S → stacksIn N S j ≡ S
-  unfolding stacksIn
+  pub segment-full : (j : ℕ) → suc j < segmentCount N S → stackCountIn N S j ≡ S
+  unfolding stackCountIn
   segment-full j h = omega (arith, segment-starts (suc j) h, suc-mul j S)
 
   -- the last segment ends at N
-  pub segment-last : (j : ℕ) → suc j ≡ segmentCount N S → j * S + stacksIn N S j ≡ N
-  unfolding stacksIn
+  pub segment-last : (j : ℕ) → suc j ≡ segmentCount N S → j * S + stackCountIn N S j ≡ N
+  unfolding stackCountIn
   segment-last j e = go (lt-or-ge (suc j * S) N)
     where
       go : (suc j * S < N) ⊎ (N ≤ suc j * S) → j * S + min S (N - j * S) ≡ N
@@ -134,11 +135,11 @@ module _ (N S : ℕ) (some : 0 < S) where
   last-segment h = omega (arith, starts-segment 0 (omega arith))
 
   -- a spare entry of the table is a spare entry of the last segment
-  pub spare-offset : (i : ℕ) → 0 < N → N ≤ i → stacksIn N S (segmentCount N S - 1) ≤ i - (segmentCount N S - 1) * S
+  pub spare-offset : (i : ℕ) → 0 < N → N ≤ i → stackCountIn N S (segmentCount N S - 1) ≤ i - (segmentCount N S - 1) * S
   spare-offset i h l = omega (arith, segment-last (segmentCount N S - 1) (last-segment h))
 
   -- bytes of the segments before the last, and of the last
-  pub bytes-last : (j : ℕ) → S % 4 ≡ 0 → suc j ≡ segmentCount N S → bytesFor N ≡ j * (S / 4) + bytesFor (stacksIn N S j)
+  pub bytes-last : (j : ℕ) → S % 4 ≡ 0 → suc j ≡ segmentCount N S → bytesFor N ≡ j * (S / 4) + bytesFor (stackCountIn N S j)
   unfolding bytesFor
   bytes-last j four e = omega (arith, segment-last j e, four-mul j S four)
 
@@ -182,7 +183,7 @@ pub record Segmented (N S : ℕ) (segs : List (List ℕ)) : Type 0 where
   pub some : 0 < S
   pub four : S % 4 ≡ 0
   pub count : length segs ≡ segmentCount N S
-  pub sizes : (j : ℕ) → j < segmentCount N S → length (getD segs j []) ≡ bytesFor (stacksIn N S j)
+  pub sizes : (j : ℕ) → j < segmentCount N S → length (getD segs j []) ≡ bytesFor (stackCountIn N S j)
 
 module _ (N S : ℕ) (segs : List (List ℕ)) (whole : Segmented N S segs) where
   -- every segment but the last fills its bytes

@@ -1,45 +1,47 @@
 -- Laws of a shaped world: G, m and the log area's length by its job are those of what Begin was given.
-use mathlib.Core.Path.{_≡_}
-use mathlib.Core.List.{List}
+use mathlib.Core.Path.{_≡_, ap, _∙_}
 use Prim.Native.Nat.{ℕ, _*_}
 use native.Mathlib.Omega.{arith}
-use lib.IntN.{ℤ}
-use Rattle.stacks.specs.Index.{rankOf}
-use Rattle.stacks.specs.Stack.{stackCount}
 use Rattle.search.specs.Blank.{goalOf}
 use Rattle.search.specs.Build.{World}
-use Rattle.search.specs.JobState.{beginRefusal, stacksAll, segmentsOf, stacksOf, logLength}
-use Rattle.search.specs.Segments.{segmentCount, stacksIn}
+use Rattle.search.specs.JobState.{beginRefusal, stackCountOf, segmentCountOf, stackCountAt, logLength}
 use Rattle.search.proofs.Coherence.{given-begin}
-use Rattle.search.proofs.Invariant.{Given, Shaped}
+use Rattle.search.proofs.Invariant.{Shaped}
 use Rattle.search.proofs.SegmentLaws.{Segmented, segment-size-facts}
+use Rattle.search.proofs.Terms.{Terms, Given, N, G, m, goal}
 
-module _ {kind n : ℕ} {wanted : List ℤ} {S C : ℕ} {w : World} (shaped : Shaped kind n wanted S C w) where
-  pub count-is : stacksAll (w .job) ≡ stackCount kind n
-  unfolding stacksAll
-  count-is = rw (shaped .kind-is, shaped .n-is)
+module _ {terms : Terms} {w : World} (shaped : Shaped terms w) where
+  pub size-is : w .job .size ≡ terms .S
+  size-is = ap (λ (t : Terms). t .S) (shaped .terms-is)
 
-  pub segments-is : segmentsOf (w .job) ≡ segmentCount (stackCount kind n) S
-  unfolding segmentsOf
-  segments-is = rw (count-is, shaped .size-is)
+  pub room-is : w .job .room ≡ terms .C
+  room-is = ap (λ (t : Terms). t .C) (shaped .terms-is)
 
-  pub stacks-is : (j : ℕ) → stacksOf (w .job) j ≡ stacksIn (stackCount kind n) S j
-  unfolding stacksOf
-  stacks-is j = rw (count-is, shaped .size-is)
+  pub count-is : stackCountOf (w .job) ≡ N terms
+  unfolding stackCountOf
+  count-is = ap N (shaped .terms-is)
 
-  pub area-is : logLength (w .job) ≡ segmentCount (stackCount kind n) S * C
-  unfolding logLength
-  area-is = rw (segments-is, shaped .room-is)
+  pub segments-is : segmentCountOf (w .job) ≡ G terms
+  unfolding segmentCountOf stackCountOf
+  segments-is = ap G (shaped .terms-is)
 
-  pub goal-is : goalOf (w .job) ≡ rankOf kind n wanted
+  pub stacks-is : (j : ℕ) → stackCountAt (w .job) j ≡ m terms j
+  unfolding stackCountAt stackCountOf
+  stacks-is j = ap (λ (t : Terms). m t j) (shaped .terms-is)
+
+  pub area-is : logLength (w .job) ≡ G terms * terms .C
+  unfolding logLength segmentCountOf stackCountOf
+  area-is = ap (λ (t : Terms). G t * t .C) (shaped .terms-is)
+
+  pub goal-is : goalOf (w .job) ≡ goal terms
   unfolding goalOf
-  goal-is = rw (shaped .kind-is, shaped .n-is, shaped .wanted-is)
+  goal-is = ap goal (shaped .terms-is)
 
-  pub begins-is : Given kind n wanted S C → beginRefusal (w .job .kind) (w .job .n) (w .job .wanted) (w .job .size) (w .job .room) ≡ 0
+  pub begins-is : Given terms → beginRefusal (w .job .kind) (w .job .n) (w .job .wanted) (w .job .size) (w .job .room) ≡ 0
   begins-is given =
-      rw (shaped .kind-is, shaped .n-is, shaped .wanted-is, shaped .size-is, shaped .room-is) (given-begin kind n wanted S C given)
+      ap (λ (t : Terms). beginRefusal (t .kind) (t .n) (t .wanted) (t .S) (t .C)) (shaped .terms-is) ∙ given-begin terms given
 
-  pub shaped-segmented : Given kind n wanted S C → Segmented (stackCount kind n) S (w .segments)
+  pub shaped-segmented : Given terms → Segmented (N terms) (terms .S) (w .segments)
   shaped-segmented given =
-      let facts = segment-size-facts (stackCount kind n) S (given .segments) in
+      let facts = segment-size-facts (N terms) (terms .S) (given .segments) in
       record { some = omega (arith, facts .least); four = facts .four; count = shaped .segments-length; sizes = shaped .segment-bytes }

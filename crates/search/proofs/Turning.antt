@@ -10,10 +10,10 @@ use Rattle.base.specs.Words.{all}
 use Rattle.base.proofs.Tests.{and-left, and-right, same-test}
 use Rattle.graph.specs.Walks.{walk, isMove, Walk, Graph}
 use Rattle.graph.proofs.Moves.{isMove-from, from-isMove}
-use Rattle.stacks.specs.Stack.{isSize, isStack, stackCount}
+use Rattle.stacks.specs.Stack.{isPaneCount, isStack, stackCount}
 use Rattle.stacks.specs.Index.{rankOf, stackAt}
 use Rattle.stacks.specs.Turn.{firstTurn, lastTurn, isTurn, turnsOf, turnOf, turnsFrom, Road}
-use Rattle.stacks.proofs.Sizes.{size-twelve}
+use Rattle.stacks.proofs.KindLaws.{panes-twelve}
 use Rattle.stacks.proofs.Panes.{stack-facts}
 use Rattle.stacks.proofs.Numbering.{rank-lt, rank-injective, unrank-stack, rank-unrank, unrank-rank}
 use Rattle.stacks.proofs.TurnLaws.{turn-first, turn-last, turn-between, turn-involutive, turned-stack, turns-stack}
@@ -44,15 +44,15 @@ turns-moves kind n ks = ap (λ (p : ℕ → Bool). all p ks) (λ i k. same k i)
     same : (k : ℕ) → isTurn kind n k ≡ isMove (turnsOf kind n) k
     same k = same-test (isTurn kind n k) (isMove (turnsOf kind n) k) (turn-move kind n k) (move-turn kind n k)
 
-module _ (kind n : ℕ) (size : isSize kind n ≡ true) where
+module _ (kind n : ℕ) (in-range : isPaneCount kind n ≡ true) where
   -- a child of a stack's index is the index of the turned stack
   pub child-rank : (k : ℕ) (s : List ℤ) → isStack kind n s ≡ true → childAt kind n k (rankOf kind n s) ≡ rankOf kind n (turnOf kind k s)
   unfolding childAt
-  child-rank k s h = ap (λ (t : List ℤ). rankOf kind n (turnOf kind k t)) (unrank-rank kind n s size h)
+  child-rank k s h = ap (λ (t : List ℤ). rankOf kind n (turnOf kind k t)) (unrank-rank kind n s in-range h)
 
   pub turn-undone : (k : ℕ) (s : List ℤ) → isTurn kind n k ≡ true → isStack kind n s ≡ true → turnOf kind k (turnOf kind k s) ≡ s
   turn-undone k s t h =
-      turn-involutive kind k s (rw (stack-facts kind n s h .twelve) (le-trans (turn-last kind n k t) (size-twelve kind n size)))
+      turn-involutive kind k s (rw (stack-facts kind n s h .twelve) (le-trans (turn-last kind n k t) (panes-twelve kind n in-range)))
 
   -- each turn is undone by itself
   pub turn-graph : Graph (stackCount kind n) (turnsOf kind n) (childAt kind n)
@@ -61,17 +61,17 @@ module _ (kind n : ℕ) (size : isSize kind n ≡ true) where
     where
       inside : (k v : ℕ) → isMove (turnsOf kind n) k ≡ true → v < stackCount kind n → childAt kind n k v < stackCount kind n
       inside k v m h =
-          rank-lt kind n (turnOf kind k (stackAt kind n v)) size
-          (turned-stack kind n size k (stackAt kind n v) (move-turn kind n k m) (unrank-stack kind n v size h))
+          rank-lt kind n (turnOf kind k (stackAt kind n v)) in-range
+          (turned-stack kind n in-range k (stackAt kind n v) (move-turn kind n k m) (unrank-stack kind n v in-range h))
 
       back : (k v : ℕ) → isMove (turnsOf kind n) k ≡ true → v < stackCount kind n → childAt kind n k (childAt kind n k v) ≡ v
       back k v m h =
           let s : List ℤ = stackAt kind n v in
-          let stack : isStack kind n s ≡ true = unrank-stack kind n v size h in
+          let stack : isStack kind n s ≡ true = unrank-stack kind n v in-range h in
           let turn : isTurn kind n k ≡ true = move-turn kind n k m in
-          child-rank k (turnOf kind k s) (turned-stack kind n size k s turn stack)
+          child-rank k (turnOf kind k s) (turned-stack kind n in-range k s turn stack)
           ∙ ap (rankOf kind n) (turn-undone k s turn stack)
-          ∙ rank-unrank kind n v size h
+          ∙ rank-unrank kind n v in-range h
 
   -- the index after turns is where their walk leads
   pub turns-walk : (ks : List ℕ) (s : List ℤ) → all (isTurn kind n) ks ≡ true → isStack kind n s ≡ true
@@ -81,7 +81,7 @@ module _ (kind n : ℕ) (size : isSize kind n ≡ true) where
   turns-walk (k ∷ ks) s t h =
       let turn : isTurn kind n k ≡ true = and-left (isTurn kind n k) (all (isTurn kind n) ks) t in
       ap (walk (childAt kind n) ks) (child-rank k s h)
-      ∙ turns-walk ks (turnOf kind k s) (and-right (isTurn kind n k) (all (isTurn kind n) ks) t) (turned-stack kind n size k s turn h)
+      ∙ turns-walk ks (turnOf kind k s) (and-right (isTurn kind n k) (all (isTurn kind n) ks) t) (turned-stack kind n in-range k s turn h)
 
   module _ (ks : List ℕ) (s w : List ℤ) (hs : isStack kind n s ≡ true) where
     pub road-walk : Road kind n ks s w → Walk (turnsOf kind n) (childAt kind n) ks (rankOf kind n s) (rankOf kind n w)
@@ -96,6 +96,6 @@ module _ (kind n : ℕ) (size : isSize kind n ≡ true) where
         let turns : all (isTurn kind n) ks ≡ true = turns-moves kind n ks ∙ r .each in
         record {
           turns = turns;
-          arrives = rank-injective kind n (turnsFrom kind ks s) w size (turns-stack kind n size ks s turns hs) hw
+          arrives = rank-injective kind n (turnsFrom kind ks s) w in-range (turns-stack kind n in-range ks s turns hs) hw
               (sym (turns-walk ks s turns hs) ∙ r .arrives);
         }

@@ -1,31 +1,30 @@
 -- The whole-build theorem: demands 2 and 3, for every list of calls after an accepted Begin.
-use mathlib.Core.Path.{_≡_, refl, sym, ap, _∙_}
+use mathlib.Core.Path.{_≡_, refl, sym, ap, _∙_, subst}
 use mathlib.Core.Logic.{_⊎_, inl, inr}
 use mathlib.Core.Bool.{true, false, false≢true}
 use mathlib.Core.List.{List, [], _∷_, _++_}
 use Prim.Native.Nat.{ℕ, zero, suc, _≤_}
 use native.Mathlib.Nat.{le-refl}
 use native.Mathlib.Omega.{arith}
-use lib.IntN.{ℤ}
 use lib.ListN.{length, getD}
-use Rattle.base.proofs.Tests.{test-cases, never}
-use Rattle.stacks.specs.Stack.{stackCount}
+use Rattle.base.proofs.Tests.{test-cases, never, eq-or-ne}
 use Rattle.search.specs.Begin.{begun}
 use Rattle.search.specs.Build.{World, Call, doBlank, doExpand, doSettle, doLook, doClose, lent, outcome, after}
 use Rattle.search.specs.JobState.{isBlanking, isLevel, isFinished, levelOf, lastLevel}
-use Rattle.search.specs.Promise.{rightBytes, rightWords, Finishes, WholeBuild}
+use Rattle.search.specs.Promise.{Finishes, FinishedByClose, WholeBuild}
 use Rattle.search.specs.declared.Phase.{Phase}
 use Rattle.search.specs.declared.Phase.the-variants.{Blanking, Level, Finished}
-use Rattle.search.proofs.Accepted.{blank-facts, expand-facts, settle-facts, close-facts}
+use Rattle.search.proofs.Accepted.{blank-facts, expand-facts, settle-facts, close-facts, blank-phase, expand-phase, settle-phase}
 use Rattle.search.proofs.Advancing.{invariant-advances}
 use Rattle.search.proofs.BlankKeeps.{begun-invariant}
 use Rattle.search.proofs.CloseKeeps.{never-14}
 use Rattle.search.proofs.Coherence.{begin-given}
 use Rattle.search.proofs.Finishing.{ended-finishes}
-use Rattle.search.proofs.Invariant.{Given, Blanks, Searches, Ended, Invariant}
+use Rattle.search.proofs.Invariant.{Invariant, InPhase, blanking, searching, ended}
 use Rattle.search.proofs.Refused.{refusalOf, refusal-is, refused-same}
 use Rattle.search.proofs.Steps.{step-keeps, after-keeps}
 use Rattle.search.proofs.WorkLeft.{workLeft}
+use Rattle.search.proofs.Terms.{Terms, termsWith, Given, N, bytesOf, wordsOf}
 
 -- ---- what has finished stays so
 
@@ -75,25 +74,99 @@ module _ {bytes : ℕ → ℕ} {words : ℕ} where
   after-append w [] more = refl
   after-append w (call ∷ calls) more = after-append (outcome w call .world) calls more
 
+-- ---- only Close finishes a build
+
+module _ {bytes : ℕ → ℕ} {words : ℕ} where
+  -- Blank, Expand and Settle answer a job of the same phase, accepted or refused
+  pub only-close-finishes : (w : World) (call : Call bytes words) → isFinished (w .job .phase) ≡ false
+      → isFinished (outcome w call .world .job .phase) ≡ true → call ≡ doClose
+  unfolding outcome
+  only-close-finishes w (doBlank j segment) u f =
+      never f (ap isFinished (blank-phase (w .job) j (lent segment (getD (w .segments) j []))) ∙ u)
+  only-close-finishes w (doExpand j segment log) u f =
+      never f (ap isFinished (expand-phase (w .job) j (lent segment (getD (w .segments) j [])) (lent log (w .log))) ∙ u)
+  only-close-finishes w (doSettle j segment log) u f =
+      never f (ap isFinished (settle-phase (w .job) j (lent segment (getD (w .segments) j [])) (lent log (w .log))) ∙ u)
+  only-close-finishes w (doLook j log) u f = never f u
+  only-close-finishes w doClose u f = refl
+
+  -- a call that finishes a build is accepted
+  finishing-accepted : (w : World) (call : Call bytes words) → isFinished (w .job .phase) ≡ false → isFinished (outcome w call .world .job .phase) ≡ true
+      → outcome w call .refusal ≡ 0
+  finishing-accepted w call u f = go (eq-or-ne (outcome w call .refusal) 0)
+    where
+      go : (outcome w call .refusal ≡ 0) ⊎ (outcome w call .refusal ≡ 0 → ⊥) → outcome w call .refusal ≡ 0
+      go (inl e) = e
+      go (inr ne) = never f (ap (λ (x : World). isFinished (x .job .phase)) (refused-same w call ne) ∙ u)
+
+  finished-by-close : (w : World) (calls : List (Call bytes words)) → isFinished (w .job .phase) ≡ false → isFinished (after w calls .job .phase) ≡ true
+      → FinishedByClose w calls
+  unfolding after
+  finished-by-close w [] u f = never f u
+  finished-by-close w (call ∷ calls) u f =
+      go (λ v. finished-by-close (outcome w call .world) calls v f) (test-cases (isFinished (outcome w call .world .job .phase)))
+    where
+      -- what holds of the call, as one of Close
+      close : isFinished (outcome w call .world .job .phase) ≡ true
+          → (call ≡ doClose) × (outcome {bytes = bytes} {words = words} w doClose .refusal ≡ 0)
+          × (isFinished (outcome {bytes = bytes} {words = words} w doClose .world .job .phase) ≡ true)
+      close e =
+          let c = only-close-finishes w call u e in (
+            c,
+            subst (λ (x : Call bytes words). outcome w x .refusal ≡ 0) c (finishing-accepted w call u e),
+            subst (λ (x : Call bytes words). isFinished (outcome w x .world .job .phase) ≡ true) c e,
+          )
+
+      go : (isFinished (outcome w call .world .job .phase) ≡ false → FinishedByClose (outcome w call .world) calls)
+          → (isFinished (outcome w call .world .job .phase) ≡ true) ⊎ (isFinished (outcome w call .world .job .phase) ≡ false)
+          → FinishedByClose w (call ∷ calls)
+      go rest (inl e) =
+          record {
+            before = [];
+            later = calls;
+            place = ap (λ (c : Call bytes words). c ∷ calls) (close e .0);
+            unfinished = u;
+            accepted = close e .1;
+            finished = close e .2;
+          }
+      go rest (inr e) =
+          let r = rest e in
+          record {
+            before = call ∷ r .before;
+            later = r .later;
+            place = ap (λ (cs : List (Call bytes words)). call ∷ cs) (r .place);
+            unfinished = r .unfinished;
+            accepted = r .accepted;
+            finished = r .finished;
+          }
+
+  closed-is-finished : (w : World) (calls : List (Call bytes words)) → FinishedByClose w calls → isFinished (after w calls .job .phase) ≡ true
+  unfolding after
+  closed-is-finished w calls f =
+      let end : World = outcome {bytes = bytes} {words = words} (after w (f .before)) doClose .world in
+      ap (λ (cs : List (Call bytes words)). isFinished (after w cs .job .phase)) (f .place)
+      ∙ ap (λ (x : World). isFinished (x .job .phase)) (after-append w (f .before) (doClose ∷ f .later) ∙ finished-stays end (f .later) (f .finished))
+      ∙ f .finished
+
 -- ---- every world of a build
 
-module _ {kind n : ℕ} {wanted : List ℤ} {S C : ℕ} (given : Given kind n wanted S C) where
+module _ {terms : Terms} (given : Given terms) where
   -- as many calls as there is work left bring it to an end
-  ends-within : (left : ℕ) (w : World) → Invariant kind n wanted S C w → workLeft (stackCount kind n) S (w .job) ≤ left
-      → (more : List (Call (rightBytes kind n S) (rightWords kind n S C))) × (isFinished (after w more .job .phase) ≡ true)
+  ends-within : (left : ℕ) (w : World) → Invariant terms w → workLeft (N terms) (terms .S) (w .job) ≤ left
+      → (more : List (Call (bytesOf terms) (wordsOf terms))) × (isFinished (after w more .job .phase) ≡ true)
   unfolding after
   ends-within zero w invariant h = go (test-cases (isFinished (w .job .phase)))
     where
       go : (isFinished (w .job .phase) ≡ true) ⊎ (isFinished (w .job .phase) ≡ false)
-          → (more : List (Call (rightBytes kind n S) (rightWords kind n S C))) × (isFinished (after w more .job .phase) ≡ true)
+          → (more : List (Call (bytesOf terms) (wordsOf terms))) × (isFinished (after w more .job .phase) ≡ true)
       go (inl e) = ([], e)
       go (inr e) = absurd (omega (arith, invariant-advances given invariant e .falls))
   ends-within (suc left) w invariant h = go (λ x i l. ends-within left x i l) (test-cases (isFinished (w .job .phase)))
     where
-      go : ((x : World) → Invariant kind n wanted S C x → workLeft (stackCount kind n) S (x .job) ≤ left
-          → (more : List (Call (rightBytes kind n S) (rightWords kind n S C))) × (isFinished (after x more .job .phase) ≡ true))
+      go : ((x : World) → Invariant terms x → workLeft (N terms) (terms .S) (x .job) ≤ left
+          → (more : List (Call (bytesOf terms) (wordsOf terms))) × (isFinished (after x more .job .phase) ≡ true))
           → (isFinished (w .job .phase) ≡ true) ⊎ (isFinished (w .job .phase) ≡ false)
-          → (more : List (Call (rightBytes kind n S) (rightWords kind n S C))) × (isFinished (after w more .job .phase) ≡ true)
+          → (more : List (Call (bytesOf terms) (wordsOf terms))) × (isFinished (after w more .job .phase) ≡ true)
       go rest (inl e) = ([], e)
       go rest (inr e) =
           let a = invariant-advances given invariant e in
@@ -101,35 +174,38 @@ module _ {kind n : ℕ} {wanted : List ℤ} {S C : ℕ} (given : Given kind n wa
           let r = rest (outcome w call .world) (step-keeps given invariant call) (omega (arith, a .falls)) in
           (call ∷ r .0, r .1)
 
-  module _ {w : World} (invariant : Invariant kind n wanted S C w) where
-    pub finishes-is : isFinished (w .job .phase) ≡ true → Finishes kind n wanted w
+  module _ {w : World} (invariant : Invariant terms w) where
+    pub finishes-is : isFinished (w .job .phase) ≡ true → Finishes (terms .kind) (terms .n) (terms .wanted) w
     unfolding isFinished
     finishes-is h = go (invariant .phase)
       where
-        go : Blanks kind n wanted S C w ⊎ (((d : ℕ) × Searches kind n wanted S C w d) ⊎ ((d : ℕ) × Ended kind n wanted S C w d))
-            → Finishes kind n wanted w
-        go (inl s) = never h (ap isFinished (s .phase-is))
-        go (inr (inl s)) = never h (ap isFinished (s .1 .phase-is))
-        go (inr (inr s)) = ended-finishes given (invariant .shaped) (s .1)
+        go : InPhase terms w
+            → Finishes (terms .kind) (terms .n) (terms .wanted) w
+        go (blanking s) = never h (ap isFinished (s .phase-is))
+        go (searching d s) = never h (ap isFinished (s .phase-is))
+        go (ended d s) = ended-finishes given (invariant .shaped) s
 
     levels-is : (d : ℕ) → w .job .phase ≡ Level d → d ≤ lastLevel
     unfolding levelOf isLevel
     levels-is d e = go (invariant .phase)
       where
-        go : Blanks kind n wanted S C w ⊎ (((d : ℕ) × Searches kind n wanted S C w d) ⊎ ((d : ℕ) × Ended kind n wanted S C w d)) → d ≤ lastLevel
-        go (inl s) = never (ap isLevel e) (ap isLevel (s .phase-is))
-        go (inr (inl s)) = omega (arith, ap levelOf e, ap levelOf (s .1 .phase-is), s .1 .last)
-        go (inr (inr s)) = never (ap isLevel e) (ap isLevel (s .1 .phase-is))
+        go : InPhase terms w → d ≤ lastLevel
+        go (blanking s) = never (ap isLevel e) (ap isLevel (s .phase-is))
+        go (searching f s) = omega (arith, ap levelOf e, ap levelOf (s .phase-is), s .last)
+        go (ended f s) = never (ap isLevel e) (ap isLevel (s .phase-is))
 
 pub whole-build : WholeBuild
-unfolding WholeBuild refusalOf
+unfolding WholeBuild refusalOf begun isFinished
 whole-build kind n wanted S C segments log accepted buffers calls =
-    let given : Given kind n wanted S C = begin-given kind n wanted S C accepted in
+    let terms : Terms = termsWith kind n wanted S C in
+    let given : Given terms = begin-given kind n wanted S C accepted in
     let start : World = record { job = begun kind n wanted S C; segments = segments; log = log } in
     let w : World = after start calls in
-    let invariant : Invariant kind n wanted S C w = after-keeps given (begun-invariant kind n wanted S C segments log buffers) calls in
-    let end = ends-within given (workLeft (stackCount kind n) S (w .job)) w invariant (le-refl (workLeft (stackCount kind n) S (w .job))) in
+    let invariant : Invariant terms w = after-keeps given (begun-invariant kind n wanted S C segments log buffers) calls in
+    let end = ends-within given (workLeft (N terms) (terms .S) (w .job)) w invariant (le-refl (workLeft (N terms) (terms .S) (w .job))) in
     record {
+      by-close = finished-by-close start calls refl;
+      since-close = closed-is-finished start calls;
       finishes = finishes-is given invariant;
       continues = λ h. invariant-advances given invariant h .next;
       levels = levels-is given invariant;

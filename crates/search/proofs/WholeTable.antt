@@ -16,7 +16,7 @@ use Rattle.search.specs.Begin.{begun}
 use Rattle.search.specs.Build.{World}
 use Rattle.search.specs.Drive.{advanced, drive, mostCalls, cut, held, laid, buildRefusal, built, buildOf, Builds}
 use Rattle.search.specs.Entries.{bytesFor}
-use Rattle.search.specs.JobState.{beginRefusal, isFinished, isCoherent, stacksAll}
+use Rattle.search.specs.JobState.{beginRefusal, isFinished, isCoherent, stackCountOf}
 use Rattle.search.specs.Promise.{rightBytes, rightWords}
 use Rattle.search.specs.Segments.{segmentCount, joined}
 use Rattle.search.specs.declared.Job.{Job}
@@ -25,16 +25,17 @@ use Rattle.search.proofs.BuildCoherent.{invariant-coherent}
 use Rattle.search.proofs.Coherence.{begin-given}
 use Rattle.search.proofs.CutLaws.{cut-segmented, joined-cut, cut-joined}
 use Rattle.search.proofs.Driving.{drive-done, work-most, advanced-keeps, advanced-falls, drive-keeps, drive-advanced}
-use Rattle.search.proofs.Invariant.{Given, Shaped, Invariant}
+use Rattle.search.proofs.Invariant.{Shaped, Invariant}
+use Rattle.search.proofs.Terms.{termsWith, Given}
 use Rattle.search.proofs.SegmentLaws.{SegmentSizeFacts, segment-size-facts, Segmented, joined-length}
-use Rattle.search.proofs.Shapes.{count-is, shaped-segmented}
+use Rattle.search.proofs.Shapes.{size-is, count-is, shaped-segmented}
 use Rattle.search.proofs.WholeBuild.{finishes-is}
 use Rattle.search.proofs.WorkLeft.{workLeft}
 
 module _ (kind n : ℕ) (wanted : List ℤ) (S C bytes words : ℕ) where
   -- what is not refused
   pub record Accepts : Type 0 where
-    pub given : Given kind n wanted S C
+    pub given : Given (termsWith kind n wanted S C)
     pub bytes-fit : bytes ≡ bytesFor (stackCount kind n)
     pub words-fit : words ≡ rightWords kind n S C
 
@@ -62,24 +63,24 @@ module _ (kind n : ℕ) (wanted : List ℤ) (S C bytes words : ℕ) where
 
 -- ---- a world, and the table that holds it
 
-module _ {kind n : ℕ} {wanted : List ℤ} {S C : ℕ} (given : Given kind n wanted S C) where
+module _ {kind n : ℕ} {wanted : List ℤ} {S C : ℕ} (given : Given (termsWith kind n wanted S C)) where
   facts : SegmentSizeFacts (stackCount kind n) S
   facts = segment-size-facts (stackCount kind n) S (given .segments)
 
   some : 0 < S
   some = omega (arith, facts .least)
 
-  held-laid : (w : World) → Shaped kind n wanted S C w → held (w .job) (joined (w .segments)) (w .log) ≡ w
+  held-laid : (w : World) → Shaped (termsWith kind n wanted S C) w → held (w .job) (joined (w .segments)) (w .log) ≡ w
   unfolding held
   held-laid w shaped =
       ap (λ (segments : List (List ℕ)). record { job = w .job; segments = segments; log = w .log })
-      (rw (count-is shaped, shaped .size-is)
+      (rw (count-is shaped, size-is shaped)
       (cut-joined (stackCount kind n) S some (facts .four) (w .segments) (shaped-segmented shaped given)))
 
 -- what a loop that drives a build keeps: the build is on its way to the world in which it ends
 pub record Driving (kind n : ℕ) (wanted : List ℤ) (S C : ℕ) (table₀ log₀ : List ℕ) (job : Job) (table log : List ℕ) : Type 0 where
-  pub given : Given kind n wanted S C
-  pub invariant : Invariant kind n wanted S C (held job table log)
+  pub given : Given (termsWith kind n wanted S C)
+  pub invariant : Invariant (termsWith kind n wanted S C) (held job table log)
   pub long : length table ≡ bytesFor (stackCount kind n)
   pub same : built kind n wanted S C table₀ log₀
       ≡ drive (mostCalls (stackCount kind n) (segmentCount (stackCount kind n) S)) (held job table log)
@@ -87,7 +88,7 @@ pub record Driving (kind n : ℕ) (wanted : List ℤ) (S C : ℕ) (table₀ log�
 module _ {kind n : ℕ} {wanted : List ℤ} {S C : ℕ} {table₀ log₀ : List ℕ} where
   pub driving-begins : Accepts kind n wanted S C (length table₀) (length log₀)
       → Driving kind n wanted S C table₀ log₀ (begun kind n wanted S C) table₀ log₀
-  unfolding built held begun stacksAll rightBytes
+  unfolding built held begun stackCountOf rightBytes
   driving-begins accepts =
       let g = accepts .given in
       let N = stackCount kind n in
@@ -106,7 +107,7 @@ module _ {kind n : ℕ} {wanted : List ℤ} {S C : ℕ} {table₀ log₀ : List 
     unfolding held
     driving-coherent = invariant-coherent (driving .given) (driving .invariant)
 
-    pub driving-bytes : length table ≡ bytesFor (stacksAll job)
+    pub driving-bytes : length table ≡ bytesFor (stackCountOf job)
     unfolding held
     driving-bytes = driving .long ∙ ap bytesFor (sym (count-is (driving .invariant .shaped)))
 
@@ -117,8 +118,8 @@ module _ {kind n : ℕ} {wanted : List ℤ} {S C : ℕ} {table₀ log₀ : List 
           ap (λ (t : List ℕ × List ℕ × Job). held (t .2) (t .0) (t .1)) step
           ∙ held-laid (driving .given) (advanced (held job table log)) (advanced-keeps (driving .given) (driving .invariant) .shaped)
 
-      next-invariant : Invariant kind n wanted S C (held next table′ log′)
-      next-invariant = subst (Invariant kind n wanted S C) (sym held-next) (advanced-keeps (driving .given) (driving .invariant))
+      next-invariant : Invariant (termsWith kind n wanted S C) (held next table′ log′)
+      next-invariant = subst (Invariant (termsWith kind n wanted S C)) (sym held-next) (advanced-keeps (driving .given) (driving .invariant))
 
       pub driving-steps : isFinished (job .phase) ≡ false → Driving kind n wanted S C table₀ log₀ next table′ log′
       unfolding laid held
@@ -152,7 +153,7 @@ module _ {kind n : ℕ} {wanted : List ℤ} {S C : ℕ} {table₀ log₀ : List 
         let w = held job table log in
         ap laid (driving .same ∙ drive-done (mostCalls N (segmentCount N S)) w finished)
         ∙ ap (λ (t : List ℕ). (t, log, job))
-        (rw (count-is (driving .invariant .shaped), driving .invariant .shaped .size-is)
+        (rw (count-is (driving .invariant .shaped), size-is (driving .invariant .shaped))
         (joined-cut N S (some (driving .given)) (facts (driving .given) .four) table (driving .long)))
 
 pub build-finishes : (kind n : ℕ) (wanted : List ℤ) (S C : ℕ) (table log : List ℕ)
@@ -166,8 +167,8 @@ build-finishes kind n wanted S C table log accepted =
     let w : World = built kind n wanted S C table log in
     let first : World = held (begun kind n wanted S C) table log in
     let most = mostCalls N (segmentCount N S) in
-    let end : Invariant kind n wanted S C w × (isFinished (w .job .phase) ≡ true) =
-    subst (λ (x : World). Invariant kind n wanted S C x × (isFinished (x .job .phase) ≡ true)) (sym (start .same))
+    let end : Invariant (termsWith kind n wanted S C) w × (isFinished (w .job .phase) ≡ true) =
+    subst (λ (x : World). Invariant (termsWith kind n wanted S C) x × (isFinished (x .job .phase) ≡ true)) (sym (start .same))
     (drive-keeps g most first (start .invariant) (omega (arith, work-most N S (first .job)))) in
     record {
       leaves = rw (eq-eqb (buildRefusal kind n wanted S C (length table) (length log)) 0 accepted);

@@ -10,7 +10,7 @@ use Rattle.base.proofs.Radix.{digits-less}
 use Rattle.graph.proofs.Tally.{tally-le, tally-one-more, tally-falls}
 use Rattle.search.specs.Drive.{isPending}
 use Rattle.search.specs.JobState.{lastLevel, passedOf, waitingOf}
-use Rattle.search.specs.Segments.{segmentCount, stacksIn}
+use Rattle.search.specs.Segments.{segmentCount, stackCountIn}
 use Rattle.search.specs.declared.Job.{Job}
 use Rattle.search.specs.declared.Phase.{Phase}
 use Rattle.search.specs.declared.Phase.the-variants.{Blanking, Level, Finished}
@@ -72,7 +72,7 @@ module _ (N S : ℕ) where
               omega (arith, ap (λ (p : Phase). levelsLeft p * suc N) e) in q),
         )
 
-    pub stacks-fall : 0 < S → (j : ℕ) → passedOf a j < stacksIn N S j → passedOf a j < passedOf b j
+    pub stacks-fall : 0 < S → (j : ℕ) → passedOf a j < stackCountIn N S j → passedOf a j < passedOf b j
         → ((i : ℕ) → passedOf a i ≤ passedOf b i) → stacksLeft b < stacksLeft a
     unfolding stacksLeft isLeft
     stacks-fall some j left more each =

@@ -7,7 +7,7 @@ use lib.ListN.{length, set}
 use Rattle.base.specs.Words.{unless}
 use Rattle.stacks.specs.Index.{rankOf}
 use Rattle.search.specs.Entries.{bytesFor, blank, setEntry}
-use Rattle.search.specs.JobState.{isCoherent, isBlanking, segmentsOf, stacksOf, passedOf, progressed}
+use Rattle.search.specs.JobState.{isCoherent, isBlanking, segmentCountOf, stackCountAt, passedOf, progressed}
 use Rattle.search.specs.declared.Answer.{Answer}
 use Rattle.search.specs.declared.Job.{Job}
 
@@ -15,9 +15,9 @@ unfoldable pub blankRefusal : Job → ℕ → ℕ → ℕ
 blankRefusal job j bytes =
     unless (isCoherent job) 7
     (unless (isBlanking (job .phase)) 8
-    (unless (ltb j (segmentsOf job)) 9
-    (unless (eqb bytes (bytesFor (stacksOf job j))) 10
-    (unless (ltb (passedOf job j) (stacksOf job j)) 11 0))))
+    (unless (ltb j (segmentCountOf job)) 9
+    (unless (eqb bytes (bytesFor (stackCountAt job j))) 10
+    (unless (ltb (passedOf job j) (stackCountAt job j)) 11 0))))
 
 -- the index of the wanted stack
 unfoldable pub goalOf : Job → ℕ
@@ -27,8 +27,8 @@ goalOf job = rankOf (job .kind) (job .n) (job .wanted)
 unfoldable pub blanked : Job → ℕ → List ℕ
 blanked job j =
     cond (eqb (goalOf job / job .size) j)
-    (setEntry (blank (stacksOf job j)) (goalOf job % job .size) 0)
-    (blank (stacksOf job j))
+    (setEntry (blank (stackCountAt job j)) (goalOf job % job .size) 0)
+    (blank (stackCountAt job j))
 
 unfoldable pub blankOf : Job → ℕ → List ℕ → List ℕ × Answer
 blankOf job j segment =
@@ -37,7 +37,7 @@ blankOf job j segment =
       blanked job j,
       record {
         refusal = 0;
-        job = progressed job (job .phase) (set (job .passed) j (stacksOf job j)) (job .waiting) (job .counts);
+        job = progressed job (job .phase) (set (job .passed) j (stackCountAt job j)) (job .waiting) (job .counts);
       },
     )
     (segment, record { refusal = r; job = job })

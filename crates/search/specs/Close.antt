@@ -5,7 +5,7 @@ use Prim.Native.Nat.{ℕ, _+_, _-_}
 use lib.Dec.{eqb}
 use lib.ListN.{set, replicate}
 use Rattle.base.specs.Words.{unless, all, from}
-use Rattle.search.specs.JobState.{isCoherent, isFinished, levelOf, lastLevel, segmentsOf, stacksOf, passedOf, waitingOf, countOf, progressed}
+use Rattle.search.specs.JobState.{isCoherent, isFinished, levelOf, lastLevel, segmentCountOf, stackCountAt, passedOf, waitingOf, countOf, progressed}
 use Rattle.search.specs.declared.Answer.{Answer}
 use Rattle.search.specs.declared.Job.{Job}
 use Rattle.search.specs.declared.Phase.{Phase}
@@ -13,10 +13,10 @@ use Rattle.search.specs.declared.Phase.the-variants.{Blanking, Level, Fi
 
 -- ready to close: each segment has all its stacks passed and no entry waiting
 unfoldable pub isDone : Job → ℕ → Bool
-isDone job j = eqb (passedOf job j) (stacksOf job j) && eqb (waitingOf job j) 0
+isDone job j = eqb (passedOf job j) (stackCountAt job j) && eqb (waitingOf job j) 0
 
 unfoldable pub isReady : Job → Bool
-isReady job = all (isDone job) (from 0 (segmentsOf job))
+isReady job = all (isDone job) (from 0 (segmentCountOf job))
 
 -- no level after the last
 unfoldable pub isPastLast : Job → Bool

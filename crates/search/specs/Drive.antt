@@ -11,15 +11,14 @@ use Prim.Native.Nat.{ℕ, zero, suc, _*_, _/_}
 use lib.Dec.{ltb, eqb}
 use lib.IntN.{ℤ, pos}
 use lib.ListN.{length, take, drop, replicate}
-use Rattle.base.specs.Words.{unless, from}
+use Rattle.base.specs.Words.{unless, from, firstFrom}
 use Rattle.stacks.specs.Stack.{stackCount}
 use Rattle.search.specs.Begin.{begun}
 use Rattle.search.specs.Build.{World, Call, own, doBlank, doExpand, doSettle, doClose, outcome}
 use Rattle.search.specs.Entries.{bytesFor}
-use Rattle.search.specs.Expand.{firstFrom}
-use Rattle.search.specs.JobState.{lastLevel, beginRefusal, stacksAll, segmentsOf, stacksOf, passedOf, waitingOf, isBlanking, isFinished}
+use Rattle.search.specs.JobState.{lastLevel, beginRefusal, stackCountOf, segmentCountOf, stackCountAt, passedOf, waitingOf, isBlanking, isFinished}
 use Rattle.search.specs.Promise.{rightBytes, rightWords, Finishes}
-use Rattle.search.specs.Segments.{segmentCount, stacksIn, joined}
+use Rattle.search.specs.Segments.{segmentCount, stackCountIn, joined}
 use Rattle.search.specs.declared.Answer.{Answer}
 use Rattle.search.specs.declared.Job.{Job}
 
@@ -27,27 +26,27 @@ use Rattle.search.specs.declared.Job.{Job}
 
 -- segment j has stacks that are not passed; segment t has entries waiting
 unfoldable pub isOpen : Job → ℕ → Bool
-isOpen job j = ltb (passedOf job j) (stacksOf job j)
+isOpen job j = ltb (passedOf job j) (stackCountAt job j)
 
 unfoldable pub isPending : Job → ℕ → Bool
 isPending job t = ltb 0 (waitingOf job t)
 
 -- the first such segment, and G where there is none
 unfoldable pub firstOpen : Job → ℕ
-firstOpen job = firstFrom (isOpen job) 0 (segmentsOf job)
+firstOpen job = firstFrom (isOpen job) 0 (segmentCountOf job)
 
 unfoldable pub firstPending : Job → ℕ
-firstPending job = firstFrom (isPending job) 0 (segmentsOf job)
+firstPending job = firstFrom (isPending job) 0 (segmentCountOf job)
 
 -- in Blanking the first open segment is blanked; in a level the first pending one is settled, and where there is none the first open one
 -- is expanded; with nothing left the phase is closed
 unfoldable pub nextCall : {bytes : ℕ → ℕ} {words : ℕ} → Job → Call bytes words
 nextCall job =
     cond (isBlanking (job .phase))
-    (cond (ltb (firstOpen job) (segmentsOf job)) (doBlank (firstOpen job) own) doClose)
-    (cond (ltb (firstPending job) (segmentsOf job))
+    (cond (ltb (firstOpen job) (segmentCountOf job)) (doBlank (firstOpen job) own) doClose)
+    (cond (ltb (firstPending job) (segmentCountOf job))
     (doSettle (firstPending job) own own)
-    (cond (ltb (firstOpen job) (segmentsOf job)) (doExpand (firstOpen job) own own) doClose))
+    (cond (ltb (firstOpen job) (segmentCountOf job)) (doExpand (firstOpen job) own own) doClose))
 
 unfoldable pub advanced : World → World
 advanced w =
@@ -70,11 +69,11 @@ mostCalls N G = suc (suc lastLevel) * suc N * suc G
 
 -- segment j starts at byte j × S/4, as every segment before it is full
 unfoldable pub cut : ℕ → ℕ → List ℕ → List (List ℕ)
-cut N S table = map (λ j. take (bytesFor (stacksIn N S j)) (drop (j * (S / 4)) table)) (from 0 (segmentCount N S))
+cut N S table = map (λ j. take (bytesFor (stackCountIn N S j)) (drop (j * (S / 4)) table)) (from 0 (segmentCount N S))
 
 -- the world that a job has in a table and a log area, and what a world leaves in them
 unfoldable pub held : Job → List ℕ → List ℕ → World
-held job table log = record { job = job; segments = cut (stacksAll job) (job .size) table; log = log }
+held job table log = record { job = job; segments = cut (stackCountOf job) (job .size) table; log = log }
 
 unfoldable pub laid : World → List ℕ × List ℕ × Job
 laid w = (joined (w .segments), w .log, w .job)

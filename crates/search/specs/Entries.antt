@@ -1,8 +1,11 @@
 -- Two-bit entries (document 01, "Segments and entries"): stack i has its entry in byte ⌊i/4⌋, at the bits of weight 2 × 4^(i mod 4) and
 -- 4^(i mod 4). An entry is 0, 1 or 2, the fewest turns modulo 3, or 3 for unseen.
+use mathlib.Core.Bool.{not}
 use mathlib.Core.List.{List}
 use Prim.Native.Nat.{ℕ, suc, _+_, _*_, _/_, _%_, _^_}
+use lib.Dec.{eqb}
 use lib.ListN.{getD, set, replicate}
+use Rattle.base.specs.Words.{tally, from}
 
 -- digit k of a byte to the base 4, and the byte with another digit there: what stands above it, the digit, what stands below it
 unfoldable pub digit : ℕ → ℕ → ℕ
@@ -23,6 +26,10 @@ unseen = 3
 -- the entry that follows v
 unfoldable pub nextEntry : ℕ → ℕ
 nextEntry v = (v + 1) % 3
+
+-- how many of the first m entries are seen: other than 3
+unfoldable pub seenIn : List ℕ → ℕ → ℕ
+seenIn bytes m = tally (λ i. not (eqb (entryAt bytes i) unseen)) (from 0 m)
 
 -- how many bytes m entries take, ⌈m/4⌉
 unfoldable pub bytesFor : ℕ → ℕ

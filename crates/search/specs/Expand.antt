@@ -1,27 +1,20 @@
 -- Expand a segment: what it leaves in the segment and the log area, and its answer.
---   Marks        a segment's bytes, and the level's count
---   Logs         the log area, and the entries waiting in each log
 --   Expansion    how far a call has come: the first stack not passed, whether it waits before it and for which segment, marks and logs
-use mathlib.Core.Bool.{Bool, true, false, not, _&&_, cond}
+use mathlib.Core.Bool.{Bool, true, false, cond}
 use mathlib.Core.List.{List, [], _∷_, map}
 use Prim.Native.Nat.{ℕ, zero, suc, _+_, _-_, _*_, _/_, _%_}
 use lib.Dec.{ltb, eqb}
-use lib.ListN.{length, getD, set}
-use Rattle.base.specs.Words.{unless, tally}
+use lib.ListN.{length, set}
+use Rattle.base.specs.Words.{unless, firstFrom}
 use Rattle.stacks.specs.Index.{rankOf, stackAt}
 use Rattle.stacks.specs.Turn.{turnOf, turnsOf}
-use Rattle.search.specs.Entries.{bytesFor, entryAt, setEntry, unseen}
-use Rattle.search.specs.JobState.{isCoherent, isLevel, levelOf, segmentsOf, stacksOf, logLength, passedOf, countOf, progressed}
+use Rattle.search.specs.Entries.{entryAt}
+use Rattle.search.specs.JobState.{levelOf, segmentCountOf, stackCountAt, passedOf, countOf, progressed}
+use Rattle.search.specs.Level.{levelRefusal}
+use Rattle.search.specs.Logs.{Logs, logOne, lacksRoom}
+use Rattle.search.specs.Marks.{Marks, markOne}
 use Rattle.search.specs.declared.Expanded.{Expanded}
 use Rattle.search.specs.declared.Job.{Job}
-
-pub record Marks : Type 0 where
-  pub segment : List ℕ
-  pub count : ℕ
-
-pub record Logs : Type 0 where
-  pub log : List ℕ
-  pub waiting : List ℕ
 
 pub record Expansion : Type 0 where
   pub at : ℕ
@@ -30,46 +23,16 @@ pub record Expansion : Type 0 where
   pub marks : Marks
   pub logs : Logs
 
--- the refusals that Expand and Settle try first: 7, 8, 9, 10 for the segment, 10 for the log area
-unfoldable pub levelRefusal : Job → ℕ → ℕ → ℕ → ℕ → ℕ
-levelRefusal job j bytes logs rest =
-    unless (isCoherent job) 7
-    (unless (isLevel (job .phase)) 8
-    (unless (ltb j (segmentsOf job)) 9
-    (unless (eqb bytes (bytesFor (stacksOf job j))) 10 (unless (eqb logs (logLength job)) 10 rest))))
-
 unfoldable pub expandRefusal : Job → ℕ → ℕ → ℕ → ℕ
-expandRefusal job j bytes logs = levelRefusal job j bytes logs (unless (ltb (passedOf job j) (stacksOf job j)) 11 0)
+expandRefusal job j bytes words = levelRefusal job j bytes words (unless (ltb (passedOf job j) (stackCountAt job j)) 11 0)
 
--- an unseen stack i of the segment gets d mod 3 and adds one to the count
-unfoldable pub markOne : ℕ → ℕ → Marks → Marks
-markOne d i marks =
-    cond (eqb (entryAt (marks .segment) i) unseen)
-    (record { segment = setEntry (marks .segment) i (d % 3); count = marks .count + 1 })
-    marks
-
--- offset i is appended to the log of segment t
-unfoldable pub logOne : ℕ → ℕ → ℕ → Logs → Logs
-logOne C t i logs =
-    let w = getD (logs .waiting) t 0 in
-    record { log = set (logs .log) (t * C + w) i; waiting = set (logs .waiting) t (w + 1) }
+-- a stack with this entry is taken for one of the level before d
+unfoldable pub isParent : ℕ → ℕ → Bool
+isParent d entry = eqb entry ((d - 1) % 3)
 
 -- the children of the stack at an index, by rising k, as indexes
 unfoldable pub childrenOf : ℕ → ℕ → ℕ → List ℕ
 childrenOf kind n i = map (λ k. rankOf kind n (turnOf kind k (stackAt kind n i))) (turnsOf kind n)
-
--- the children that fall in segment t
-unfoldable pub fallingIn : ℕ → ℕ → List ℕ → ℕ
-fallingIn S t children = tally (λ c. eqb (c / S) t) children
-
--- segment t, other than j, has fewer free log places than children that fall there
-unfoldable pub lacksRoom : ℕ → ℕ → ℕ → List ℕ → List ℕ → ℕ → Bool
-lacksRoom S C j waiting children t = not (eqb t j) && ltb (C - getD waiting t 0) (fallingIn S t children)
-
--- the first of the n numbers from a on that passes a test, and a + n where none does
-unfoldable pub firstFrom : (ℕ → Bool) → ℕ → ℕ → ℕ
-firstFrom p a zero = a
-firstFrom p a (suc n) = cond (p a) a (firstFrom p (suc a) n)
 
 module _ (job : Job) (j : ℕ) where
   -- a child of this segment is marked, a child elsewhere is logged, seen or not
@@ -98,13 +61,13 @@ module _ (job : Job) (j : ℕ) where
   -- a stack with the entry of the level before: where some other segment lacks room, the call waits for the lowest such
   unfoldable pub expandStack : List ℕ → Expansion → Expansion
   expandStack children e =
-      let t = firstFrom (lacksRoom (job .size) (job .room) j (e .logs .waiting) children) 0 (segmentsOf job) in
-      cond (ltb t (segmentsOf job)) (waitFor t e) (passOne (placeAll children e))
+      let t = firstFrom (lacksRoom (job .size) (job .room) j (e .logs .waiting) children) 0 (segmentCountOf job) in
+      cond (ltb t (segmentCountOf job)) (waitFor t e) (passOne (placeAll children e))
 
   unfoldable pub expandNext : Expansion → Expansion
   expandNext e =
       cond (e .waits) e
-      (cond (eqb (entryAt (e .marks .segment) (e .at)) ((levelOf (job .phase) - 1) % 3))
+      (cond (isParent (levelOf (job .phase)) (entryAt (e .marks .segment) (e .at)))
       (expandStack (childrenOf (job .kind) (job .n) (j * job .size + e .at)) e)
       (passOne e))
 
@@ -116,7 +79,7 @@ module _ (job : Job) (j : ℕ) where
   -- from the first stack not passed to the last
   unfoldable pub expansion : List ℕ → List ℕ → Expansion
   expansion segment log =
-      expandRun (stacksOf job j - passedOf job j)
+      expandRun (stackCountAt job j - passedOf job j)
       (record {
         at = passedOf job j;
         waits = false;

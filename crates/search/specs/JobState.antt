@@ -1,6 +1,6 @@
 -- The job: what its fields mean, and when it is coherent (document 01, "The job").
---   the five       kind, n, wanted stack, S and C: what Begin is given
---   stacksOf       m of segment j
+--   beginRefusal   of kind, n, wanted stack, S and C: what Begin is given
+--   stackCountAt   m of segment j
 --   progressed     the job with another phase, passed, waiting and counts
 use mathlib.Core.Bool.{Bool, true, false, _&&_, cond}
 use mathlib.Core.List.{List}
@@ -10,13 +10,13 @@ use lib.IntN.{ℤ}
 use lib.ListN.{getD}
 use Rattle.base.specs.Words.{unless, all, from}
 use Rattle.stacks.specs.Stack.{isStack, stackCount}
-use Rattle.stacks.specs.Operations.{sizeRefusal}
-use Rattle.search.specs.Segments.{segmentLimit, segmentCount, stacksIn, isSegmentSize, isLogRoom}
+use Rattle.stacks.specs.Operations.{kindRefusal}
+use Rattle.search.specs.Segments.{segmentLimit, segmentCount, stackCountIn, isSegmentSize, isLogRoom}
 use Rattle.search.specs.declared.Job.{Job}
 use Rattle.search.specs.declared.Phase.{Phase}
 use Rattle.search.specs.declared.Phase.the-variants.{Blanking, Level, Finished}
 
--- the limits, named once: the last level that is searched, and the most that a count may be in a coherent job
+-- the limits: the last level that is searched, and the most that a count may be in a coherent job
 unfoldable pub lastLevel : ℕ
 lastLevel = 31
 
@@ -26,21 +26,21 @@ countLimit = 2 ^ 60
 -- Begin's refusals: 1, 2, 3 for the wanted stack, 5 for S, 6 for C
 unfoldable pub beginRefusal : ℕ → ℕ → List ℤ → ℕ → ℕ → ℕ
 beginRefusal kind n wanted S C =
-    sizeRefusal kind n
+    kindRefusal kind n
     (unless (isStack kind n wanted) 3 (unless (isSegmentSize (stackCount kind n) S) 5 (unless (isLogRoom C) 6 0)))
 
 -- N, G and m of the job
-unfoldable pub stacksAll : Job → ℕ
-stacksAll job = stackCount (job .kind) (job .n)
+unfoldable pub stackCountOf : Job → ℕ
+stackCountOf job = stackCount (job .kind) (job .n)
 
-unfoldable pub segmentsOf : Job → ℕ
-segmentsOf job = segmentCount (stacksAll job) (job .size)
+unfoldable pub segmentCountOf : Job → ℕ
+segmentCountOf job = segmentCount (stackCountOf job) (job .size)
 
-unfoldable pub stacksOf : Job → ℕ → ℕ
-stacksOf job j = stacksIn (stacksAll job) (job .size) j
+unfoldable pub stackCountAt : Job → ℕ → ℕ
+stackCountAt job j = stackCountIn (stackCountOf job) (job .size) j
 
 unfoldable pub logLength : Job → ℕ
-logLength job = segmentsOf job * job .room
+logLength job = segmentCountOf job * job .room
 
 unfoldable pub passedOf : Job → ℕ → ℕ
 passedOf job j = getD (job .passed) j 0
@@ -80,7 +80,7 @@ phaseFits (Finished d) = ltb d lastLevel
 
 -- passed is at most m, waiting at most C, both 0 from segment G up; m is 0 there
 unfoldable pub segmentFits : Job → ℕ → Bool
-segmentFits job j = leb (passedOf job j) (stacksOf job j) && leb (waitingOf job j) (cond (ltb j (segmentsOf job)) (job .room) 0)
+segmentFits job j = leb (passedOf job j) (stackCountAt job j) && leb (waitingOf job j) (cond (ltb j (segmentCountOf job)) (job .room) 0)
 
 unfoldable pub countFits : ℕ → Bool
 countFits count = leb count countLimit

@@ -2,8 +2,11 @@
 pub mod Entries
 pub mod Segments
 pub mod JobState
+pub mod Marks
+pub mod Logs
 pub mod Begin
 pub mod Blank
+pub mod Level
 pub mod Expand
 pub mod Settle
 pub mod Look

@@ -5,13 +5,13 @@ use Prim.Native.Nat.{ℕ}
 use lib.Dec.{ltb, eqb}
 use lib.ListN.{length}
 use Rattle.base.specs.Words.{unless}
-use Rattle.search.specs.JobState.{isCoherent, segmentsOf, logLength}
-use Rattle.search.specs.Settle.{pending}
+use Rattle.search.specs.JobState.{isCoherent, segmentCountOf, logLength}
+use Rattle.search.specs.Logs.{pending}
 use Rattle.search.specs.declared.Job.{Job}
 
 unfoldable pub lookRefusal : Job → ℕ → ℕ → ℕ
 lookRefusal job j logs =
-    unless (isCoherent job) 7 (unless (ltb j (segmentsOf job)) 9 (unless (eqb logs (logLength job)) 10 0))
+    unless (isCoherent job) 7 (unless (ltb j (segmentCountOf job)) 9 (unless (eqb logs (logLength job)) 10 0))
 
 unfoldable pub lookOf : Job → ℕ → List ℕ → List ℕ × ℕ
 lookOf job j log =

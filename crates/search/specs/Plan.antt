@@ -9,7 +9,7 @@ use Rattle.base.specs.Words.{unless}
 use Rattle.stacks.specs.Index.{rankOf}
 use Rattle.stacks.specs.Stack.{isStack, stackCount}
 use Rattle.stacks.specs.Turn.{turnOf, turnsOf}
-use Rattle.stacks.specs.Operations.{sizeRefusal}
+use Rattle.stacks.specs.Operations.{kindRefusal}
 use Rattle.search.specs.Entries.{bytesFor, entryAt, unseen, nextEntry}
 use Rattle.search.specs.declared.Planned.{Planned}
 
@@ -60,14 +60,18 @@ module _ (kind n : ℕ) (table : List ℕ) where
     hasPlan given =
         not (eqb (entryOf given) unseen) && eqb (entryOf wanted) 0 && isWanted (routeFrom given .stack)
 
--- 1, 2, 3 for the wanted stack, 3 for the given one, 10 for the table, 10 for the turn list, 15
-unfoldable pub planRefusal : ℕ → ℕ → List ℤ → List ℤ → List ℕ → ℕ → ℕ
-planRefusal kind n wanted given table room =
-    sizeRefusal kind n
+-- 1, 2, 3 for the wanted stack, 3 for the given one, 10 for the table, 10 for the turn list, and then the rest
+unfoldable pub planRow : ℕ → ℕ → List ℤ → List ℤ → ℕ → ℕ → ℕ → ℕ
+planRow kind n wanted given bytes slots rest =
+    kindRefusal kind n
     (unless (isStack kind n wanted) 3
     (unless (isStack kind n given) 3
-    (unless (eqb (length table) (bytesFor (stackCount kind n))) 10
-    (unless (leb planLimit room) 10 (unless (hasPlan kind n table wanted given) 15 0)))))
+    (unless (eqb bytes (bytesFor (stackCount kind n))) 10 (unless (leb planLimit slots) 10 rest))))
+
+-- then 15
+unfoldable pub planRefusal : ℕ → ℕ → List ℤ → List ℤ → List ℕ → ℕ → ℕ
+planRefusal kind n wanted given table slots =
+    planRow kind n wanted given (length table) slots (unless (hasPlan kind n table wanted given) 15 0)
 
 -- the bytes of the list past the plan are unchanged
 unfoldable pub planOf : ℕ → ℕ → List ℤ → List ℤ → List ℕ → List ℕ → List ℕ × Planned

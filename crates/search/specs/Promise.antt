@@ -1,37 +1,41 @@
 -- What we promise of a build: demands 2 and 3, as one claim about every list of calls after an accepted Begin.
 -- It speaks of stacks, turns and roads; Fewest is that of the turning rules, with both ends as arguments.
 use mathlib.Core.Path.{_≡_}
-use mathlib.Core.Bool.{Bool, true, false}
-use mathlib.Core.List.{List, [], _++_}
+use mathlib.Core.Bool.{true, false}
+use mathlib.Core.List.{List, [], _∷_, _++_}
 use Prim.Native.Nat.{ℕ, _+_, _*_, _%_, _≤_, _<_}
 use lib.IntN.{ℤ}
 use lib.ListN.{length, getD, take}
-use Rattle.base.specs.Words.{tally}
-use Rattle.stacks.specs.Index.{rankOf, allStacks}
+use Rattle.base.specs.Words.{total}
+use Rattle.stacks.specs.Counts.{CountsAt}
+use Rattle.stacks.specs.Index.{rankOf}
 use Rattle.stacks.specs.Stack.{isStack, stackCount}
 use Rattle.stacks.specs.Turn.{Road, Fewest}
 use Rattle.search.specs.Begin.{begun}
 use Rattle.search.specs.Build.{World, Call, outcome, after, isLentOwn, CarriesOn, doClose}
-use Rattle.search.specs.Entries.{entryAt, bytesFor}
+use Rattle.search.specs.Entries.{entryAt, seenIn, bytesFor}
 use Rattle.search.specs.JobState.{beginRefusal, countOf, isFinished, levelOf, lastLevel}
 use Rattle.search.specs.Plan.{planOf, planLimit}
-use Rattle.search.specs.Segments.{segmentCount, stacksIn, joined}
+use Rattle.search.specs.Segments.{segmentCount, stackCountIn, joined}
 use Rattle.search.specs.declared.Phase.the-variants.{Level}
+use Rattle.search.specs.declared.Planned.{Planned}
 
 -- the right lengths of segment j and of the log area
 unfoldable pub rightBytes : ℕ → ℕ → ℕ → ℕ → ℕ
-rightBytes kind n S j = bytesFor (stacksIn (stackCount kind n) S j)
+rightBytes kind n S j = bytesFor (stackCountIn (stackCount kind n) S j)
 
 unfoldable pub rightWords : ℕ → ℕ → ℕ → ℕ → ℕ
 rightWords kind n S C = segmentCount (stackCount kind n) S * C
 
--- Plan with the job's kind, n and wanted stack: it refuses no stack, arrives, and no road is shorter
+-- Plan as a finished build is asked for it: the job's own kind, n and wanted stack, and its segments joined
+abbrev pub planIn : World → List ℤ → List ℕ → List ℕ × Planned
+planIn w given list = planOf (w .job .kind) (w .job .n) (w .job .wanted) given (joined (w .segments)) list
+
+-- it refuses no stack, arrives, and no road is shorter
 pub record Plans (w : World) (given : List ℤ) (list : List ℕ) : Type 0 where
-  pub accepts : planOf (w .job .kind) (w .job .n) (w .job .wanted) given (joined (w .segments)) list .1 .refusal ≡ 0
-  pub arrives : (let out = planOf (w .job .kind) (w .job .n) (w .job .wanted) given (joined (w .segments)) list in
-      Road (w .job .kind) (w .job .n) (take (out .1 .turns) (out .0)) given (w .job .wanted))
-  pub shortest : Fewest (w .job .kind) (w .job .n) given (w .job .wanted)
-      (planOf (w .job .kind) (w .job .n) (w .job .wanted) given (joined (w .segments)) list .1 .turns)
+  pub accepts : planIn w given list .1 .refusal ≡ 0
+  pub arrives : Road (w .job .kind) (w .job .n) (take (planIn w given list .1 .turns) (planIn w given list .0)) given (w .job .wanted)
+  pub shortest : Fewest (w .job .kind) (w .job .n) given (w .job .wanted) (planIn w given list .1 .turns)
 
 -- a finished build of the table of a wanted stack
 pub record Finishes (kind n : ℕ) (wanted : List ℤ) (w : World) : Type 0 where
@@ -39,12 +43,12 @@ pub record Finishes (kind n : ℕ) (wanted : List ℤ) (w : World) : Type 0 wher
   pub entries : (s : List ℤ) → isStack kind n s ≡ true
       → (d : ℕ) × Fewest kind n s wanted d × (entryAt (joined (w .segments)) (rankOf kind n s) ≡ d % 3)
   pub spare : (i : ℕ) → stackCount kind n ≤ i → i < 4 * length (joined (w .segments)) → entryAt (joined (w .segments)) i ≡ 3
-  -- each level count is the number of stacks at exactly that many turns, whichever test tells those, and 0 past the deepest
-  pub counts : (d : ℕ) → d ≤ lastLevel → (test : List ℤ → Bool)
-      → ((s : List ℤ) → isStack kind n s ≡ true → test s ≡ true → Fewest kind n s wanted d)
-      → ((s : List ℤ) → isStack kind n s ≡ true → Fewest kind n s wanted d → test s ≡ true)
-      → countOf (w .job) d ≡ tally test (allStacks kind n)
+  -- each level count is the number of stacks at exactly that many turns, and 0 past the deepest
+  pub counts : (d : ℕ) → d ≤ lastLevel → CountsAt kind n wanted d (countOf (w .job) d)
   pub past : (d : ℕ) → levelOf (w .job .phase) < d → countOf (w .job) d ≡ 0
+  -- the counts add up to the number of entries other than 3, which is that of all stacks
+  pub added : total (w .job .counts) ≡ seenIn (joined (w .segments)) (stackCount kind n)
+  pub all-seen : seenIn (joined (w .segments)) (stackCount kind n) ≡ stackCount kind n
   -- the deepest level is the greatest of all fewest turns
   pub deepest : (s : List ℤ) × (isStack kind n s ≡ true) × Fewest kind n s wanted (levelOf (w .job .phase))
   pub greatest : (s : List ℤ) (d : ℕ) → isStack kind n s ≡ true → Fewest kind n s wanted d → d ≤ levelOf (w .job .phase)
@@ -61,8 +65,21 @@ pub record Continues (bytes : ℕ → ℕ) (words : ℕ) (w : World) : Type 0 wh
   pub accepted : outcome w call .refusal ≡ 0
   pub carries : CarriesOn w (outcome w call .world)
 
+-- a Close of the list, accepted, has returned a job in Finished
+pub record FinishedByClose {bytes : ℕ → ℕ} {words : ℕ} (start : World) (calls : List (Call bytes words)) : Type 0 where
+  pub before : List (Call bytes words)
+  pub later : List (Call bytes words)
+  pub place : calls ≡ before ++ (doClose ∷ later)
+  pub unfinished : isFinished (after start before .job .phase) ≡ false
+  pub accepted : outcome {bytes = bytes} {words = words} (after start before) doClose .refusal ≡ 0
+  pub finished : isFinished (outcome {bytes = bytes} {words = words} (after start before) doClose .world .job .phase) ≡ true
+
 -- the claim, for one list of calls
-pub record Promise (kind n : ℕ) (wanted : List ℤ) (bytes : ℕ → ℕ) (words : ℕ) (start : World) (calls : List (Call bytes words)) : Type 0 where
+pub record Promise (kind n : ℕ) (wanted : List ℤ) (bytes : ℕ → ℕ) (words : ℕ) (start : World) (calls : List (Call bytes words))
+    : Type 0 where
+  -- the job is in Finished exactly where a Close of the list has finished the build
+  pub by-close : isFinished (after start calls .job .phase) ≡ true → FinishedByClose start calls
+  pub since-close : FinishedByClose start calls → isFinished (after start calls .job .phase) ≡ true
   pub finishes : isFinished (after start calls .job .phase) ≡ true → Finishes kind n wanted (after start calls)
   pub continues : isFinished (after start calls .job .phase) ≡ false → Continues bytes words (after start calls)
   -- no list brings the job past the last level, or has a Close refused 14
@@ -70,7 +87,8 @@ pub record Promise (kind n : ℕ) (wanted : List ℤ) (bytes : ℕ → ℕ) (wor
   pub closes : outcome {bytes = bytes} {words = words} (after start calls) doClose .refusal ≡ 14 → ⊥
   -- every list can be continued to one that has finished; what has finished stays so
   pub ends : (more : List (Call bytes words)) × (isFinished (after start (calls ++ more) .job .phase) ≡ true)
-  pub stays : (more : List (Call bytes words)) → isFinished (after start calls .job .phase) ≡ true → isFinished (after start (calls ++ more) .job .phase) ≡ true
+  pub stays : (more : List (Call bytes words)) → isFinished (after start calls .job .phase) ≡ true
+      → isFinished (after start (calls ++ more) .job .phase) ≡ true
 
 -- the buffers that a build starts with: right lengths, any contents
 pub record Buffers (kind n S C : ℕ) (segments : List (List ℕ)) (log : List ℕ) : Type 0 where
@@ -87,3 +105,11 @@ WholeBuild =
     → (calls : List (Call (rightBytes kind n S) (rightWords kind n S C)))
     → Promise kind n wanted (rightBytes kind n S) (rightWords kind n S C)
     (record { job = begun kind n wanted S C; segments = segments; log = log }) calls
+
+-- an accepted plan arrives, also from a spoilt table: as many turns from the front of the list as Plan answers, at most 30
+unfoldable pub PlanArrives : Type 0
+PlanArrives =
+    (kind n : ℕ) (wanted given : List ℤ) (table list : List ℕ)
+    → planOf kind n wanted given table list .1 .refusal ≡ 0
+    → (let out = planOf kind n wanted given table list in
+    Road kind n (take (out .1 .turns) (out .0)) given wanted × (out .1 .turns ≤ planLimit))

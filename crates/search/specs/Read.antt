@@ -6,14 +6,14 @@ use lib.Dec.{ltb, eqb}
 use lib.ListN.{length}
 use Rattle.base.specs.Words.{unless}
 use Rattle.stacks.specs.Stack.{stackCount}
-use Rattle.stacks.specs.Operations.{sizeRefusal}
+use Rattle.stacks.specs.Operations.{kindRefusal}
 use Rattle.search.specs.Entries.{bytesFor, entryAt}
 use Rattle.search.specs.declared.Entry.{Entry}
 
 -- 1, 2, 10 for the table's length, then 4 for the index
 unfoldable pub readRefusal : ℕ → ℕ → ℕ → ℕ → ℕ
 readRefusal kind n bytes i =
-    sizeRefusal kind n
+    kindRefusal kind n
     (unless (eqb bytes (bytesFor (stackCount kind n))) 10 (unless (ltb i (stackCount kind n)) 4 0))
 
 unfoldable pub readOf : ℕ → ℕ → List ℕ → ℕ → Entry

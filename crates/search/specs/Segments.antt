@@ -1,9 +1,8 @@
--- Segments and logs (document 01, "Segments and entries"). S is the segment size, C the places of a log.
+-- Segments (document 01, "Segments and entries"). S is the segment size, C the places of a log.
 use mathlib.Core.Bool.{Bool, _&&_}
 use mathlib.Core.List.{List, [], _∷_, _++_}
 use Prim.Native.Nat.{ℕ, _+_, _-_, _*_, _/_, _%_, min}
 use lib.Dec.{leb, eqb}
-use lib.ListN.{take, drop}
 
 unfoldable pub segmentLimit : ℕ
 segmentLimit = 64
@@ -13,8 +12,8 @@ unfoldable pub segmentCount : ℕ → ℕ → ℕ
 segmentCount N S = (N + (S - 1)) / S
 
 -- m, the stacks of segment j: those from j × S to just below the lesser of (j + 1) × S and N
-unfoldable pub stacksIn : ℕ → ℕ → ℕ → ℕ
-stacksIn N S j = min S (N - j * S)
+unfoldable pub stackCountIn : ℕ → ℕ → ℕ → ℕ
+stackCountIn N S j = min S (N - j * S)
 
 -- a multiple of 4 from 4 to 67,108,864 that makes at most 64 segments
 unfoldable pub isSegmentSize : ℕ → ℕ → Bool
@@ -23,10 +22,6 @@ isSegmentSize N S =
 
 unfoldable pub isLogRoom : ℕ → Bool
 isLogRoom C = leb 16 C && leb C 1048576
-
--- the first w entries of segment t's log: its stretch of the log area starts at t × C
-unfoldable pub logPart : ℕ → ℕ → ℕ → List ℕ → List ℕ
-logPart C t w log = take w (drop (t * C) log)
 
 -- the whole table: the segments joined in order
 unfoldable pub joined : List (List ℕ) → List ℕ

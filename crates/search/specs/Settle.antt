@@ -1,31 +1,23 @@
 -- Settle a segment: apply its log.
 use mathlib.Core.Bool.{cond}
-use mathlib.Core.List.{List, [], _∷_}
+use mathlib.Core.List.{List}
 use Prim.Native.Nat.{ℕ}
 use lib.Dec.{ltb, eqb}
 use lib.ListN.{length, set}
 use Rattle.base.specs.Words.{unless, all}
-use Rattle.search.specs.Expand.{Marks, markOne, levelRefusal}
-use Rattle.search.specs.JobState.{levelOf, stacksOf, waitingOf, countOf, progressed}
-use Rattle.search.specs.Segments.{logPart}
+use Rattle.search.specs.JobState.{levelOf, stackCountAt, countOf, progressed}
+use Rattle.search.specs.Level.{levelRefusal}
+use Rattle.search.specs.Logs.{pending}
+use Rattle.search.specs.Marks.{markAll}
 use Rattle.search.specs.declared.Answer.{Answer}
 use Rattle.search.specs.declared.Job.{Job}
-
--- the waiting part of segment j's log
-unfoldable pub pending : Job → ℕ → List ℕ → List ℕ
-pending job j log = logPart (job .room) j (waitingOf job j) log
 
 -- 12 when a waiting offset is m or more
 unfoldable pub settleRefusal : Job → ℕ → ℕ → List ℕ → ℕ
 settleRefusal job j bytes log =
-    levelRefusal job j bytes (length log) (unless (all (λ i. ltb i (stacksOf job j)) (pending job j log)) 12 0)
+    levelRefusal job j bytes (length log) (unless (all (λ i. ltb i (stackCountAt job j)) (pending job j log)) 12 0)
 
--- in log order, each unseen entry gets d mod 3 and adds one to the count
-unfoldable pub markAll : ℕ → List ℕ → Marks → Marks
-markAll d [] marks = marks
-markAll d (i ∷ offsets) marks = markAll d offsets (markOne d i marks)
-
--- the log numbers are not touched, so only the segment is given back
+-- in log order, each unseen entry gets d mod 3 and adds one to the count. The log numbers are not touched, so only the segment is given back
 unfoldable pub settleOf : Job → ℕ → List ℕ → List ℕ → List ℕ × Answer
 settleOf job j segment log =
     let r = settleRefusal job j (length segment) log in

@@ -1,5 +1,5 @@
 -- Laws of stacks, turns and the numbering.
-pub mod Sizes
+pub mod KindLaws
 pub mod Panes
 pub mod OrderLaws
 pub mod CoatLaws

@@ -15,19 +15,19 @@ use borrow.Author.Tests.{le-ltb}
 use Rattle.base.specs.Words.{all, fact, from, without}
 use Rattle.base.proofs.Lists.{from-length}
 use Rattle.base.proofs.Counting.{all-append, all-take, all-replicate}
-use Rattle.stacks.specs.Stack.{isCoated, isSize, isUnused, orderOf, isStack, coatings, stackCount}
+use Rattle.stacks.specs.Stack.{isCoated, isPaneCount, isUnused, orderOf, isStack, coatings, stackCount}
 use Rattle.stacks.specs.Index.{smaller, coat, coatBits, rankOf, orderAt, paneWith, coatedBy, stackAt}
 use Rattle.stacks.specs.Order.{precedes}
-use Rattle.stacks.proofs.Sizes.{size-twelve, coatings-pos, coatings-le}
+use Rattle.stacks.proofs.KindLaws.{panes-twelve, coatings-pos, coatings-le}
 use Rattle.stacks.proofs.Panes.{stack-facts, facts-stack, smaller-from, once-smaller, smaller-once}
 use Rattle.stacks.proofs.OrderLaws.{lehmer, lehmer-lt, rankFrom-is, lehmer-order, lexLess-connex, from-rising, order-length, order-panes, order-lehmer}
 use Rattle.stacks.proofs.CoatLaws.{coatBits-lt, coatBits-plain, coatBits-order, panes-same, coated-length, coated-order, coated-bits, coated-plain, unused-zero}
 
 -- ---- the index of a stack
 
-module _ (kind n : ℕ) (s : List ℤ) (size : isSize kind n ≡ true) (h : isStack kind n s ≡ true) where
+module _ (kind n : ℕ) (s : List ℤ) (in-range : isPaneCount kind n ≡ true) (h : isStack kind n s ≡ true) where
   pub panes-length : length (take n s) ≡ n
-  panes-length = length-take-le n s (rw (stack-facts kind n s h .twelve) (size-twelve kind n size))
+  panes-length = length-take-le n s (rw (stack-facts kind n s h .twelve) (panes-twelve kind n in-range))
 
   pub order-of-length : length (orderOf n s) ≡ n
   unfolding orderOf
@@ -64,33 +64,33 @@ module _ (kind n : ℕ) (s : List ℤ) (size : isSize kind n ≡ true) (h : isSt
   rank-lt = rw rank-is (digits-lt (rw order-of-length at (lehmer-lt (orderOf n s))) coatBits-below)
 
 -- the index orders stacks as their orders and then their coats do
-pub rank-order : (kind n : ℕ) (a b : List ℤ) → isSize kind n ≡ true → isStack kind n a ≡ true → isStack kind n b ≡ true
+pub rank-order : (kind n : ℕ) (a b : List ℤ) → isPaneCount kind n ≡ true → isStack kind n a ≡ true → isStack kind n b ≡ true
     → precedes n a b ≡ ltb (rankOf kind n a) (rankOf kind n b)
 unfolding precedes
-rank-order kind n a b size ha hb =
-    rw (rank-is kind n a size ha, rank-is kind n b size hb)
-    (lehmer-order (orderOf n a) (orderOf n b) (λ x. stack-panes kind n a size ha x ∙ sym (stack-panes kind n b size hb x))
-    (order-of-length kind n a size ha ∙ sym (order-of-length kind n b size hb))
+rank-order kind n a b in-range ha hb =
+    rw (rank-is kind n a in-range ha, rank-is kind n b in-range hb)
+    (lehmer-order (orderOf n a) (orderOf n b) (λ x. stack-panes kind n a in-range ha x ∙ sym (stack-panes kind n b in-range hb x))
+    (order-of-length kind n a in-range ha ∙ sym (order-of-length kind n b in-range hb))
     (map coat (take n a)) (map coat (take n b)) (coatings kind n) (coatBits (take n a)) (coatBits (take n b))
-    (coatBits-below kind n a size ha) (coatBits-below kind n b size hb)
-    (coatBits-order (take n a) (take n b) (panes-length kind n a size ha ∙ sym (panes-length kind n b size hb))))
+    (coatBits-below kind n a in-range ha) (coatBits-below kind n b in-range hb)
+    (coatBits-order (take n a) (take n b) (panes-length kind n a in-range ha ∙ sym (panes-length kind n b in-range hb))))
 
-pub rank-injective : (kind n : ℕ) (a b : List ℤ) → isSize kind n ≡ true → isStack kind n a ≡ true → isStack kind n b ≡ true
+pub rank-injective : (kind n : ℕ) (a b : List ℤ) → isPaneCount kind n ≡ true → isStack kind n a ≡ true → isStack kind n b ≡ true
     → rankOf kind n a ≡ rankOf kind n b → a ≡ b
 unfolding precedes orderOf
-rank-injective kind n a b size ha hb e =
+rank-injective kind n a b in-range ha hb e =
     let coats : List ℤ → List ℕ = λ s. map coat (take n s) in
     let same : orderOf n a ++ coats a ≡ orderOf n b ++ coats b =
-    lexLess-connex (orderOf n a ++ coats a) (orderOf n b ++ coats b) (whole-length kind n a size ha ∙ sym (whole-length kind n b size hb))
-    (rank-order kind n a b size ha hb ∙ le-ltb (rankOf kind n a) (rankOf kind n b) (le-of-eq (sym e)))
-    (rank-order kind n b a size hb ha ∙ le-ltb (rankOf kind n b) (rankOf kind n a) (le-of-eq e)) in
-    let la : length (orderOf n a) ≡ n = order-of-length kind n a size ha in
-    let lb : length (orderOf n b) ≡ n = order-of-length kind n b size hb in
+    lexLess-connex (orderOf n a ++ coats a) (orderOf n b ++ coats b) (whole-length kind n a in-range ha ∙ sym (whole-length kind n b in-range hb))
+    (rank-order kind n a b in-range ha hb ∙ le-ltb (rankOf kind n a) (rankOf kind n b) (le-of-eq (sym e)))
+    (rank-order kind n b a in-range hb ha ∙ le-ltb (rankOf kind n b) (rankOf kind n a) (le-of-eq e)) in
+    let la : length (orderOf n a) ≡ n = order-of-length kind n a in-range ha in
+    let lb : length (orderOf n b) ≡ n = order-of-length kind n b in-range hb in
     let panes : take n a ≡ take n b =
     panes-same (take n a) (take n b)
     (sym (take-at (orderOf n a) (coats a) n la) ∙ ap (take n) same ∙ take-at (orderOf n b) (coats b) n lb)
     (sym (drop-at (orderOf n a) (coats a) n la) ∙ ap (drop n) same ∙ drop-at (orderOf n b) (coats b) n lb) in
-    stack-is kind n a size ha ∙ ap (λ l. l ++ replicate (12 - n) (pos 0)) panes ∙ sym (stack-is kind n b size hb)
+    stack-is kind n a in-range ha ∙ ap (λ l. l ++ replicate (12 - n) (pos 0)) panes ∙ sym (stack-is kind n b in-range hb)
 
 -- ---- the stack at an index
 
@@ -132,7 +132,7 @@ module _ (kind n i : ℕ) where
           all-append nonNeg (coatedBy order (i % 1)) (replicate (12 - n) (pos 0)) (rw (mod-one i) (coated-plain order))
           (all-replicate nonNeg (12 - n) (pos 0) refl)
 
-module _ (kind n i : ℕ) (size : isSize kind n ≡ true) (h : i < stackCount kind n) where
+module _ (kind n i : ℕ) (in-range : isPaneCount kind n ≡ true) (h : i < stackCount kind n) where
   pub quotient-lt : i / coatings kind n < fact n
   unfolding stackCount
   quotient-lt = div-lt-iff-lt-mul (coatings-pos kind n) .1 h
@@ -145,7 +145,7 @@ module _ (kind n i : ℕ) (size : isSize kind n ≡ true) (h : i < stackCount ki
   unrank-stack =
       facts-stack kind n (stackAt kind n i)
       (record {
-        twelve = length-at kind n i (size-twelve kind n size);
+        twelve = length-at kind n i (panes-twelve kind n in-range);
         once = rw (order-at kind n i) (smaller-once n (orderFor kind n i) panes-for);
         coats = coats-at kind n i;
         unused = rw (unused-at kind n i) (all-replicate isUnused (12 - n) (pos 0) refl);
@@ -167,11 +167,11 @@ module _ (kind n i : ℕ) (size : isSize kind n ≡ true) (h : i < stackCount ki
         mod-eq-of-lt (lt-of-lt-of-le (mod-lt i (coatings-pos kind n)) (coatings-le kind n)),
       ) (div-add-mod' i (coatings kind n))
 
-pub unrank-rank : (kind n : ℕ) (s : List ℤ) → isSize kind n ≡ true → isStack kind n s ≡ true → stackAt kind n (rankOf kind n s) ≡ s
-unrank-rank kind n s size h =
-    let r = rank-lt kind n s size h in
-    rank-injective kind n (stackAt kind n (rankOf kind n s)) s size (unrank-stack kind n (rankOf kind n s) size r) h
-    (rank-unrank kind n (rankOf kind n s) size r)
+pub unrank-rank : (kind n : ℕ) (s : List ℤ) → isPaneCount kind n ≡ true → isStack kind n s ≡ true → stackAt kind n (rankOf kind n s) ≡ s
+unrank-rank kind n s in-range h =
+    let r = rank-lt kind n s in-range h in
+    rank-injective kind n (stackAt kind n (rankOf kind n s)) s in-range (unrank-stack kind n (rankOf kind n s) in-range r) h
+    (rank-unrank kind n (rankOf kind n s) in-range r)
 
 -- the plain stacks of three panes, from 123 to 321
 pub plain-three : map (λ i. take 3 (stackAt 0 3 i)) (from 0 6)

@@ -2,18 +2,18 @@
 use mathlib.Core.Path.{_≡_, refl, sym, ap, _∙_}
 use mathlib.Core.Logic.{_⊎_, inl, inr}
 use mathlib.Core.Bool.{true, false}
-use mathlib.Core.List.{List, [], _∷_, _++_, reverse}
+use mathlib.Core.List.{List, [], _∷_, _++_}
 use Prim.Native.Nat.{ℕ, suc, _+_, _-_, _<_, _≤_, min, zero-le}
 use native.Mathlib.Nat.{le-trans}
 use native.Mathlib.Omega.{arith}
 use lib.IntN.{ℤ}
 use lib.ListN.{length, length-append}
 use Rattle.base.proofs.Tests.{and-left, and-right, and-both, lt-or-ge, test-cases}
-use Rattle.base.proofs.Counting.{all-split, all-reverse}
+use Rattle.base.proofs.Counting.{all-split}
 use Rattle.base.specs.Words.{all}
 use Rattle.stacks.specs.Stack.{isCoated}
 use Rattle.stacks.specs.Turn.{firstTurn, isTurn, turnOf, turnsFrom, Road}
-use Rattle.stacks.proofs.TurnLaws.{turn-first, turn-last, turn-between, first-coated, first-plain, flip-plain, turn-top, turns-append, turns-below, turns-back}
+use Rattle.stacks.proofs.TurnLaws.{turn-first, turn-last, turn-between, first-coated, first-plain, flip-plain, turn-top, turns-append, turns-below}
 
 -- a turn of the top m places is one of the top n
 pub turns-widen : (kind m n : ℕ) (ks : List ℕ) → m ≤ n → all (isTurn kind m) ks ≡ true → all (isTurn kind n) ks ≡ true
@@ -35,14 +35,6 @@ module _ {kind n : ℕ} where
       record {
         turns = rw (all-split (isTurn kind n) js ks) (and-both (all (isTurn kind n) js) (all (isTurn kind n) ks) (f .turns) (g .turns));
         arrives = turns-append kind js ks s ∙ ap (turnsFrom kind ks) (f .arrives) ∙ g .arrives;
-      }
-
-  -- the same turns from the last to the first
-  pub road-back : {ks : List ℕ} {s w : List ℤ} → n ≤ length s → Road kind n ks s w → Road kind n (reverse ks) w s
-  road-back {ks} {s} {w} l f =
-      record {
-        turns = all-reverse (isTurn kind n) ks ∙ f .turns;
-        arrives = ap (turnsFrom kind (reverse ks)) (sym (f .arrives)) ∙ turns-back kind n ks s (f .turns) l;
       }
 
 -- a road over the top m places is one over a list that goes on below

@@ -1,4 +1,4 @@
--- Any stack leads to any other of its kind and size in at most turnBound turns: pane by pane from the bottom up, each is brought to the top,
+-- Any stack leads to any other of its kind and n in at most turnBound turns: pane by pane from the bottom up, each is brought to the top,
 -- laid as it should lie, and turned down to its place.
 use mathlib.Core.Path.{_≡_, refl, sym, ap, subst, subst₂, _∙_}
 use mathlib.Core.Logic.{_⊎_, inl, inr}
@@ -16,7 +16,7 @@ use Rattle.base.proofs.Tests.{and-left, and-right, eq-or-ne}
 use Rattle.base.proofs.Lists.{map-append}
 use Rattle.base.proofs.Counting.{tally-append, tally-map, tally-true, tally-false, all-split, all-middle, all-take}
 use Rattle.base.specs.Words.{all, tally, from}
-use Rattle.stacks.specs.Stack.{isCoated, fewestPanes, mostPanes, isSize, isStack, orderOf}
+use Rattle.stacks.specs.Stack.{isCoated, fewestPanes, mostPanes, isPaneCount, isStack, orderOf}
 use Rattle.stacks.specs.Index.{smaller}
 use Rattle.stacks.specs.Turn.{firstTurn, flip, turnOf, turnBound, Road}
 use Rattle.stacks.proofs.Panes.{stack-facts, smaller-suc}
@@ -165,12 +165,12 @@ module _ (kind : ℕ) where
       let others = within-below (y ∷ []) (le-suc m) (omega (arith, rest .left-length)) (sort m (settled .0) (take m b) rest) in
       subst (RoadWithin kind (suc m) (turnBound kind (suc m)) a) (sym e) (within-more (cost-bound m) (within-append (settled .1) others))
 
-module _ (kind n : ℕ) (size : isSize kind n ≡ true) where
+module _ (kind n : ℕ) (in-range : isPaneCount kind n ≡ true) where
   -- the top n places of a stack hold each pane as often as 1 to n does
   stack-tally : (s : List ℤ) → isStack kind n s ≡ true → (v : ℕ) → tally (isPane v) (take n s) ≡ tally (eqb v) (from 1 n)
   unfolding orderOf
   stack-tally s h v =
-      let panes : (x : ℕ) → smaller x (orderOf n s) ≡ smaller x (from 1 n) = stack-panes kind n s size h in
+      let panes : (x : ℕ) → smaller x (orderOf n s) ≡ smaller x (from 1 n) = stack-panes kind n s in-range h in
       omega (arith, tally-map (eqb v) natAbs (take n s), smaller-suc v (orderOf n s), smaller-suc v (from 1 n), panes v, panes (suc v))
 
   stack-fits : (s : List ℤ) → isStack kind n s ≡ true → all (coatFits kind) (take n s) ≡ true
@@ -179,8 +179,8 @@ module _ (kind n : ℕ) (size : isSize kind n ≡ true) where
   stacks-alike : (s w : List ℤ) → isStack kind n s ≡ true → isStack kind n w ≡ true → Alike kind n (take n s) (take n w)
   stacks-alike s w hs hw =
       record {
-        left-length = panes-length kind n s size hs;
-        right-length = panes-length kind n w size hw;
+        left-length = panes-length kind n s in-range hs;
+        right-length = panes-length kind n w in-range hw;
         same = λ v. stack-tally s hs v ∙ sym (stack-tally w hw v);
         left-fits = stack-fits s hs;
         right-fits = stack-fits w hw;
@@ -191,11 +191,11 @@ module _ (kind n : ℕ) (size : isSize kind n ≡ true) where
   road-bound s w hs hw =
       let alike : Alike kind n (take n s) (take n w) = stacks-alike s w hs hw in
       let unused : List ℤ = replicate (12 - n) (pos 0) in
-      subst₂ (RoadWithin kind n (turnBound kind n)) (sym (stack-is kind n s size hs)) (sym (stack-is kind n w size hw))
+      subst₂ (RoadWithin kind n (turnBound kind n)) (sym (stack-is kind n s in-range hs)) (sym (stack-is kind n w in-range hw))
       (within-below unused (le-refl n) (omega (arith, alike .left-length)) (sort kind n (take n s) (take n w) alike))
 
-pub turn-bound-30 : (kind n : ℕ) → isSize kind n ≡ true → turnBound kind n ≤ 30
-unfolding isSize mostPanes turnBound
+pub turn-bound-30 : (kind n : ℕ) → isPaneCount kind n ≡ true → turnBound kind n ≤ 30
+unfolding isPaneCount mostPanes turnBound
 turn-bound-30 kind n h = go (isCoated kind) (leb-true n (mostPanes kind) (and-right (leb (fewestPanes kind) n) (leb n (mostPanes kind)) h))
   where
     go : (t : Bool) → n ≤ cond t 10 12 → cond t (3 * n) (2 * (n - 1)) ≤ 30

@@ -16,10 +16,10 @@ use Rattle.base.proofs.Tests.{and-left, and-right, and-both, lt-or-ge}
 use Rattle.base.proofs.Lists.{map-append, map-reverse, map-take, map-drop, map-map, map-id, from-length, getD-from}
 use Rattle.base.proofs.Counting.{tally-append, tally-reverse, tally-map, all-split, all-reverse, all-map}
 use Rattle.base.specs.Words.{all, tally, from}
-use Rattle.stacks.specs.Stack.{isCoated, isSize, isStack, isUnused, orderOf}
+use Rattle.stacks.specs.Stack.{isCoated, isPaneCount, isStack, isUnused, orderOf}
 use Rattle.stacks.specs.Index.{smaller}
 use Rattle.stacks.specs.Turn.{firstTurn, lastTurn, isTurn, turnsOf, flip, turnOf, turnsFrom}
-use Rattle.stacks.proofs.Sizes.{size-least}
+use Rattle.stacks.proofs.KindLaws.{panes-least}
 use Rattle.stacks.proofs.Panes.{StackFacts, stack-facts, facts-stack, smaller-append, smaller-reverse, smaller-once}
 use Rattle.stacks.proofs.Numbering.{stack-panes}
 
@@ -54,8 +54,8 @@ first-two kind = go (isCoated kind)
     go true = omega arith
     go false = omega arith
 
-pub first-inside : (kind n : ℕ) → isSize kind n ≡ true → firstTurn kind ≤ n + 1
-first-inside kind n size = omega (arith, first-two kind, size-least kind n size)
+pub first-inside : (kind n : ℕ) → isPaneCount kind n ≡ true → firstTurn kind ≤ n + 1
+first-inside kind n in-range = omega (arith, first-two kind, panes-least kind n in-range)
 
 -- the list of turns holds the turns and nothing else
 pub turns-length : (kind n : ℕ) → length (turnsOf kind n) ≡ suc n - firstTurn kind
@@ -273,12 +273,12 @@ module _ (kind : ℕ) where
       ∙ turn-involutive k s (le-trans (turn-last kind n k (and-left (isTurn kind n k) (all (isTurn kind n) ks) h)) l))
 
 -- a turn of a stack is a stack
-module _ (kind n : ℕ) (size : isSize kind n ≡ true) where
+module _ (kind n : ℕ) (in-range : isPaneCount kind n ≡ true) where
   turn-panes : (k : ℕ) (s : List ℤ) → k ≤ n → isStack kind n s ≡ true → (x : ℕ) → smaller x (orderOf n (turnOf kind k s)) ≡ smaller x (from 1 n)
   turn-panes k s l h x =
       let order : List ℕ = orderOf n s in
       ap (smaller x) (turn-order kind n k s l)
-      ∙ rw (smaller-append, smaller-reverse, ← (smaller-append x (take k order) (drop k order)), take-append-drop) (stack-panes kind n s size h x)
+      ∙ rw (smaller-append, smaller-reverse, ← (smaller-append x (take k order) (drop k order)), take-append-drop) (stack-panes kind n s in-range h x)
 
   pub turn-stack : (k : ℕ) (s : List ℤ) → k ≤ n → isStack kind n s ≡ true → isStack kind n (turnOf kind k s) ≡ true
   turn-stack k s l h =

@@ -3,4 +3,5 @@ pub mod Stack
 pub mod Index
 pub mod Order
 pub mod Turn
+pub mod Counts
 pub mod Operations

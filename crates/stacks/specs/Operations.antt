@@ -6,24 +6,24 @@ use lib.Dec.{ltb, eqb}
 use lib.IntN.{ℤ, pos}
 use lib.ListN.{replicate}
 use Rattle.base.specs.Words.{unless}
-use Rattle.stacks.specs.Stack.{isKind, isSize, isStack, stackCount}
+use Rattle.stacks.specs.Stack.{isKind, isPaneCount, isStack, stackCount}
 use Rattle.stacks.specs.Index.{rankOf, stackAt}
 use Rattle.stacks.specs.Turn.{isTurn, turnOf}
 use Rattle.stacks.specs.declared.Indexed.{Indexed}
 use Rattle.stacks.specs.declared.Stacked.{Stacked}
 
 -- refusals 1 and 2, which every operation on a kind and n tries first, and then the rest
-unfoldable pub sizeRefusal : ℕ → ℕ → ℕ → ℕ
-sizeRefusal kind n rest = unless (isKind kind) 1 (unless (isSize kind n) 2 rest)
+unfoldable pub kindRefusal : ℕ → ℕ → ℕ → ℕ
+kindRefusal kind n rest = unless (isKind kind) 1 (unless (isPaneCount kind n) 2 rest)
 
 unfoldable pub indexRefusal : ℕ → ℕ → List ℤ → ℕ
-indexRefusal kind n s = sizeRefusal kind n (unless (isStack kind n s) 3 0)
+indexRefusal kind n s = kindRefusal kind n (unless (isStack kind n s) 3 0)
 
 unfoldable pub stackRefusal : ℕ → ℕ → ℕ → ℕ
-stackRefusal kind n i = sizeRefusal kind n (unless (ltb i (stackCount kind n)) 4 0)
+stackRefusal kind n i = kindRefusal kind n (unless (ltb i (stackCount kind n)) 4 0)
 
 unfoldable pub turnRefusal : ℕ → ℕ → List ℤ → ℕ → ℕ
-turnRefusal kind n s k = sizeRefusal kind n (unless (isStack kind n s) 3 (unless (isTurn kind n k) 4 0))
+turnRefusal kind n s k = kindRefusal kind n (unless (isStack kind n s) 3 (unless (isTurn kind n k) 4 0))
 
 -- the answer with a refusal's number, 0 for none, and the value where there is none
 abbrev pub indexed : ℕ → ℕ → Indexed

@@ -18,15 +18,15 @@ isKind kind = ltb kind 2
 unfoldable pub isCoated : ℕ → Bool
 isCoated kind = eqb kind 1
 
--- the sizes that a kind has
+-- the range of n that a kind has
 unfoldable pub fewestPanes : ℕ → ℕ
 fewestPanes kind = 1
 
 unfoldable pub mostPanes : ℕ → ℕ
 mostPanes kind = cond (isCoated kind) 10 12
 
-unfoldable pub isSize : ℕ → ℕ → Bool
-isSize kind n = leb (fewestPanes kind) n && leb n (mostPanes kind)
+unfoldable pub isPaneCount : ℕ → ℕ → Bool
+isPaneCount kind n = leb (fewestPanes kind) n && leb n (mostPanes kind)
 
 unfoldable pub orderOf : ℕ → List ℤ → List ℕ
 orderOf n s = map natAbs (take n s)

@@ -9,15 +9,10 @@ use twobit::segment;
 
 // N; 0 where the kind or n is refused.
 pub fn stack_count(kind: u8, n: u8) -> u32 {
-    if operations::size_refusal(kind, n) != 0 {
+    if operations::kind_refusal(kind, n) != 0 {
         return 0;
     }
     kind::stack_count(kind, n)
-}
-
-// The bytes of the whole table.
-pub fn table_length(kind: u8, n: u8) -> usize {
-    segment::bytes_for(stack_count(kind, n)) as usize
 }
 
 // G; 0 where S is.

@@ -1,4 +1,4 @@
-// Calls on one segment, each lent that segment's part of the whole table. Refused 10 where the part is not in the table.
+// Calls on one segment, each lent that segment's part of the whole table.
 ghost use Prim.Native.Nat.{_≤_};
 use calls::blank;
 use calls::settle;
@@ -19,47 +19,44 @@ fn part_start(size: u32, j: u32) -> usize
     (j as usize) * ((size / 4) as usize)
 }
 
-// Where it ends.
-fn part_end(stacks: u32, size: u32, j: u32) -> usize {
+// A part of the table.
+struct Span {
+    start: usize,
+    end: usize,
+}
+
+// Segment j's part of a table of so many bytes. Where the table has it not the span is empty, and a call that is lent it refuses it 10.
+fn part_span(stacks: u32, size: u32, j: u32, bytes: usize) -> Span
+    ensures { λ r. ⌜ (r .start ≤ r .end) × (r .end ≤ bytes) ⌝ }
+{
     let start = part_start(size, j);
-    let m = segment::stacks_in(stacks, size, j);
-    start + segment::bytes_for(m) as usize
+    let m = segment::stack_count_in(stacks, size, j);
+    let end = start + segment::bytes_for(m) as usize;
+    if bytes < end {
+        return Span { start: 0, end: 0 };
+    }
+    Span { start, end }
 }
 
 pub fn blank_part(job: Job, j: u32, stacks: u32, table: &mut [u8]) -> Answer {
-    let start = part_start(job.size, j);
-    let end = part_end(stacks, job.size, j);
-    if end < start {
-        return Answer { refusal: 10, job };
-    }
-    if table.len() < end {
-        return Answer { refusal: 10, job };
-    }
+    let span = part_span(stacks, job.size, j, table.len());
+    let start = span.start;
+    let end = span.end;
     blank::blank(job, j, &mut table[start..end])
 }
 
 pub fn settle_part(job: Job, j: u32, stacks: u32, table: &mut [u8], log: &[u32]) -> Answer {
-    let start = part_start(job.size, j);
-    let end = part_end(stacks, job.size, j);
-    if end < start {
-        return Answer { refusal: 10, job };
-    }
-    if table.len() < end {
-        return Answer { refusal: 10, job };
-    }
+    let span = part_span(stacks, job.size, j, table.len());
+    let start = span.start;
+    let end = span.end;
     settle::settle(job, j, &mut table[start..end], log)
 }
 
 // Where Expand answers Waiting, the segment that it names is settled.
 pub fn expand_part(job: Job, j: u32, stacks: u32, table: &mut [u8], log: &mut [u32]) -> Answer {
-    let start = part_start(job.size, j);
-    let end = part_end(stacks, job.size, j);
-    if end < start {
-        return Answer { refusal: 10, job };
-    }
-    if table.len() < end {
-        return Answer { refusal: 10, job };
-    }
+    let span = part_span(stacks, job.size, j, table.len());
+    let start = span.start;
+    let end = span.end;
     let expanded = expand::expand::expand(job, j, &mut table[start..end], log);
     let next = expanded.job;
     if !expanded.waits {

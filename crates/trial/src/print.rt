@@ -18,11 +18,14 @@ pub fn field(text: &[u8], n: u64) {
 }
 
 // A line's beginning: the kind and n.
-pub fn size(kind: u8, n: u8) {
+pub fn kind_and_n(kind: u8, n: u8) {
     if kind == 0 {
         word(b"plain");
-    } else {
+    } else if kind == 1 {
         word(b"coated");
+    } else {
+        word(b"kind");
+        number(kind as u64);
     }
     number(n as u64);
 }

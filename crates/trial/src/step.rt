@@ -7,7 +7,7 @@ use search::Job;
 use twobit::segment;
 
 // The segment at place i of an order: 0 rising, 1 falling, 2 the odd ones first.
-pub fn segment_at(order: u8, segments: u32, i: u32) -> u32 {
+fn segment_at(order: u8, segments: u32, i: u32) -> u32 {
     if order == 0 {
         return i;
     }
@@ -27,7 +27,7 @@ fn is_open(job: Job, stacks: u32, j: u32) -> bool {
     if j >= 64 {
         return false;
     }
-    passed[j as usize] < segment::stacks_in(stacks, job.size, j)
+    passed[j as usize] < segment::stack_count_in(stacks, job.size, j)
 }
 
 // Whether segment j has log entries waiting.
@@ -65,7 +65,7 @@ fn first_pending(job: Job, order: u8, segments: u32) -> u32 {
 }
 
 // Each segment is blanked or expanded, then each log settled, then the phase closed.
-pub fn step(
+pub(crate) fn step(
     job: Job,
     order: u8,
     stacks: u32,

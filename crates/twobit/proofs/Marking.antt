@@ -6,7 +6,7 @@ use Prim.Native.Nat.{ℕ, _+_, _%_}
 use lib.Dec.{eqb}
 use borrow.Author.Tests.{eq-eqb, ne-eqb}
 use Rattle.search.specs.Entries.{entryAt, setEntry, unseen}
-use Rattle.search.specs.Expand.{Marks, markOne}
+use Rattle.search.specs.Marks.{Marks, markOne}
 use Rattle.twobit.specs.Mark.{Marked}
 
 pub marked-not : (before : List ℕ) (i label v : ℕ) → v ≡ entryAt before i → (v ≡ 3 → ⊥) → Marked before i label before false

@@ -2,7 +2,7 @@
 ghost use mathlib.Core.Path.{_≡_};
 ghost use Prim.Native.Nat.{_<_};
 ghost use Rattle.search.specs.Entries.{bytesFor};
-ghost use Rattle.search.specs.Segments.{segmentCount, stacksIn, isSegmentSize, isLogRoom};
+ghost use Rattle.search.specs.Segments.{segmentCount, stackCountIn, isSegmentSize, isLogRoom};
 
 pub fn bytes_for(m: u32) -> u32
     ensures { λ r. ⌜ r ≡ bytesFor m ⌝ }
@@ -19,8 +19,8 @@ pub fn segment_count(count: u32, size: u32) -> u32
 }
 
 // Past the last segment the start is at count or above it, and there is none.
-pub fn stacks_in(count: u32, size: u32, j: u32) -> u32
-    ensures { λ r. ⌜ r ≡ stacksIn count size j ⌝ }
+pub fn stack_count_in(count: u32, size: u32, j: u32) -> u32
+    ensures { λ r. ⌜ r ≡ stackCountIn count size j ⌝ }
 {
     let all = count as u64;
     let start = j as u64 * size as u64;

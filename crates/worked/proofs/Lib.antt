@@ -1,3 +1,6 @@
--- Worked cases: each computes from the definitions.
+-- Worked cases: each computes from the definitions, or is drawn from a theorem by its name.
+pub mod Open
 pub mod Starred
-pub mod WholeTables
+pub mod WholeTable
+pub mod PlainThree
+pub mod Cited

@@ -1,6 +1,6 @@
 // A build with everything that its calls are lent, and drivers that bring it to its end.
 
-use crate::paper::{self, Measures, UNSEEN};
+use crate::paper::{self, Measures, PAPER, UNSEEN};
 use crate::rng::Rng;
 use crate::search::Distances;
 use crate::system::*;
@@ -144,6 +144,28 @@ impl Build {
     }
 }
 
+// Build the whole table by the system's own calls: Begin's refusals, then 10 for the table's length and for the log area's.
+pub fn whole_table<S: System + ?Sized>(system: &S, fields: &Fields, table: &mut [u8], logs: &mut [u32]) -> Answer {
+    let begun = system.begin(fields.kind, fields.n, fields.wanted, fields.size, fields.room);
+    let measures = match fields.measures() {
+        Ok(measures) if begun.refusal == 0 => measures,
+        _ => return begun,
+    };
+    if table.len() != paper::bytes_of(measures.stacks) || logs.len() != measures.log_numbers() {
+        return Answer { refusal: 10, job: NO_JOB };
+    }
+    // As S is a multiple of 4, each segment but the last fills its bytes.
+    let segments = table.chunks(fields.size as usize / 4).map(<[u8]>::to_vec).collect();
+    let mut build = Build { job: begun.job, measures, segments, logs: logs.to_vec() };
+    let refusal = match build.finish(system, Order::Rising, &mut Rng::new(0)) {
+        Ok(_) => 0,
+        Err((refusal, _)) => refusal,
+    };
+    table.copy_from_slice(&build.table());
+    logs.copy_from_slice(&build.logs);
+    Answer { refusal, job: build.job }
+}
+
 // The five fields that Begin takes.
 #[derive(Clone, Copy, Debug)]
 pub struct Fields {
@@ -156,7 +178,7 @@ pub struct Fields {
 
 impl Fields {
     pub fn measures(&self) -> Result<Measures, u8> {
-        paper::measures(self.kind, self.n, &self.wanted, self.size, self.room)
+        PAPER.measures(self.kind, self.n, &self.wanted, self.size, self.room)
     }
 }
 

@@ -19,10 +19,11 @@ pub enum Call {
     Close { job: Job },
     ReadEntry { kind: u8, n: u8, table: Rc<Vec<u8>>, index: u32 },
     Plan { kind: u8, n: u8, wanted: Stack, given: Stack, table: Rc<Vec<u8>>, list: Vec<u8> },
+    Build { kind: u8, n: u8, wanted: Stack, size: u32, room: u32, table: Vec<u8>, logs: Vec<u32> },
 }
 
-pub const OPERATIONS: [&str; 11] =
-    ["Index", "Stack at", "Turn", "Begin", "Blank", "Expand", "Settle", "Look", "Close", "Read", "Plan"];
+pub const OPERATIONS: [&str; 12] =
+    ["Index", "Stack at", "Turn", "Begin", "Blank", "Expand", "Settle", "Look", "Close", "Read", "Plan", "Build"];
 
 #[derive(Clone, PartialEq, Eq, Debug)]
 pub enum Answered {
@@ -57,7 +58,7 @@ impl Answered {
     }
 }
 
-// The answer, and the final contents of everything lent. Buffers that the call was not lent are empty.
+// The answer, and the final contents of everything lent: segment holds Build's table too. Buffers that the call was not lent are empty.
 #[derive(Clone, PartialEq, Eq)]
 pub struct Outcome {
     pub answer: Answered,
@@ -66,6 +67,17 @@ pub struct Outcome {
     pub list: Vec<u8>,
     // Nothing was written beside a buffer, or into one lent for reading.
     pub kept_off: bool,
+}
+
+// What answers calls: any system, or one with a fault between it and its caller.
+pub trait Answers {
+    fn outcome(&self, call: &Call) -> Outcome;
+}
+
+impl<S: System + ?Sized> Answers for S {
+    fn outcome(&self, call: &Call) -> Outcome {
+        call.run(self)
+    }
 }
 
 // A copy of a buffer between guards of a fixed pattern.
@@ -99,8 +111,8 @@ impl<T: Copy + PartialEq> Lent<T> {
     }
 }
 
-// A table above this length is lent as it is and not looked at again.
-const COPIED: usize = 1 << 20;
+// A table above this length is lent as it is and not looked at again; that of plain 11 is copied still.
+const COPIED: usize = 1 << 24;
 
 impl Call {
     // The place of the operation in OPERATIONS.
@@ -117,6 +129,7 @@ impl Call {
             Call::Close { .. } => 8,
             Call::ReadEntry { .. } => 9,
             Call::Plan { .. } => 10,
+            Call::Build { .. } => 11,
         }
     }
 
@@ -128,12 +141,13 @@ impl Call {
         }
     }
 
-    // The segment, log area and turn list as lent.
+    // The segment (or Build's table), log area and turn list as lent.
     pub fn lent(&self) -> (&[u8], &[u32], &[u8]) {
         match self {
             Call::Blank { segment, .. } => (segment, &[], &[]),
             Call::Expand { segment, logs, .. } | Call::Settle { segment, logs, .. } => (segment, logs, &[]),
             Call::Look { logs, .. } => (&[], logs, &[]),
+            Call::Build { table, logs, .. } => (table, logs, &[]),
             Call::Plan { list, .. } => (&[], &[], list),
             _ => (&[], &[], &[]),
         }
@@ -166,12 +180,20 @@ impl Call {
                     system.plan(*kind, *n, *wanted, *given, table, list)
                 }))
             }
+            Call::Build { kind, n, wanted, size, room, .. } => {
+                let (table, logs) = (segment.slice(), logs.slice());
+                Answered::Answer(system.build_table(*kind, *n, *wanted, *size, *room, table, logs))
+            }
         };
         let segment = segment.contents(&mut kept_off);
-        let logs = logs.contents(&mut kept_off);
+        let mut logs = logs.contents(&mut kept_off);
         let list = list.contents(&mut kept_off);
         if matches!(self, Call::Settle { .. } | Call::Look { .. }) {
             kept_off &= logs == self.lent().1;
+        }
+        // What a whole build leaves in the log area goes by its order of calls, which is free.
+        if matches!(self, Call::Build { .. }) && answer.refusal() == 0 {
+            logs.fill(0);
         }
         Outcome { answer, segment, logs, list, kept_off }
     }
@@ -243,6 +265,10 @@ impl fmt::Display for Call {
             Call::Plan { kind, n, wanted, given, table, list } => {
                 write!(f, " kind {kind} n {n} wanted {wanted:?} given {given:?}")?;
                 write!(f, "\n    table   {}\n    list    {}", Runs(table), Runs(list))
+            }
+            Call::Build { kind, n, wanted, size, room, table, logs } => {
+                write!(f, " kind {kind} n {n} wanted {wanted:?} size {size} room {room}")?;
+                write!(f, "\n    table   {}\n    logs    {}", Runs(table), Runs(logs))
             }
         }
     }

@@ -185,10 +185,10 @@ pub fn numbering(system: &dyn System) -> Checked {
 // ---- Whole builds
 
 // Plain 1 to 7 and coated 1 to 5, several wanted stacks, S, C and orders: entry by entry and count by count against
-// the plain search, then the plan of every stack.
+// the plain search, then the plan of every stack; and Build the whole table, once for each S and C.
 pub fn builds(system: &dyn System, seed: u64) -> Checked {
     let mut rng = Rng::new(seed);
-    let (mut builds, mut entries, mut plans) = (0, 0, 0);
+    let (mut builds, mut tables, mut entries, mut plans) = (0, 0, 0, 0);
     for (kind, most) in [(PLAIN, 7), (COATED, 5)] {
         for n in 1..=most {
             let stacks = paper::count_of_stacks(kind, n);
@@ -204,8 +204,11 @@ pub fn builds(system: &dyn System, seed: u64) -> Checked {
                     (size_for(stacks, 1), 16),
                     (67_108_864, 16),
                 ] {
+                    let fields = Fields { kind, n, wanted, size, room };
+                    let whole = whole(system, &fields, &mut rng)?;
+                    whole.agrees_with(&distances).map_err(|wrong| format!("{wrong}: {fields:?} as a whole"))?;
+                    tables += 1;
                     for order in [Order::Rising, Order::Falling, Order::Shuffled] {
-                        let fields = Fields { kind, n, wanted, size, room };
                         let build = finished(system, &fields, order, &mut rng)?;
                         build.agrees_with(&distances).map_err(|wrong| format!("{wrong}: {fields:?} {order:?}"))?;
                         builds += 1;
@@ -218,7 +221,17 @@ pub fn builds(system: &dyn System, seed: u64) -> Checked {
             }
         }
     }
-    Ok(format!("{builds} builds against the plain search, {entries} entries, {plans} plans"))
+    Ok(format!("{builds} builds and {tables} whole tables against the plain search, {entries} entries, {plans} plans"))
+}
+
+// The table that Build the whole table makes, in buffers that hold anything.
+fn whole(system: &dyn System, fields: &Fields, rng: &mut Rng) -> Result<Build, String> {
+    let measures = fields.measures().map_err(|refusal| format!("refused {refusal}: {fields:?}"))?;
+    let (mut table, mut logs) = (rng.bytes(paper::bytes_of(measures.stacks)), rng.words(measures.log_numbers()));
+    let Fields { kind, n, wanted, size, room } = *fields;
+    let answer = system.build_table(kind, n, wanted, size, room, &mut table, &mut logs);
+    equal(&format!("refusal of {fields:?}"), answer.refusal, 0)?;
+    Ok(Build { job: answer.job, measures, segments: vec![table], logs })
 }
 
 // The plan of every stack has the fewest turns and arrives.

@@ -3,7 +3,7 @@
 use std::fmt;
 use std::ops::Range;
 
-use crate::call::{Answered, Call, Outcome, OPERATIONS};
+use crate::call::{Answered, Answers, Call, Outcome, OPERATIONS};
 use crate::cases::{run_case, Family};
 use crate::paper;
 use crate::rng::Rng;
@@ -12,7 +12,7 @@ use crate::system::*;
 // How often each operation gave each refusal (0: did its work), and what some answers were.
 #[derive(Clone, Default)]
 pub struct Tally {
-    pub refusals: [[u64; 17]; 11],
+    pub refusals: [[u64; 17]; OPERATIONS.len()],
     pub waiting: u64,
     pub waiting_at_once: u64,
     pub finished: u64,
@@ -20,7 +20,7 @@ pub struct Tally {
 }
 
 // The refusals of each operation by document 01.
-const LISTED: [&[u8]; 11] = [
+pub const LISTED: [&[u8]; OPERATIONS.len()] = [
     &[1, 2, 3],
     &[1, 2, 4],
     &[1, 2, 3, 4],
@@ -32,6 +32,7 @@ const LISTED: [&[u8]; 11] = [
     &[7, 8, 13, 14],
     &[1, 2, 10, 4],
     &[1, 2, 3, 10, 15],
+    &[1, 2, 3, 5, 6, 10],
 ];
 
 impl Tally {
@@ -55,8 +56,8 @@ impl Tally {
         self.refusals.iter().flatten().sum()
     }
 
-    // What the cases should have met and did not.
-    pub fn unmet(&self) -> Vec<String> {
+    // The refusals (0: did its work) that the cases should have met and did not.
+    pub fn refusals_unmet(&self) -> Vec<String> {
         let mut unmet = Vec::new();
         for (operation, listed) in LISTED.iter().enumerate() {
             for refusal in [&[0], *listed].concat() {
@@ -65,6 +66,12 @@ impl Tally {
                 }
             }
         }
+        unmet
+    }
+
+    // All that random cases should have met and did not.
+    pub fn unmet(&self) -> Vec<String> {
+        let mut unmet = self.refusals_unmet();
         let others = [
             (self.waiting > self.waiting_at_once, "Waiting after some stacks"),
             (self.waiting_at_once > 0, "Waiting with nothing passed"),
@@ -106,8 +113,24 @@ impl fmt::Display for Tally {
     }
 }
 
+// Runs one call on both; what they agree on, or an error that prints the whole call.
+pub fn compare_call<A: Answers + ?Sized, B: Answers + ?Sized>(
+    first: &A,
+    second: &B,
+    call: &Call,
+    tally: &mut Tally,
+) -> Result<Outcome, String> {
+    let (one, other) = (first.outcome(call), second.outcome(call));
+    if one != other {
+        return Err(format!("the answers differ\n  {call}\n  first:  {one}\n  second: {other}"));
+    }
+    laws(call, &one).map_err(|law| format!("{law}\n  {call}\n  gave: {one}"))?;
+    tally.add(call, &one);
+    Ok(one)
+}
+
 // Runs the cases of one family with these numbers; the first difference is an error that prints the whole call.
-pub fn compare<A: System + ?Sized, B: System + ?Sized>(
+pub fn compare<A: Answers + ?Sized, B: Answers + ?Sized>(
     first: &A,
     second: &B,
     family: Family,
@@ -120,13 +143,7 @@ pub fn compare<A: System + ?Sized, B: System + ?Sized>(
         let mut place = 0;
         let mut check = |call: Call| {
             place += 1;
-            let (one, other) = (call.run(first), call.run(second));
-            if one != other {
-                return Err(format!("call {place} differs\n  {call}\n  first:  {one}\n  second: {other}"));
-            }
-            laws(&call, &one).map_err(|law| format!("call {place}: {law}\n  {call}\n  gave: {one}"))?;
-            tally.add(&call, &one);
-            Ok(one)
+            compare_call(first, second, &call, tally).map_err(|wrong| format!("call {place}: {wrong}"))
         };
         run_case(family, &mut rng, &mut check).map_err(|wrong| {
             format!("{wrong}\n  again: --family {} --seed {seed} --case {number}", format!("{family:?}").to_lowercase())
@@ -174,6 +191,11 @@ fn laws(call: &Call, outcome: &Outcome) -> Result<(), String> {
             law(right_turns, "a plan with a turn that is none")?;
             let end = outcome.list[..turns].iter().fold(*given, |at, k| paper::turned(*kind, &at, *k));
             law(end == *wanted, "a plan that does not arrive")
+        }
+        (Call::Build { kind, n, .. }, Answered::Answer(answer)) => {
+            law(matches!(answer.job.phase, Phase::Finished(_)), "a whole build that is not finished")?;
+            let counted = answer.job.counts.iter().sum::<u64>();
+            law(counted == paper::count_of_stacks(*kind, *n), "counts of a whole build that do not add to N")
         }
         _ => Ok(()),
     }

@@ -1,27 +1,29 @@
 // The paper with one fault each: the comparison must catch every one, or its cases are too tame.
 
-use crate::build::ordered;
-use crate::paper::{self, Child, Measures, Paper, COATED};
+use crate::build::{ordered, Fields};
+use crate::paper::{self, Child, Measures, COATED, PAPER};
 use crate::system::*;
 
 macro_rules! faults {
-    ($($fault:ident),* $(,)?) => {
+    ($($list:ident { $($fault:ident),* $(,)? })*) => {
         #[derive(Clone, Copy, PartialEq, Debug)]
         pub enum Fault {
             // The paper itself, to see that only faults are caught.
             Nothing,
-            $($fault),*
+            $($($fault),*),*
         }
-        pub const FAULTS: &[Fault] = &[$(Fault::$fault),*];
+        $(pub const $list: &[Fault] = &[$(Fault::$fault),*];)*
     };
 }
 
+// The random families catch the first list, the calls past the first mebibyte the second.
 faults! {
+FAULTS {
     // Index, Stack at, Turn, Begin.
     IndexSkipsUnusedPlaces, CoatsFromTheBottom, TurnOnePlain, TurnKeepsCoats, TurnOrderOf3And4,
     BeginTakesRoom15, BeginTakes65Segments, BeginTakesOddSize, BeginOrderOf5And6,
     // Coherence.
-    LooseCounts, LooseLevel, LooseDeepest, LoosePassed, LooseWaiting, LooseBeyondG, LooseWanted, LooseRoom, StrictCounts,
+    LoosePhase, LooseCounts, LooseLevel, LooseDeepest, LoosePassed, LooseWaiting, LooseBeyondG, LooseWanted, LooseRoom, StrictCounts,
     // Blank.
     BlankSparesZero, BlankForgetsWanted, BlankTwice, BlankRefusesPartly, BlankPassesSize,
     // Expand.
@@ -37,6 +39,20 @@ faults! {
     // Read and Plan.
     ReadBitsReversed, ReadOrderOf10And4, ReadTakesLongTable, PlanTakesLargest, PlanEndsAtZero, PlanTakes29Only, PlanTakes31,
     PlanWritesRefused, PlanClearsRest, PlanSkipsWantedEntry, PlanOrderOf3And10, PlanTakesShortList,
+    // Build the whole table.
+    BuildTakesLongTable, BuildTakesLongLog, BuildOrderOf6And10, BuildRefusedWithJob, BuildAnswersBegun, BuildKeepsTable,
+    BuildWritesRefused, BuildDeepestD,
+}
+FAR_FAULTS {
+    BlankStopsAtMebibyte, ExpandWrapsAtMebibyte, SettleWrapsAtMebibyte, ReadWrapsAtMebibyte, PlanStopsAtMebibyte,
+}
+}
+
+const MEBIBYTE: usize = 1 << 20;
+
+// An entry of the first mebibyte, whatever the entry meant.
+fn wrapped(i: u64) -> u64 {
+    i % (4 * MEBIBYTE as u64)
 }
 
 pub struct Faulty(pub Fault);
@@ -49,8 +65,13 @@ impl Faulty {
     // A job with what the fault overlooks put right.
     fn mended(&self, job: &Job) -> Job {
         let mut job = *job;
-        let measures = paper::measures(job.kind, job.n, &job.wanted, job.size, job.room);
+        let measures = PAPER.measures(job.kind, job.n, &job.wanted, job.size, job.room);
         match (self.0, measures) {
+            (Fault::LoosePhase, _) => {
+                if let Phase::NoPhase(number, level) = job.phase {
+                    job.phase = if number == 0 { Phase::Blanking } else { Phase::Finished(level) };
+                }
+            }
             (Fault::LooseCounts, _) => job.counts.iter_mut().for_each(|count| *count = (*count).min(1 << 60)),
             (Fault::LooseLevel, _) => {
                 if let Phase::Level(d) = job.phase {
@@ -83,7 +104,7 @@ impl Faulty {
             7 if self.is(Fault::OrderOf7And8) && !phase_is_right => 8,
             8 if self.is(Fault::OrderOf8And9) && j >= 64 => 9,
             10 if self.is(Fault::OrderOf10And11) => {
-                let whole = paper::coherent(job).map(|measures| measures.stacks_of(u64::from(j)));
+                let whole = PAPER.coherent(job).map(|measures| measures.stacks_of(u64::from(j)));
                 if whole == Ok(u64::from(job.passed[j as usize])) {
                     11
                 } else {
@@ -95,7 +116,7 @@ impl Faulty {
     }
 
     fn expand_wrongly(&self, job: &Job, j: u32, segment: &mut [u8], logs: &mut [u32]) -> (Job, Option<u32>) {
-        let measures = paper::coherent(job).expect("only accepted calls come here");
+        let measures = PAPER.coherent(job).expect("only accepted calls come here");
         let Phase::Level(d) = job.phase else { unreachable!() };
         let here = u64::from(j);
         let first = if self.is(Fault::ExpandFromTheFirst) { 0 } else { u64::from(job.passed[j as usize]) };
@@ -116,7 +137,10 @@ impl Faulty {
                 if full.is_some() && !self.is(Fault::ExpandLogsHalf) {
                     return (after, full);
                 }
-                for child in children {
+                for mut child in children {
+                    if self.is(Fault::ExpandWrapsAtMebibyte) {
+                        child.offset = wrapped(child.offset);
+                    }
                     if child.segment == here {
                         if self.is(Fault::ExpandMarksSeen) {
                             paper::set_entry(segment, child.offset, 3);
@@ -166,7 +190,7 @@ impl System for Faulty {
         if self.is(Fault::IndexSkipsUnusedPlaces) {
             stack[(n as usize).min(12)..].fill(0);
         }
-        let mut answer = Paper.index_of_stack(kind, n, stack);
+        let mut answer = PAPER.index_of_stack(kind, n, stack);
         if self.is(Fault::CoatsFromTheBottom) && answer.refusal == 0 && kind == COATED {
             let coats = answer.index & ((1 << n) - 1);
             answer.index = (answer.index >> n << n) | (coats.reverse_bits() >> (32 - n));
@@ -175,11 +199,11 @@ impl System for Faulty {
     }
 
     fn stack_at_index(&self, kind: u8, n: u8, index: u32) -> Stacked {
-        Paper.stack_at_index(kind, n, index)
+        PAPER.stack_at_index(kind, n, index)
     }
 
     fn turn(&self, kind: u8, n: u8, stack: Stack, k: u8) -> Stacked {
-        let mut answer = Paper.turn(kind, n, stack, k);
+        let mut answer = PAPER.turn(kind, n, stack, k);
         if self.is(Fault::TurnOnePlain) && answer.refusal == 4 && k == 1 {
             answer = Stacked { refusal: 0, stack };
         }
@@ -193,7 +217,7 @@ impl System for Faulty {
     }
 
     fn begin(&self, kind: u8, n: u8, wanted: Stack, size: u32, room: u32) -> Answer {
-        let mut answer = Paper.begin(kind, n, wanted, size, room);
+        let mut answer = PAPER.begin(kind, n, wanted, size, room);
         let loose = match (self.0, answer.refusal) {
             (Fault::BeginTakesRoom15, 6) => room == 15,
             (Fault::BeginTakes65Segments, 5) => size.is_multiple_of(4) && (4..=67_108_864).contains(&size),
@@ -217,7 +241,7 @@ impl System for Faulty {
         }
         let partly = self.is(Fault::BlankRefusesPartly) && job.passed[place] > 0;
         let before = segment.to_vec();
-        let mut answer = Paper.blank(&given, j, segment);
+        let mut answer = PAPER.blank(&given, j, segment);
         let refusal = self.otherwise(answer.refusal, job, j, job.phase == Phase::Blanking);
         let refusal = if partly && answer.refusal == 0 { 11 } else { refusal };
         if refusal != 0 {
@@ -230,6 +254,9 @@ impl System for Faulty {
                 let stacks = u64::from(answer.job.passed[place]);
                 (stacks..stacks + spares).for_each(|i| paper::set_entry(segment, i, 0));
             }
+            Fault::BlankStopsAtMebibyte if segment.len() > MEBIBYTE => {
+                segment[MEBIBYTE..].copy_from_slice(&before[MEBIBYTE..])
+            }
             Fault::BlankForgetsWanted => segment.fill(0xff),
             Fault::BlankPassesSize => answer.job.passed[place] = job.size,
             _ => {}
@@ -240,7 +267,7 @@ impl System for Faulty {
     fn expand(&self, job: &Job, j: u32, segment: &mut [u8], logs: &mut [u32]) -> Expanded {
         let mut given = self.mended(job);
         let (before, logs_before) = (segment.to_vec(), logs.to_vec());
-        let mut answer = Paper.expand(&given, j, segment, logs);
+        let mut answer = PAPER.expand(&given, j, segment, logs);
         if self.is(Fault::ExpandTakesPassed) && answer.refusal == 11 {
             given.passed[j as usize] = 0;
             answer = Expanded { refusal: 0, waits: false, on: 0, job: given };
@@ -258,13 +285,15 @@ impl System for Faulty {
     fn settle(&self, job: &Job, j: u32, segment: &mut [u8], logs: &[u32]) -> Answer {
         let given = self.mended(job);
         let before = segment.to_vec();
-        let mut answer = Paper.settle(&given, j, segment, logs);
+        let near: Vec<u32> = logs.iter().map(|&offset| wrapped(u64::from(offset)) as u32).collect();
+        let logs = if self.is(Fault::SettleWrapsAtMebibyte) { &near } else { logs };
+        let mut answer = PAPER.settle(&given, j, segment, logs);
         let mut refusal = self.otherwise(answer.refusal, job, j, matches!(job.phase, Phase::Level(_)));
         if refusal != 0 && refusal != 12 {
             segment.copy_from_slice(&before);
             return Answer { refusal, job: *job };
         }
-        let Ok(measures) = paper::coherent(&given) else { unreachable!() };
+        let Ok(measures) = PAPER.coherent(&given) else { unreachable!() };
         let Phase::Level(d) = given.phase else { unreachable!() };
         let stacks = measures.stacks_of(u64::from(j));
         let stretch = &logs[measures.log_start(u64::from(j))..][..measures.room as usize];
@@ -304,7 +333,7 @@ impl System for Faulty {
     }
 
     fn look(&self, job: &Job, j: u32, logs: &[u32]) -> Looked {
-        let mut answer = Paper.look(&self.mended(job), j, logs);
+        let mut answer = PAPER.look(&self.mended(job), j, logs);
         if self.is(Fault::LookNotWhileBlanking) && answer.number == 0 && job.phase == Phase::Blanking {
             answer = Looked { start: 0, len: 0, number: 8 };
         }
@@ -317,7 +346,7 @@ impl System for Faulty {
 
     fn close(&self, job: &Job) -> Answer {
         let mut given = self.mended(job);
-        if let (Ok(measures), true) = (paper::coherent(&given), job.phase != Phase::Blanking) {
+        if let (Ok(measures), true) = (PAPER.coherent(&given), job.phase != Phase::Blanking) {
             match self.0 {
                 Fault::CloseWithLogWaiting => given.waiting = [0; 64],
                 Fault::CloseUnpassed => {
@@ -326,7 +355,7 @@ impl System for Faulty {
                 _ => {}
             }
         }
-        let mut answer = Paper.close(&given);
+        let mut answer = PAPER.close(&given);
         let ended = matches!(job.phase, Phase::Finished(_));
         answer.refusal = self.otherwise(answer.refusal, job, 0, !ended);
         let level_31 = job.phase == Phase::Level(31) && job.counts[31] != 0;
@@ -353,8 +382,11 @@ impl System for Faulty {
     }
 
     fn read_entry(&self, kind: u8, n: u8, table: &[u8], index: u32) -> Entry {
-        let mut answer = Paper.read_entry(kind, n, table, index);
+        let mut answer = PAPER.read_entry(kind, n, table, index);
         let in_range = |n: u8| n >= 1 && n <= 12 - 2 * kind;
+        if self.is(Fault::ReadWrapsAtMebibyte) && answer.refusal == 0 {
+            answer.entry = paper::entry_at(table, wrapped(u64::from(index)));
+        }
         if self.is(Fault::ReadBitsReversed) && answer.refusal == 0 {
             answer.entry = (answer.entry >> 1) | (answer.entry << 1 & 2);
         }
@@ -376,7 +408,13 @@ impl System for Faulty {
         if self.is(Fault::PlanTakesShortList) && lent.len() == 29 {
             lent.push(0);
         }
-        let mut answer = Paper.plan(kind, n, wanted, given, table, &mut lent);
+        let mut near = Vec::new();
+        if self.is(Fault::PlanStopsAtMebibyte) {
+            near.extend_from_slice(table);
+            near.iter_mut().skip(MEBIBYTE).for_each(|byte| *byte = 0xff);
+        }
+        let table = if near.is_empty() { table } else { &near };
+        let mut answer = PAPER.plan(kind, n, wanted, given, table, &mut lent);
         if self.is(Fault::PlanOrderOf3And10) && answer.refusal == 3 && list.len() < 30 {
             answer.refusal = 10;
         }
@@ -416,6 +454,45 @@ impl System for Faulty {
                 }
                 list[..plan.len()].copy_from_slice(&plan);
                 answer = Planned { refusal: 0, turns: plan.len() as u32 };
+            }
+            _ => {}
+        }
+        answer
+    }
+
+    fn build_table(
+        &self,
+        kind: u8,
+        n: u8,
+        wanted: Stack,
+        size: u32,
+        room: u32,
+        table: &mut [u8],
+        logs: &mut [u32],
+    ) -> Answer {
+        let fields = Fields { kind, n, wanted, size, room };
+        let fitting = fields.measures().map(|measures| (paper::bytes_of(measures.stacks), measures.log_numbers()));
+        let (mut bytes, mut words) = (table.len(), logs.len());
+        match (self.0, fitting) {
+            (Fault::BuildTakesLongTable, Ok(right)) => bytes = bytes.min(right.0),
+            (Fault::BuildTakesLongLog, Ok(right)) => words = words.min(right.1),
+            _ => {}
+        }
+        let before = table.to_vec();
+        let mut answer = PAPER.build_table(kind, n, wanted, size, room, &mut table[..bytes], &mut logs[..words]);
+        match (self.0, answer.refusal) {
+            (Fault::BuildOrderOf6And10, 6) if table.len() != paper::bytes_of(paper::count_of_stacks(kind, n)) => {
+                answer.refusal = 10
+            }
+            (Fault::BuildRefusedWithJob, 10) | (Fault::BuildAnswersBegun, 0) => {
+                answer.job = PAPER.begin(kind, n, wanted, size, room).job
+            }
+            (Fault::BuildKeepsTable, 0) => table.copy_from_slice(&before),
+            (Fault::BuildWritesRefused, 1..) => table.iter_mut().for_each(|byte| *byte ^= 1),
+            (Fault::BuildDeepestD, 0) => {
+                if let Phase::Finished(deepest) = answer.job.phase {
+                    answer.job.phase = Phase::Finished(deepest + 1);
+                }
             }
             _ => {}
         }

@@ -4,12 +4,17 @@
 pub mod build;
 pub mod call;
 pub mod cases;
+pub mod caught;
 pub mod checks;
 pub mod compare;
+pub mod deliberate;
+pub mod exchange;
 pub mod faulty;
 pub mod linked;
 pub mod paper;
+pub mod pipe;
 pub mod report;
+pub mod report_faults;
 pub mod rng;
 pub mod search;
 pub mod system;

@@ -47,7 +47,8 @@ struct CAnswer {
 #[repr(C)]
 struct CExpanded {
     refusal: u8,
-    waits: bool,
+    // C's bool, as a byte: whatever the library puts there may be read.
+    waits: u8,
     on: u32,
     job: CJob,
 }
@@ -71,14 +72,34 @@ struct CPlanned {
     turns: u32,
 }
 
+// The bytes of the job as it crosses the boundary.
+pub const JOB_BYTES: usize = size_of::<CJob>();
+
 // The layout that include/hokrund.h asserts on its side.
 const _: () = {
-    assert!(size_of::<CJob>() == 792 && offset_of!(CJob, wanted) == 4 && offset_of!(CJob, size) == 16);
+    assert!(JOB_BYTES == 792 && offset_of!(CJob, wanted) == 4 && offset_of!(CJob, size) == 16);
     assert!(offset_of!(CJob, passed) == 24 && offset_of!(CJob, waiting) == 280 && offset_of!(CJob, counts) == 536);
     assert!(size_of::<CIndexed>() == 8 && size_of::<CStacked>() == 13 && size_of::<CAnswer>() == 800);
     assert!(size_of::<CExpanded>() == 800 && offset_of!(CExpanded, on) == 4 && offset_of!(CExpanded, job) == 8);
     assert!(size_of::<CLook>() == 24 && size_of::<CEntry>() == 2 && size_of::<CPlanned>() == 8);
 };
+
+// Where each field of each struct stands.
+pub fn places() -> [(&'static str, Vec<usize>); 8] {
+    macro_rules! places {
+        ($of:ty: $($field:ident)*) => { vec![$(offset_of!($of, $field)),*] };
+    }
+    [
+        ("HokrundJob", places!(CJob: kind n phase level wanted size room passed waiting counts)),
+        ("HokrundIndexed", places!(CIndexed: refusal index)),
+        ("HokrundStacked", places!(CStacked: refusal stack)),
+        ("HokrundAnswer", places!(CAnswer: refusal job)),
+        ("HokrundExpanded", places!(CExpanded: refusal waits on job)),
+        ("HokrundLook", places!(CLook: refusal start length)),
+        ("HokrundEntry", places!(CEntry: refusal entry)),
+        ("HokrundPlanned", places!(CPlanned: refusal turns)),
+    ]
+}
 
 extern "C" {
     fn hokrund_index_of_stack(kind: u8, n: u8, stack: CStack) -> CIndexed;
@@ -102,14 +123,22 @@ extern "C" {
         list: *mut u8,
         room: usize,
     ) -> CPlanned;
+    #[allow(clippy::too_many_arguments)]
+    fn hokrund_build_table(
+        kind: u8,
+        n: u8,
+        wanted: CStack,
+        size: u32,
+        room: u32,
+        table: *mut u8,
+        length: usize,
+        log: *mut u32,
+        words: usize,
+    ) -> CAnswer;
 }
 
 fn mirror(job: &Job) -> CJob {
-    let (phase, level) = match job.phase {
-        Phase::Blanking => (0, 0),
-        Phase::Level(d) => (1, d),
-        Phase::Finished(d) => (2, d),
-    };
+    let (phase, level) = job.phase.numbers();
     CJob {
         kind: job.kind,
         n: job.n,
@@ -125,19 +154,13 @@ fn mirror(job: &Job) -> CJob {
 }
 
 fn job(mirror: CJob) -> Job {
-    let phase = match (mirror.phase, mirror.level) {
-        (0, 0) => Phase::Blanking,
-        (1, d) => Phase::Level(d),
-        (2, d) => Phase::Finished(d),
-        other => panic!("the library gave the phase {other:?}"),
-    };
     Job {
         kind: mirror.kind,
         n: mirror.n,
         wanted: mirror.wanted.places,
         size: mirror.size,
         room: mirror.room,
-        phase,
+        phase: Phase::of_numbers(mirror.phase, mirror.level),
         passed: mirror.passed,
         waiting: mirror.waiting,
         counts: mirror.counts,
@@ -181,7 +204,9 @@ impl System for Library {
         let r = unsafe {
             hokrund_expand(mirror(job), j, segment.as_mut_ptr(), segment.len(), logs.as_mut_ptr(), logs.len())
         };
-        Expanded { refusal: r.refusal, waits: r.waits, on: r.on, job: self::job(r.job) }
+        // A byte that is no bool makes it an answer that no operation gives.
+        let refusal = if r.waits > 1 { u8::MAX } else { r.refusal };
+        Expanded { refusal, waits: r.waits == 1, on: r.on, job: self::job(r.job) }
     }
 
     fn settle(&self, job: &Job, j: u32, segment: &mut [u8], logs: &[u32]) -> Answer {
@@ -209,5 +234,22 @@ impl System for Library {
         let r =
             unsafe { hokrund_plan(kind, n, wanted, given, table.as_ptr(), table.len(), list.as_mut_ptr(), list.len()) };
         Planned { refusal: r.refusal, turns: r.turns }
+    }
+
+    fn build_table(
+        &self,
+        kind: u8,
+        n: u8,
+        wanted: Stack,
+        size: u32,
+        room: u32,
+        table: &mut [u8],
+        logs: &mut [u32],
+    ) -> Answer {
+        let wanted = CStack { places: wanted };
+        let (length, words) = (table.len(), logs.len());
+        answer(unsafe {
+            hokrund_build_table(kind, n, wanted, size, room, table.as_mut_ptr(), length, logs.as_mut_ptr(), words)
+        })
     }
 }

@@ -3,7 +3,7 @@
 //   cargo run --release --offline --manifest-path tests/outside/Cargo.toml -- [options]
 //   --seed S           the seed of all random cases (1)
 //   --cases N          how many single calls are compared, about (600000)
-//   --family F         one family only: stacks, calls, tables, lists, large
+//   --family F         one family only: stacks, calls, tables, lists, large, whole
 //   --case K           one case of that family only, to run a failing one again
 
 use std::process::ExitCode;
@@ -11,14 +11,11 @@ use std::time::Instant;
 
 use outside::cases::{Family, FAMILIES};
 use outside::checks;
-use outside::compare::{compare, Tally};
-use outside::faulty::{Fault, Faulty, FAULTS};
+use outside::compare::{compare, compare_call, Tally};
 use outside::linked::Library;
-use outside::paper::Paper;
+use outside::paper::PAPER;
 use outside::system::System;
-
-// The report program, which `rt check report` makes.
-const REPORT: &str = concat!(env!("CARGO_MANIFEST_DIR"), "/../../target/bin/report");
+use outside::{caught, deliberate, pipe, report_faults};
 
 struct Options {
     seed: u64,
@@ -50,18 +47,6 @@ fn options() -> Result<Options, String> {
     Ok(options)
 }
 
-// How many cases of each family make about so many calls.
-fn cases_of(family: Family, calls: u64) -> u64 {
-    match family {
-        Family::Stacks => calls / 16,
-        Family::Calls => calls / 36,
-        Family::Tables => calls / 150,
-        Family::Lists => calls / 2_000,
-        Family::Large => calls / 4_000,
-    }
-    .max(1)
-}
-
 // Prints what a part of the tests did and how long it took; false where it failed.
 fn report(part: &str, run: impl FnOnce() -> Result<String, String>) -> bool {
     let start = Instant::now();
@@ -74,24 +59,16 @@ fn report(part: &str, run: impl FnOnce() -> Result<String, String>) -> bool {
     outcome.is_ok()
 }
 
-// Each fault must be caught by the cases of the families that a run compares.
-fn faults_are_caught(seed: u64) -> Result<String, String> {
-    let mut most = 0;
-    for family in FAMILIES {
-        let numbers = 0..cases_of(family, 20_000);
-        compare(&Paper, &Faulty(Fault::Nothing), family, seed, numbers, &mut Tally::default())?;
+// The calls made on purpose; they meet every refusal of every operation.
+fn on_purpose(other: &dyn System) -> Result<String, String> {
+    let mut tally = Tally::default();
+    for call in deliberate::calls() {
+        compare_call(&PAPER, other, &call, &mut tally)?;
     }
-    for &fault in FAULTS {
-        let caught = (0..4_000).find(|&number| {
-            let families = [Family::Stacks, Family::Calls, Family::Tables];
-            let differs = |family| {
-                compare(&Paper, &Faulty(fault), family, seed, number..number + 1, &mut Tally::default()).is_err()
-            };
-            families.into_iter().any(differs)
-        });
-        most = most.max(caught.ok_or(format!("{fault:?} was not caught"))? + 1);
+    match tally.refusals_unmet() {
+        unmet if unmet.is_empty() => Ok(format!("{} calls, every refusal of every operation met", tally.calls())),
+        unmet => Err(unmet.join("; ")),
     }
-    Ok(format!("{} faults caught, the last one by case {most}", FAULTS.len()))
 }
 
 // Compares in each family, and sees that every refusal of every operation was met.
@@ -104,11 +81,11 @@ fn comparison(options: &Options, other: &dyn System) -> bool {
         }
         let numbers = match options.case {
             Some(number) => number..number + 1,
-            None => 0..cases_of(family, options.cases),
+            None => 0..family.cases(options.cases),
         };
         let before = tally.calls();
         fine &= report(&format!("compared {family:?}"), || {
-            compare(&Paper, other, family, options.seed, numbers.clone(), &mut tally)?;
+            compare(&PAPER, other, family, options.seed, numbers.clone(), &mut tally)?;
             Ok(format!("{} cases, {} calls", numbers.end - numbers.start, tally.calls() - before))
         });
     }
@@ -135,15 +112,21 @@ fn main() -> ExitCode {
     let mut fine = true;
     if options.family.is_none() {
         // The library's builds reach further than the paper's, which stop where its seconds do.
-        let systems: [(&str, &dyn System, u8, u8); 2] = [("paper", &Paper, 9, 6), ("library", &Library, 10, 8)];
+        let systems: [(&str, &dyn System, u8, u8); 2] = [("paper", &PAPER, 9, 6), ("library", &Library, 10, 8)];
         for (name, system, plain_to, coated_to) in systems {
             fine &= report(&format!("{name}, examples"), || checks::examples(system));
             fine &= report(&format!("{name}, numbering"), || checks::numbering(system));
             fine &= report(&format!("{name}, builds"), || checks::builds(system, options.seed));
             fine &= report(&format!("{name}, diameters"), || checks::diameters(system, plain_to, coated_to));
         }
-        fine &= report("comparison", || faults_are_caught(options.seed));
-        fine &= report("report", || outside::report::compare(REPORT, options.seed, 400));
+        fine &= report("comparison", || caught::by_families(options.seed));
+        fine &= report("limits", caught::limits);
+        fine &= report("exchanges", caught::exchanges);
+        fine &= report("far bytes", caught::far);
+        fine &= report("on purpose", || on_purpose(&Library));
+        fine &= report("report", || outside::report::compare(options.seed, 400));
+        fine &= report("report's faults", report_faults::caught);
+        fine &= report("report by pipe", pipe::conversations);
     }
     fine &= comparison(&options, &Library);
     println!("{} in {:.1} s", if fine { "all passed" } else { "FAILED" }, start.elapsed().as_secs_f64());

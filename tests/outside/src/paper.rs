@@ -6,14 +6,75 @@ pub const PLAIN: u8 = 0;
 pub const COATED: u8 = 1;
 pub const UNSEEN: u8 = 3;
 
-const LEAST_SIZE: u32 = 4;
-const MOST_SIZE: u32 = 67_108_864;
-const MOST_SEGMENTS: u64 = 64;
-const LEAST_ROOM: u32 = 16;
-const MOST_ROOM: u32 = 1_048_576;
-const LAST_LEVEL: u8 = 31;
-const MOST_TURNS: usize = 30;
-const MOST_COUNT: u64 = 1 << 60;
+// Document 01's limits, so that the tests can move each one. A `past` is how far a limit lies past n, N, G, m, C or the free places of a log.
+#[derive(Clone, Copy)]
+pub struct Limits {
+    pub least_panes: u8,
+    // Of a kind: plain, coated.
+    pub most_panes: [u8; 2],
+    pub first_turn: [u8; 2],
+    pub turn_past_n: i8,
+    pub index_past_stacks: i64,
+    pub size_step: u32,
+    pub least_size: u32,
+    pub most_size: u32,
+    pub most_segments: u64,
+    pub least_room: u32,
+    pub most_room: u32,
+    pub phases: u8,
+    pub most_blanking_level: u8,
+    pub first_level: u8,
+    pub last_level: u8,
+    pub most_deepest: u8,
+    pub most_count: u64,
+    pub passed_past_m: i64,
+    pub waiting_past_c: i64,
+    // From segment G up.
+    pub most_passed_beyond: u64,
+    pub most_waiting_beyond: u64,
+    pub segment_past_g: i64,
+    pub offset_past_m: i64,
+    pub falling_past_free: i64,
+    pub most_turns: usize,
+    pub least_list: usize,
+}
+
+const LIMITS: Limits = Limits {
+    least_panes: 1,
+    most_panes: [12, 10],
+    first_turn: [2, 1],
+    turn_past_n: 0,
+    index_past_stacks: 0,
+    size_step: 4,
+    least_size: 4,
+    most_size: 67_108_864,
+    most_segments: 64,
+    least_room: 16,
+    most_room: 1_048_576,
+    phases: 3,
+    most_blanking_level: 0,
+    first_level: 1,
+    last_level: 31,
+    most_deepest: 30,
+    most_count: 1 << 60,
+    passed_past_m: 0,
+    waiting_past_c: 0,
+    most_passed_beyond: 0,
+    most_waiting_beyond: 0,
+    segment_past_g: 0,
+    offset_past_m: 0,
+    falling_past_free: 0,
+    most_turns: 30,
+    least_list: 30,
+};
+
+// Document 01 as a system.
+#[derive(Clone, Copy)]
+pub struct Paper {
+    pub limits: Limits,
+}
+
+pub const PAPER: Paper = Paper { limits: LIMITS };
 
 // Goes on, or gives the refusal's number when the condition holds.
 fn refuse(number: u8, when: bool) -> Result<(), u8> {
@@ -26,19 +87,6 @@ fn refuse(number: u8, when: bool) -> Result<(), u8> {
 
 // ---- Stacks and turns
 
-fn most_panes(kind: u8) -> u8 {
-    if kind == PLAIN {
-        12
-    } else {
-        10
-    }
-}
-
-fn right_kind_and_n(kind: u8, n: u8) -> Result<(), u8> {
-    refuse(1, kind != PLAIN && kind != COATED)?;
-    refuse(2, n < 1 || n > most_panes(kind))
-}
-
 // Panes 1 to n each once, no coat down if plain, unused places zero.
 pub fn is_stack(kind: u8, n: u8, stack: &Stack) -> bool {
     let (used, unused) = stack.split_at(n as usize);
@@ -49,8 +97,7 @@ pub fn is_stack(kind: u8, n: u8, stack: &Stack) -> bool {
 
 // The turns of a kind and n, rising.
 pub fn turns(kind: u8, n: u8) -> impl Iterator<Item = u8> {
-    let first = if kind == PLAIN { 2 } else { 1 };
-    first..=n
+    LIMITS.first_turn[kind as usize]..=n
 }
 
 // The stack after turn k.
@@ -179,35 +226,67 @@ impl Measures {
     }
 }
 
-// The refusals of Begin, and what its fields measure.
-pub fn measures(kind: u8, n: u8, wanted: &Stack, size: u32, room: u32) -> Result<Measures, u8> {
-    right_kind_and_n(kind, n)?;
-    refuse(3, !is_stack(kind, n, wanted))?;
-    let stacks = count_of_stacks(kind, n);
-    refuse(5, !size.is_multiple_of(4) || !(LEAST_SIZE..=MOST_SIZE).contains(&size))?;
-    let segments = count_of_segments(stacks, size);
-    refuse(5, segments > MOST_SEGMENTS)?;
-    refuse(6, !(LEAST_ROOM..=MOST_ROOM).contains(&room))?;
-    Ok(Measures { stacks, segments, size, room: u64::from(room) })
+impl Paper {
+    fn right_kind_and_n(&self, kind: u8, n: u8) -> Result<(), u8> {
+        refuse(1, kind != PLAIN && kind != COATED)?;
+        refuse(2, n < self.limits.least_panes || n > self.limits.most_panes[kind as usize])
+    }
+
+    // The refusals of Begin, and what its fields measure.
+    pub fn measures(&self, kind: u8, n: u8, wanted: &Stack, size: u32, room: u32) -> Result<Measures, u8> {
+        let limits = &self.limits;
+        self.right_kind_and_n(kind, n)?;
+        refuse(3, !is_stack(kind, n, wanted))?;
+        let stacks = count_of_stacks(kind, n);
+        let right_size = (limits.least_size..=limits.most_size).contains(&size);
+        refuse(5, !size.is_multiple_of(limits.size_step) || !right_size)?;
+        let segments = count_of_segments(stacks, size);
+        refuse(5, segments > limits.most_segments)?;
+        refuse(6, !(limits.least_room..=limits.most_room).contains(&room))?;
+        Ok(Measures { stacks, segments, size, room: u64::from(room) })
+    }
+
+    fn right_phase(&self, phase: Phase) -> bool {
+        let limits = &self.limits;
+        match phase.numbers() {
+            (0, level) => level <= limits.most_blanking_level,
+            (1, d) => (limits.first_level..=limits.last_level).contains(&d),
+            (2, deepest) => deepest <= limits.most_deepest,
+            (number, _) => number < limits.phases,
+        }
+    }
+
+    // The measures of a coherent job; 7 for any other.
+    pub fn coherent(&self, job: &Job) -> Result<Measures, u8> {
+        let limits = &self.limits;
+        let measures = self.measures(job.kind, job.n, &job.wanted, job.size, job.room).map_err(|_| 7)?;
+        refuse(7, !self.right_phase(job.phase))?;
+        for (j, (&passed, &waiting)) in (0..).zip(job.passed.iter().zip(&job.waiting)) {
+            let (most_passed, most_waiting) = if j < measures.segments {
+                (past(measures.stacks_of(j), limits.passed_past_m), past(measures.room, limits.waiting_past_c))
+            } else {
+                (limits.most_passed_beyond, limits.most_waiting_beyond)
+            };
+            refuse(7, u64::from(passed) > most_passed || u64::from(waiting) > most_waiting)?;
+        }
+        refuse(7, job.counts.iter().any(|&count| count > limits.most_count))?;
+        Ok(measures)
+    }
+
+    // Refuses a segment number of G or more.
+    fn right_segment(&self, j: u32, measures: &Measures) -> Result<(), u8> {
+        refuse(9, u64::from(j) >= past(measures.segments, self.limits.segment_past_g))
+    }
+
+    // Refuses an index of N or more.
+    fn right_index(&self, index: u32, stacks: u64) -> Result<(), u8> {
+        refuse(4, u64::from(index) >= past(stacks, self.limits.index_past_stacks))
+    }
 }
 
-// The measures of a coherent job; 7 for any other.
-pub fn coherent(job: &Job) -> Result<Measures, u8> {
-    let measures = measures(job.kind, job.n, &job.wanted, job.size, job.room).map_err(|_| 7)?;
-    let right_phase = match job.phase {
-        Phase::Blanking => true,
-        Phase::Level(d) => (1..=LAST_LEVEL).contains(&d),
-        Phase::Finished(deepest) => deepest < LAST_LEVEL,
-    };
-    refuse(7, !right_phase)?;
-    for j in 0..MOST_SEGMENTS {
-        let (passed, waiting) = (u64::from(job.passed[j as usize]), u64::from(job.waiting[j as usize]));
-        let (most_passed, most_waiting) =
-            if j < measures.segments { (measures.stacks_of(j), measures.room) } else { (0, 0) };
-        refuse(7, passed > most_passed || waiting > most_waiting)?;
-    }
-    refuse(7, job.counts.iter().any(|&count| count > MOST_COUNT))?;
-    Ok(measures)
+// A limit so far past a number.
+fn past(number: u64, far: i64) -> u64 {
+    number.saturating_add_signed(far)
 }
 
 fn level_of(job: &Job) -> Result<u8, u8> {
@@ -219,84 +298,177 @@ fn level_of(job: &Job) -> Result<u8, u8> {
 
 // ---- Operations, each with its refusals in order
 
-fn try_index(kind: u8, n: u8, stack: &Stack) -> Result<u32, u8> {
-    right_kind_and_n(kind, n)?;
-    refuse(3, !is_stack(kind, n, stack))?;
-    Ok(index(kind, n, stack))
-}
-
-fn try_stack(kind: u8, n: u8, index: u32) -> Result<Stack, u8> {
-    right_kind_and_n(kind, n)?;
-    refuse(4, u64::from(index) >= count_of_stacks(kind, n))?;
-    Ok(stack_at(kind, n, index))
-}
-
-fn try_turn(kind: u8, n: u8, stack: &Stack, k: u8) -> Result<Stack, u8> {
-    right_kind_and_n(kind, n)?;
-    refuse(3, !is_stack(kind, n, stack))?;
-    refuse(4, !turns(kind, n).any(|turn| turn == k))?;
-    Ok(turned(kind, stack, k))
-}
-
-fn try_begin(kind: u8, n: u8, wanted: Stack, size: u32, room: u32) -> Result<Job, u8> {
-    measures(kind, n, &wanted, size, room)?;
-    Ok(Job { kind, n, wanted, size, room, ..NO_JOB })
-}
-
-fn try_blank(job: &Job, j: u32, segment: &mut [u8]) -> Result<Job, u8> {
-    let measures = coherent(job)?;
-    refuse(8, job.phase != Phase::Blanking)?;
-    let here = u64::from(j);
-    refuse(9, here >= measures.segments)?;
-    refuse(10, segment.len() != measures.bytes_of(here))?;
-    let stacks = measures.stacks_of(here);
-    refuse(11, u64::from(job.passed[j as usize]) == stacks)?;
-
-    segment.fill(0xff);
-    let wanted = u64::from(index(job.kind, job.n, &job.wanted));
-    if wanted / u64::from(job.size) == here {
-        set_entry(segment, wanted % u64::from(job.size), 0);
+impl Paper {
+    fn try_index(&self, kind: u8, n: u8, stack: &Stack) -> Result<u32, u8> {
+        self.right_kind_and_n(kind, n)?;
+        refuse(3, !is_stack(kind, n, stack))?;
+        Ok(index(kind, n, stack))
     }
-    let mut after = *job;
-    after.passed[j as usize] = stacks as u32;
-    Ok(after)
-}
 
-// The job after the call, and the segment waited on.
-fn try_expand(job: &Job, j: u32, segment: &mut [u8], logs: &mut [u32]) -> Result<(Job, Option<u32>), u8> {
-    let measures = coherent(job)?;
-    let d = level_of(job)?;
-    let here = u64::from(j);
-    refuse(9, here >= measures.segments)?;
-    refuse(10, segment.len() != measures.bytes_of(here))?;
-    refuse(10, logs.len() != measures.log_numbers())?;
-    let stacks = measures.stacks_of(here);
-    refuse(11, u64::from(job.passed[j as usize]) == stacks)?;
+    fn try_stack(&self, kind: u8, n: u8, index: u32) -> Result<Stack, u8> {
+        self.right_kind_and_n(kind, n)?;
+        self.right_index(index, count_of_stacks(kind, n))?;
+        Ok(stack_at(kind, n, index))
+    }
 
-    let mut after = *job;
-    for i in u64::from(job.passed[j as usize])..stacks {
-        if entry_at(segment, i) == (d - 1) % 3 {
-            let children = children(job, here * u64::from(job.size) + i);
-            let full = (0..measures.segments).find(|&t| {
-                let falling = children.iter().filter(|child| child.segment == t).count() as u64;
-                t != here && falling > measures.room - u64::from(after.waiting[t as usize])
-            });
-            if let Some(t) = full {
-                return Ok((after, Some(t as u32)));
-            }
-            for child in children {
-                if child.segment == here {
-                    mark(segment, child.offset, d, &mut after.counts);
-                } else {
-                    let waiting = &mut after.waiting[child.segment as usize];
-                    logs[measures.log_start(child.segment) + *waiting as usize] = child.offset as u32;
-                    *waiting += 1;
+    fn try_turn(&self, kind: u8, n: u8, stack: &Stack, k: u8) -> Result<Stack, u8> {
+        self.right_kind_and_n(kind, n)?;
+        refuse(3, !is_stack(kind, n, stack))?;
+        let last = n.saturating_add_signed(self.limits.turn_past_n);
+        refuse(4, k < self.limits.first_turn[kind as usize] || k > last)?;
+        Ok(turned(kind, stack, k))
+    }
+
+    fn try_begin(&self, kind: u8, n: u8, wanted: Stack, size: u32, room: u32) -> Result<Job, u8> {
+        self.measures(kind, n, &wanted, size, room)?;
+        Ok(Job { kind, n, wanted, size, room, ..NO_JOB })
+    }
+
+    fn try_blank(&self, job: &Job, j: u32, segment: &mut [u8]) -> Result<Job, u8> {
+        let measures = self.coherent(job)?;
+        refuse(8, job.phase != Phase::Blanking)?;
+        let here = u64::from(j);
+        self.right_segment(j, &measures)?;
+        refuse(10, segment.len() != measures.bytes_of(here))?;
+        let stacks = measures.stacks_of(here);
+        refuse(11, u64::from(job.passed[j as usize]) == stacks)?;
+
+        segment.fill(0xff);
+        let wanted = u64::from(index(job.kind, job.n, &job.wanted));
+        if wanted / u64::from(job.size) == here {
+            set_entry(segment, wanted % u64::from(job.size), 0);
+        }
+        let mut after = *job;
+        after.passed[j as usize] = stacks as u32;
+        Ok(after)
+    }
+
+    // The job after the call, and the segment waited on.
+    fn try_expand(&self, job: &Job, j: u32, segment: &mut [u8], logs: &mut [u32]) -> Result<(Job, Option<u32>), u8> {
+        let measures = self.coherent(job)?;
+        let d = level_of(job)?;
+        let here = u64::from(j);
+        self.right_segment(j, &measures)?;
+        refuse(10, segment.len() != measures.bytes_of(here))?;
+        refuse(10, logs.len() != measures.log_numbers())?;
+        let stacks = measures.stacks_of(here);
+        refuse(11, u64::from(job.passed[j as usize]) == stacks)?;
+
+        let mut after = *job;
+        for i in u64::from(job.passed[j as usize])..stacks {
+            // (d - 1) mod 3, also where a moved limit lets d be 0.
+            if entry_at(segment, i) == (d + 2) % 3 {
+                let children = children(job, here * u64::from(job.size) + i);
+                let full = (0..measures.segments).find(|&t| {
+                    let falling = children.iter().filter(|child| child.segment == t).count() as u64;
+                    let free = measures.room - u64::from(after.waiting[t as usize]);
+                    t != here && falling > past(free, self.limits.falling_past_free)
+                });
+                if let Some(t) = full {
+                    return Ok((after, Some(t as u32)));
+                }
+                for child in children {
+                    if child.segment == here {
+                        mark(segment, child.offset, d, &mut after.counts);
+                    } else {
+                        let waiting = &mut after.waiting[child.segment as usize];
+                        logs[measures.log_start(child.segment) + *waiting as usize] = child.offset as u32;
+                        *waiting += 1;
+                    }
                 }
             }
+            after.passed[j as usize] += 1;
         }
-        after.passed[j as usize] += 1;
+        Ok((after, None))
     }
-    Ok((after, None))
+
+    fn try_settle(&self, job: &Job, j: u32, segment: &mut [u8], logs: &[u32]) -> Result<Job, u8> {
+        let measures = self.coherent(job)?;
+        let d = level_of(job)?;
+        let here = u64::from(j);
+        self.right_segment(j, &measures)?;
+        refuse(10, segment.len() != measures.bytes_of(here))?;
+        refuse(10, logs.len() != measures.log_numbers())?;
+        let waiting = &logs[measures.log_start(here)..][..job.waiting[j as usize] as usize];
+        let end = past(measures.stacks_of(here), self.limits.offset_past_m);
+        refuse(12, waiting.iter().any(|&offset| u64::from(offset) >= end))?;
+
+        let mut after = *job;
+        for &offset in waiting {
+            mark(segment, u64::from(offset), d, &mut after.counts);
+        }
+        after.waiting[j as usize] = 0;
+        Ok(after)
+    }
+
+    // Start and length of the waiting part.
+    fn try_look(&self, job: &Job, j: u32, logs: &[u32]) -> Result<(usize, usize), u8> {
+        let measures = self.coherent(job)?;
+        self.right_segment(j, &measures)?;
+        refuse(10, logs.len() != measures.log_numbers())?;
+        Ok((measures.log_start(u64::from(j)), job.waiting[j as usize] as usize))
+    }
+
+    fn try_close(&self, job: &Job) -> Result<Job, u8> {
+        let measures = self.coherent(job)?;
+        refuse(8, matches!(job.phase, Phase::Finished(_)))?;
+        for j in 0..measures.segments {
+            let all_passed = u64::from(job.passed[j as usize]) == measures.stacks_of(j);
+            refuse(13, !all_passed || job.waiting[j as usize] != 0)?;
+        }
+        let last = self.limits.last_level;
+        refuse(14, job.phase == Phase::Level(last) && job.counts[last as usize] != 0)?;
+
+        let mut after = *job;
+        after.passed = [0; 64];
+        after.phase = match job.phase {
+            Phase::Level(d) if job.counts[d as usize] == 0 => Phase::Finished(d - 1),
+            Phase::Level(d) => Phase::Level(d + 1),
+            _ => {
+                after.counts[0] = 1;
+                Phase::Level(1)
+            }
+        };
+        Ok(after)
+    }
+
+    fn try_read_entry(&self, kind: u8, n: u8, table: &[u8], index: u32) -> Result<u8, u8> {
+        self.right_kind_and_n(kind, n)?;
+        let stacks = count_of_stacks(kind, n);
+        refuse(10, table.len() != bytes_of(stacks))?;
+        self.right_index(index, stacks)?;
+        Ok(entry_at(table, u64::from(index)))
+    }
+
+    fn try_plan(
+        &self,
+        kind: u8,
+        n: u8,
+        wanted: &Stack,
+        given: &Stack,
+        table: &[u8],
+        list: &mut [u8],
+    ) -> Result<u32, u8> {
+        self.right_kind_and_n(kind, n)?;
+        refuse(3, !is_stack(kind, n, wanted))?;
+        refuse(3, !is_stack(kind, n, given))?;
+        refuse(10, table.len() != bytes_of(count_of_stacks(kind, n)) || list.len() < self.limits.least_list)?;
+        let entry_of = |stack: &Stack| entry_at(table, u64::from(index(kind, n, stack)));
+        refuse(15, entry_of(given) == UNSEEN)?;
+        refuse(15, entry_of(wanted) != 0)?;
+
+        let mut at = *given;
+        let mut plan = Vec::new();
+        while at != *wanted {
+            refuse(15, plan.len() == self.limits.most_turns)?;
+            let nearer = (entry_of(&at) + 2) % 3;
+            let k = turns(kind, n).find(|&k| entry_of(&turned(kind, &at, k)) == nearer).ok_or(15)?;
+            plan.push(k);
+            at = turned(kind, &at, k);
+        }
+        list[..plan.len()].copy_from_slice(&plan);
+        Ok(plan.len() as u32)
+    }
 }
 
 // Where a child falls.
@@ -316,87 +488,6 @@ pub fn children(job: &Job, parent: u64) -> Vec<Child> {
         .collect()
 }
 
-fn try_settle(job: &Job, j: u32, segment: &mut [u8], logs: &[u32]) -> Result<Job, u8> {
-    let measures = coherent(job)?;
-    let d = level_of(job)?;
-    let here = u64::from(j);
-    refuse(9, here >= measures.segments)?;
-    refuse(10, segment.len() != measures.bytes_of(here))?;
-    refuse(10, logs.len() != measures.log_numbers())?;
-    let waiting = &logs[measures.log_start(here)..][..job.waiting[j as usize] as usize];
-    refuse(12, waiting.iter().any(|&offset| u64::from(offset) >= measures.stacks_of(here)))?;
-
-    let mut after = *job;
-    for &offset in waiting {
-        mark(segment, u64::from(offset), d, &mut after.counts);
-    }
-    after.waiting[j as usize] = 0;
-    Ok(after)
-}
-
-// Start and length of the waiting part.
-fn try_look(job: &Job, j: u32, logs: &[u32]) -> Result<(usize, usize), u8> {
-    let measures = coherent(job)?;
-    refuse(9, u64::from(j) >= measures.segments)?;
-    refuse(10, logs.len() != measures.log_numbers())?;
-    Ok((measures.log_start(u64::from(j)), job.waiting[j as usize] as usize))
-}
-
-fn try_close(job: &Job) -> Result<Job, u8> {
-    let measures = coherent(job)?;
-    refuse(8, matches!(job.phase, Phase::Finished(_)))?;
-    for j in 0..measures.segments {
-        let all_passed = u64::from(job.passed[j as usize]) == measures.stacks_of(j);
-        refuse(13, !all_passed || job.waiting[j as usize] != 0)?;
-    }
-    refuse(14, job.phase == Phase::Level(LAST_LEVEL) && job.counts[LAST_LEVEL as usize] != 0)?;
-
-    let mut after = *job;
-    after.passed = [0; 64];
-    after.phase = match job.phase {
-        Phase::Level(d) if job.counts[d as usize] == 0 => Phase::Finished(d - 1),
-        Phase::Level(d) => Phase::Level(d + 1),
-        _ => {
-            after.counts[0] = 1;
-            Phase::Level(1)
-        }
-    };
-    Ok(after)
-}
-
-fn try_read_entry(kind: u8, n: u8, table: &[u8], index: u32) -> Result<u8, u8> {
-    right_kind_and_n(kind, n)?;
-    let stacks = count_of_stacks(kind, n);
-    refuse(10, table.len() != bytes_of(stacks))?;
-    refuse(4, u64::from(index) >= stacks)?;
-    Ok(entry_at(table, u64::from(index)))
-}
-
-fn try_plan(kind: u8, n: u8, wanted: &Stack, given: &Stack, table: &[u8], list: &mut [u8]) -> Result<u32, u8> {
-    right_kind_and_n(kind, n)?;
-    refuse(3, !is_stack(kind, n, wanted))?;
-    refuse(3, !is_stack(kind, n, given))?;
-    refuse(10, table.len() != bytes_of(count_of_stacks(kind, n)) || list.len() < MOST_TURNS)?;
-    let entry_of = |stack: &Stack| entry_at(table, u64::from(index(kind, n, stack)));
-    refuse(15, entry_of(given) == UNSEEN)?;
-    refuse(15, entry_of(wanted) != 0)?;
-
-    let mut at = *given;
-    let mut plan = Vec::new();
-    while at != *wanted {
-        refuse(15, plan.len() == MOST_TURNS)?;
-        let nearer = (entry_of(&at) + 2) % 3;
-        let k = turns(kind, n).find(|&k| entry_of(&turned(kind, &at, k)) == nearer).ok_or(15)?;
-        plan.push(k);
-        at = turned(kind, &at, k);
-    }
-    list[..plan.len()].copy_from_slice(&plan);
-    Ok(plan.len() as u32)
-}
-
-// The paper as a system.
-pub struct Paper;
-
 fn answer(outcome: Result<Job, u8>, job: &Job) -> Answer {
     match outcome {
         Ok(job) => Answer { refusal: 0, job },
@@ -413,59 +504,59 @@ fn stacked(outcome: Result<Stack, u8>) -> Stacked {
 
 impl System for Paper {
     fn index_of_stack(&self, kind: u8, n: u8, stack: Stack) -> Indexed {
-        match try_index(kind, n, &stack) {
+        match self.try_index(kind, n, &stack) {
             Ok(index) => Indexed { refusal: 0, index },
             Err(refusal) => Indexed { refusal, index: 0 },
         }
     }
 
     fn stack_at_index(&self, kind: u8, n: u8, index: u32) -> Stacked {
-        stacked(try_stack(kind, n, index))
+        stacked(self.try_stack(kind, n, index))
     }
 
     fn turn(&self, kind: u8, n: u8, stack: Stack, k: u8) -> Stacked {
-        stacked(try_turn(kind, n, &stack, k))
+        stacked(self.try_turn(kind, n, &stack, k))
     }
 
     fn begin(&self, kind: u8, n: u8, wanted: Stack, size: u32, room: u32) -> Answer {
-        answer(try_begin(kind, n, wanted, size, room), &NO_JOB)
+        answer(self.try_begin(kind, n, wanted, size, room), &NO_JOB)
     }
 
     fn blank(&self, job: &Job, j: u32, segment: &mut [u8]) -> Answer {
-        answer(try_blank(job, j, segment), job)
+        answer(self.try_blank(job, j, segment), job)
     }
 
     fn expand(&self, job: &Job, j: u32, segment: &mut [u8], logs: &mut [u32]) -> Expanded {
-        match try_expand(job, j, segment, logs) {
+        match self.try_expand(job, j, segment, logs) {
             Ok((job, on)) => Expanded { refusal: 0, waits: on.is_some(), on: on.unwrap_or(0), job },
             Err(refusal) => Expanded { refusal, waits: false, on: 0, job: *job },
         }
     }
 
     fn settle(&self, job: &Job, j: u32, segment: &mut [u8], logs: &[u32]) -> Answer {
-        answer(try_settle(job, j, segment, logs), job)
+        answer(self.try_settle(job, j, segment, logs), job)
     }
 
     fn look(&self, job: &Job, j: u32, logs: &[u32]) -> Looked {
-        match try_look(job, j, logs) {
+        match self.try_look(job, j, logs) {
             Ok((start, len)) => Looked { start, len, number: 0 },
             Err(number) => Looked { start: 0, len: 0, number },
         }
     }
 
     fn close(&self, job: &Job) -> Answer {
-        answer(try_close(job), job)
+        answer(self.try_close(job), job)
     }
 
     fn read_entry(&self, kind: u8, n: u8, table: &[u8], index: u32) -> Entry {
-        match try_read_entry(kind, n, table, index) {
+        match self.try_read_entry(kind, n, table, index) {
             Ok(entry) => Entry { refusal: 0, entry },
             Err(refusal) => Entry { refusal, entry: 0 },
         }
     }
 
     fn plan(&self, kind: u8, n: u8, wanted: Stack, given: Stack, table: &[u8], list: &mut [u8]) -> Planned {
-        match try_plan(kind, n, &wanted, &given, table, list) {
+        match self.try_plan(kind, n, &wanted, &given, table, list) {
             Ok(turns) => Planned { refusal: 0, turns },
             Err(refusal) => Planned { refusal, turns: 0 },
         }

@@ -5,25 +5,33 @@ use std::process::{Command, Stdio};
 
 use crate::build::size_for;
 use crate::cases::right_stack;
-use crate::paper::{self, COATED, PLAIN};
+use crate::paper::{self, COATED, PAPER, PLAIN};
 use crate::rng::Rng;
 use crate::search::{self, Distances};
 use crate::system::*;
 
-const MOST_CHARACTERS: usize = 64;
-const MOST_STACKS: u64 = 46_080;
 const ROOM: u32 = 16;
+
+// The report's limits, so that the tests can move each one. That of a later frame's characters is not among them: a frame of more than n
+// bytes is refused 16 as well.
+#[derive(Clone, Copy)]
+pub struct Limits {
+    pub characters: usize,
+    pub stacks: u64,
+}
+
+pub const LIMITS: Limits = Limits { characters: 64, stacks: 46_080 };
 
 // ---- The report of an input
 
-// The bytes of a frame, or 16.
-fn frame(line: &[u8]) -> Result<Vec<u8>, u8> {
+// The bytes of a frame of at most so many characters, or 16.
+fn frame(line: &[u8], characters: usize) -> Result<Vec<u8>, u8> {
     let digit = |c: u8| match c {
         b'0'..=b'9' => Ok(c - b'0'),
         b'a'..=b'f' => Ok(c - b'a' + 10),
         _ => Err(16),
     };
-    if line.len() > MOST_CHARACTERS || line.len() % 2 == 1 {
+    if line.len() > characters || line.len() % 2 == 1 {
         return Err(16);
     }
     line.chunks(2).map(|pair| Ok(digit(pair[0])? * 16 + digit(pair[1])?)).collect()
@@ -50,19 +58,19 @@ struct Started {
     distances: Distances,
 }
 
-fn first(line: &[u8]) -> Result<Started, u8> {
-    let bytes = frame(line)?;
+fn first(line: &[u8], limits: &Limits) -> Result<Started, u8> {
+    let bytes = frame(line, limits.characters)?;
     let &[kind, n, ref rest @ ..] = bytes.as_slice() else { return Err(16) };
-    if let Err(refusal @ (1 | 2)) = paper::measures(kind, n, &NO_STACK, 4, ROOM) {
+    if let Err(refusal @ (1 | 2)) = PAPER.measures(kind, n, &NO_STACK, 4, ROOM) {
         return Err(refusal);
     }
-    if rest.len() != n as usize + 4 || paper::count_of_stacks(kind, n) > MOST_STACKS {
+    if rest.len() != n as usize + 4 || paper::count_of_stacks(kind, n) > limits.stacks {
         return Err(16);
     }
     let (panes, size) = rest.split_at(n as usize);
     let wanted = stack_of(kind, panes)?;
     let size = size.iter().fold(0, |size, &byte| size << 8 | u32::from(byte));
-    paper::measures(kind, n, &wanted, size, ROOM)?;
+    PAPER.measures(kind, n, &wanted, size, ROOM)?;
     let distances = search::search(kind == COATED, &wanted[..n as usize]);
     Ok(Started { kind, n, wanted, distances })
 }
@@ -70,7 +78,7 @@ fn first(line: &[u8]) -> Result<Started, u8> {
 impl Started {
     // The smallest turn that leads one nearer, until the wanted stack is reached.
     fn plan(&self, line: &[u8]) -> Result<Vec<u8>, u8> {
-        let bytes = frame(line)?;
+        let bytes = frame(line, LIMITS.characters)?;
         if bytes.len() != self.n as usize {
             return Err(16);
         }
@@ -93,11 +101,15 @@ fn hexadecimal(bytes: &[u8]) -> String {
 
 // All that is printed of an input.
 pub fn report(input: &[u8]) -> String {
+    report_within(input, &LIMITS)
+}
+
+pub fn report_within(input: &[u8], limits: &Limits) -> String {
     let mut lines: Vec<&[u8]> = input.split(|&c| c == b'\n').collect();
     lines.pop_if(|last| last.is_empty());
     let refused = |refusal| hexadecimal(&[0xee, refusal]);
     let Some((head, later)) = lines.split_first() else { return refused(16) };
-    let started = match first(head) {
+    let started = match first(head, limits) {
         Ok(started) => started,
         Err(refusal) => return refused(refusal),
     };
@@ -117,8 +129,11 @@ pub fn report(input: &[u8]) -> String {
 
 // ---- Inputs
 
+const EIGHT: &str = "0102030405060708";
+const COATED_SIX: &str = "018203840586";
+
 // What is known to come close, and what no one would send.
-fn hostile() -> Vec<Vec<u8>> {
+pub fn deliberate() -> Vec<Vec<u8>> {
     let right = "000301020300000004";
     let long = |length: usize| "a".repeat(length);
     let texts = [
@@ -146,7 +161,26 @@ fn hostile() -> Vec<Vec<u8>> {
         format!("{right}\n030102\n010302\n010203\n010103"),
         format!("{right}\n010203\r\n010203\n"),
         format!("{right}\n01020\n0102030\n0A0203\n 10203\n010203"),
+        format!("{right}\n 010203\n01 02 03\n030201 \n010203"),
+        format!("{right} \n030201\n"),
+        format!("{right}\n830102\n030182\n030102\n"),
         format!("{right}\n{}\n{}\n{}\n010203\n", "0".repeat(64), "0".repeat(65), "0".repeat(66)),
+        // A first frame's characters show in its kind and n alone: at most 64 of them are looked at.
+        "02".repeat(31) + "0",
+        "02".repeat(32),
+        "02".repeat(32) + "0",
+        "02".repeat(33),
+        "000d".repeat(16),
+        // N at its limit and past it.
+        format!("0008{EIGHT}00000278\n{EIGHT}\n0807060504030201\n0801070206030504"),
+        format!("0008{EIGHT}00000274\n{EIGHT}\n"),
+        format!("0106{COATED_SIX}000002d0\n{COATED_SIX}\n818283848586\n060504030201\n"),
+        format!("0009{EIGHT}0900001624\n{EIGHT}09\n"),
+        format!("0107{COATED_SIX}0700002760\n{COATED_SIX}07\n"),
+        // 3 before 5, and a length that is wrong before both.
+        "000301010300000006".into(),
+        "0003010103000006".into(),
+        "00030101030000000004".into(),
         format!("{right}\n{}\n030201\n", long(1_000_000)),
         long(1_000_000),
         format!("{}\n{right}\n", long(65)),
@@ -199,30 +233,36 @@ fn random(rng: &mut Rng) -> Vec<u8> {
 
 // ---- The program
 
-// What the program prints.
-fn run(program: &str, input: &[u8]) -> Result<String, String> {
-    let failed = |error| format!("{program}: {error}");
-    let mut child = Command::new(program).stdin(Stdio::piped()).stdout(Stdio::piped()).spawn().map_err(failed)?;
+// The report program, which `rt check report` makes.
+pub const PROGRAM: &str = concat!(env!("CARGO_MANIFEST_DIR"), "/../../target/bin/report");
+
+// What the program prints. It ends well, whatever comes in.
+fn run(input: &[u8]) -> Result<String, String> {
+    let failed = |error| format!("{PROGRAM}: {error}");
+    let mut child = Command::new(PROGRAM).stdin(Stdio::piped()).stdout(Stdio::piped()).spawn().map_err(failed)?;
     let mut stdin = child.stdin.take().expect("its input is piped");
     let given = input.to_vec();
     // A refused first frame ends the run before all is read, so a write that fails is no fault.
     let feeder = std::thread::spawn(move || drop(stdin.write_all(&given)));
     let output = child.wait_with_output().map_err(failed)?;
     feeder.join().expect("the feeder ends");
-    String::from_utf8(output.stdout).map_err(|_| format!("{program} printed what is no text"))
+    if !output.status.success() {
+        return Err(format!("{PROGRAM} ended with {}", output.status));
+    }
+    String::from_utf8(output.stdout).map_err(|_| format!("{PROGRAM} printed what is no text"))
 }
 
-// Compares the program with the paper on every hostile input and on some random ones.
-pub fn compare(program: &str, seed: u64, cases: u64) -> Result<String, String> {
-    let inputs = hostile().into_iter().chain((0..cases).map(|number| random(&mut Rng::of_case(seed, 99, number))));
+// Compares the program with the paper on every input made on purpose and on some random ones.
+pub fn compare(seed: u64, cases: u64) -> Result<String, String> {
+    let inputs = deliberate().into_iter().chain((0..cases).map(|number| random(&mut Rng::of_case(seed, 99, number))));
     let mut compared = 0;
     for input in inputs {
-        let (got, right) = (run(program, &input)?, report(&input));
+        let (got, right) = (run(&input)?, report(&input));
         if got != right {
             let shown = String::from_utf8_lossy(&input[..input.len().min(300)]).into_owned();
             return Err(format!("input {compared} of {} bytes, {shown:?}: got {got:?} and not {right:?}", input.len()));
         }
         compared += 1;
     }
-    Ok(format!("{compared} inputs"))
+    Ok(format!("{compared} inputs, each with exit status 0"))
 }

@@ -1,5 +1,7 @@
 // The job and the answers as types, and the trait that each implementation of document 01's operations fills.
 
+use crate::build::{self, Fields};
+
 // A stack travels as twelve signed places, top first, unused places zero.
 pub type Stack = [i8; 12];
 
@@ -10,6 +12,29 @@ pub enum Phase {
     Blanking,
     Level(u8),
     Finished(u8),
+    // A phase number and a level that are no phase: only C's mirror of the job can hold them.
+    NoPhase(u8, u8),
+}
+
+impl Phase {
+    // The phase number and the level of C's mirror.
+    pub fn numbers(self) -> (u8, u8) {
+        match self {
+            Phase::Blanking => (0, 0),
+            Phase::Level(d) => (1, d),
+            Phase::Finished(deepest) => (2, deepest),
+            Phase::NoPhase(number, level) => (number, level),
+        }
+    }
+
+    pub fn of_numbers(number: u8, level: u8) -> Phase {
+        match (number, level) {
+            (0, 0) => Phase::Blanking,
+            (1, d) => Phase::Level(d),
+            (2, deepest) => Phase::Finished(deepest),
+            _ => Phase::NoPhase(number, level),
+        }
+    }
 }
 
 // A build: size is document 01's S, room its C.
@@ -26,7 +51,7 @@ pub struct Job {
     pub counts: [u64; 32],
 }
 
-// What stands beside a refusal of Begin.
+// What stands beside a refusal of Begin and of Build the whole table.
 pub const NO_JOB: Job = Job {
     kind: 0,
     n: 0,
@@ -40,7 +65,7 @@ pub const NO_JOB: Job = Job {
 };
 
 // In each answer, refusal is the refusal's number, and 0 where the call did its work.
-// What stands beside a refusal: index 0, NO_STACK, the job as given (NO_JOB from Begin), false and 0, entry 0, no turns.
+// What stands beside a refusal: index 0, NO_STACK, the job as given (NO_JOB from Begin and Build), false and 0, entry 0, no turns.
 #[derive(Clone, Copy, PartialEq, Eq, Debug)]
 pub struct Indexed {
     pub refusal: u8,
@@ -101,4 +126,19 @@ pub trait System {
     fn close(&self, job: &Job) -> Answer;
     fn read_entry(&self, kind: u8, n: u8, table: &[u8], index: u32) -> Entry;
     fn plan(&self, kind: u8, n: u8, wanted: Stack, given: Stack, table: &[u8], list: &mut [u8]) -> Planned;
+
+    // Build the whole table. Unless a system has a call for it, it makes its own calls, in rising order; the order shows in the log area alone.
+    #[allow(clippy::too_many_arguments)]
+    fn build_table(
+        &self,
+        kind: u8,
+        n: u8,
+        wanted: Stack,
+        size: u32,
+        room: u32,
+        table: &mut [u8],
+        logs: &mut [u32],
+    ) -> Answer {
+        build::whole_table(self, &Fields { kind, n, wanted, size, room }, table, logs)
+    }
 }

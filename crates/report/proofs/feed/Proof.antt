@@ -1,19 +1,23 @@
 -- `report::feed` meets its contract: it goes through the part character by character.
-use mathlib.Core.Path.{_≡_}
+use mathlib.Core.Path.{_≡_, refl, _∙_}
 use Prim.Native.Nat.{_-_, _≤_}
-use lib.ListN.{length}
+use lib.ListN.{length, drop}
+use Rattle.session.specs.Reader.{readAll}
+use Rattle.session.proofs.ReadLaws.{read-none, read-more}
+use native.Mathlib.Omega.{arith}
 use borrow.Author.Needs.{needs}
 use Rattle.report.proofs.feed.Statement.{statement}
 use Rattle.report.proofs.feed.Tie as tie
 
 abbrev Inv-loop : tie.InvT-loop
-Inv-loop table₀ chunk out₀ now₀ i₀ table out now i = (i ≤ length chunk) × (length table ≡ length table₀)
+Inv-loop table₀ chunk out₀ now₀ i₀ table out now i =
+    (i ≤ length chunk) × (length table ≡ length table₀) × (readAll now table (drop i chunk) ≡ readAll now₀ table₀ chunk)
 
 abbrev μ-loop : tie.MeasureT-loop
 μ-loop table₀ chunk out₀ now₀ i₀ table out now i = length chunk - i
 
 loop-holds : tie.Need-loop-holds Inv-loop μ-loop
-loop-holds c = search needs
+loop-holds c = (omega arith, refl, refl)
 
 shared-slice-read-byte-read : tie.Need-shared-slice-read-byte-read Inv-loop μ-loop
 shared-slice-read-byte-read c = search needs
@@ -37,13 +41,22 @@ loop-less : tie.Need-loop-less Inv-loop μ-loop
 loop-less c = search needs
 
 loop-again : tie.Need-loop-again Inv-loop μ-loop
-loop-again c = search needs
+loop-again c =
+    let b = c .before .before .before .before .byte-read in
+    let l = c .before .before .before .before .before .before .before .before .before in
+    let chunk = l .before .before .before .args .chunk .now in (
+      search needs,
+      search needs,
+      read-more (l .loop .now) (l .loop .table) chunk (l .loop .i) (b .result) _ _ _ (search needs) (b .ensures) ∙ l .loop .inv .2,
+    )
 
 same-length : tie.Need-same-length Inv-loop μ-loop
 same-length c = search needs
 
 returns : tie.Need-returns Inv-loop μ-loop
-returns c = search needs
+returns c =
+    let l = c .before .loop in
+    read-none (l .now) (l .table) (c .before .before .before .before .args .chunk .now) (l .i) (omega arith) ∙ l .inv .2
 
 pub feed-spec : {M : Type 1} → statement M
 feed-spec =

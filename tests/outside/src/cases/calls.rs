@@ -5,7 +5,7 @@ use super::lists::{take, useful_call};
 use super::Check;
 use crate::build::{Build, Fields};
 use crate::call::Call;
-use crate::paper::Paper;
+use crate::paper::PAPER;
 use crate::rng::Rng;
 use crate::system::*;
 
@@ -21,11 +21,11 @@ pub fn case(rng: &mut Rng, check: &mut Check) -> Result<(), String> {
 fn played(rng: &mut Rng) -> Build {
     let most = rng.pick(&[6, 48, 120, 120, 384, 720]);
     let fields = right_fields(rng, most);
-    let mut build = Build::begin(&Paper, &fields, rng).expect("right fields are accepted");
+    let mut build = Build::begin(&PAPER, &fields, rng).expect("right fields are accepted");
     let steps = rng.below(300);
     for _ in 0..steps {
         let call = useful_call(rng, &build);
-        let outcome = call.run(&Paper);
+        let outcome = call.run(&PAPER);
         take(&mut build, &call, outcome);
     }
     build
@@ -134,7 +134,7 @@ fn call_on(rng: &mut Rng, build: &Build) -> Call {
     let fitting = match build.job.phase {
         Phase::Blanking => [0, 0, 3, 4],
         Phase::Level(_) => [1, 1, 2, 4],
-        Phase::Finished(_) => [0, 1, 3, 4],
+        Phase::Finished(_) | Phase::NoPhase(..) => [0, 1, 3, 4],
     };
     match if rng.chance(65) { rng.pick(&fitting) } else { rng.below(5) } {
         0 => Call::Blank { job, j, segment },
@@ -150,7 +150,7 @@ fn damage(rng: &mut Rng, job: &mut Job, build: &Build) {
     let segments = build.measures.segments;
     let here = rng.below(segments) as usize;
     let beyond = rng.between(segments.min(63), 63) as usize;
-    match rng.below(16) {
+    match rng.below(17) {
         0 => job.kind = rng.pick(&[0, 1, 2, 255]),
         1 => job.n = rng.pick(&[0, job.n.wrapping_sub(1), job.n + 1, 11, 13, 255]),
         2 => job.wanted = damaged_stack(rng, job.kind, job.n),
@@ -166,7 +166,17 @@ fn damage(rng: &mut Rng, job: &mut Job, build: &Build) {
         12 => job.waiting[here] = job.room.wrapping_add(rng.pick(&[0, 1])),
         13 => job.waiting[beyond] = rng.pick(&[0, 1, u32::MAX]),
         14 => job.counts[rng.below(32) as usize] = rng.pick(&[0, 1 << 60, (1 << 60) + 1, 1 << 61, u64::MAX]),
+        15 => job.phase = no_phase(rng),
         _ => job.wanted = right_stack(rng, job.kind, job.n.clamp(1, 12)),
+    }
+}
+
+// A phase number and a level of C's mirror that are no phase.
+fn no_phase(rng: &mut Rng) -> Phase {
+    let level = rng.pick(&[1, 2, 30, 31, 32, 255]);
+    match rng.pick(&[0, 3, 4, 128, 255]) {
+        0 => Phase::NoPhase(0, level),
+        number => Phase::NoPhase(number, rng.pick(&[0, level])),
     }
 }
 

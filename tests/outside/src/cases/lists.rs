@@ -7,7 +7,7 @@ use super::tables::plan_is_shortest;
 use super::Check;
 use crate::build::{Build, Fields};
 use crate::call::{Call, Outcome};
-use crate::paper::{Paper, COATED};
+use crate::paper::{COATED, PAPER};
 use crate::rng::Rng;
 use crate::search;
 use crate::system::*;
@@ -81,7 +81,7 @@ pub fn case(rng: &mut Rng, check: &mut Check) -> Result<(), String> {
     let fields = right_fields(rng, most);
     let Fields { kind, n, wanted, size, room } = fields;
     let begun = check(Call::Begin { kind, n, wanted, size, room })?;
-    let mut build = Build::begin(&Paper, &fields, rng).expect("right fields are accepted");
+    let mut build = Build::begin(&PAPER, &fields, rng).expect("right fields are accepted");
     build.job = *begun.answer.job().expect("Begin answers a job");
 
     let useful = rng.pick(&[50, 80, 95]);

@@ -9,8 +9,10 @@ mod large;
 mod lists;
 mod stacks;
 mod tables;
+mod whole;
 
 pub use arguments::right_stack;
+pub use tables::walked;
 
 #[derive(Clone, Copy, PartialEq, Debug)]
 pub enum Family {
@@ -24,9 +26,27 @@ pub enum Family {
     Lists,
     // Large n: high indices, long segments and tables.
     Large,
+    // Build the whole table.
+    Whole,
 }
 
-pub const FAMILIES: [Family; 5] = [Family::Stacks, Family::Calls, Family::Tables, Family::Lists, Family::Large];
+pub const FAMILIES: [Family; 6] =
+    [Family::Stacks, Family::Calls, Family::Tables, Family::Lists, Family::Large, Family::Whole];
+
+impl Family {
+    // How many cases of the family make about so many calls.
+    pub fn cases(self, calls: u64) -> u64 {
+        match self {
+            Family::Stacks => calls / 16,
+            Family::Calls => calls / 36,
+            Family::Tables => calls / 150,
+            Family::Lists => calls / 2_000,
+            Family::Large => calls / 4_000,
+            Family::Whole => calls / 300,
+        }
+        .max(1)
+    }
+}
 
 // Runs a call on both systems and gives what they agree on; an error ends the case.
 pub type Check<'a> = dyn FnMut(Call) -> Result<Outcome, String> + 'a;
@@ -38,5 +58,6 @@ pub fn run_case(family: Family, rng: &mut Rng, check: &mut Check) -> Result<(), 
         Family::Tables => tables::case(rng, check),
         Family::Lists => lists::case(rng, check),
         Family::Large => large::case(rng, check),
+        Family::Whole => whole::case(rng, check),
     }
 }

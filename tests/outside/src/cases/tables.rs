@@ -74,21 +74,27 @@ fn table_of(distances: &Distances) -> Vec<u8> {
 
 // Marks a random road from the wanted stack in a table, up to 34 turns long, and gives its end.
 pub fn road(rng: &mut Rng, fields: &Fields, mut table: Vec<u8>) -> (Vec<u8>, Stack) {
-    let Fields { kind, n, wanted, .. } = *fields;
-    let turns: Vec<u8> = paper::turns(kind, n).collect();
     let short = rng.below(30);
     let long = rng.pick(&[short, 28, 29, 30, 30, 31, 31, 32, 34]);
+    let stacks = walked(rng, fields, long, &mut table);
+    (table, stacks[stacks.len() - 1])
+}
+
+// Marks a random road of so many turns, or fewer where it finds no way on, and gives its stacks from the wanted one on.
+pub fn walked(rng: &mut Rng, fields: &Fields, long: u64, table: &mut [u8]) -> Vec<Stack> {
+    let Fields { kind, n, wanted, .. } = *fields;
+    let turns: Vec<u8> = paper::turns(kind, n).collect();
     let mut at = wanted;
     let mut seen = vec![at];
-    paper::set_entry(&mut table, u64::from(paper::index(kind, n, &at)), 0);
+    paper::set_entry(table, u64::from(paper::index(kind, n, &at)), 0);
     for turn in 1..=long {
         let fresh = (0..20).filter(|_| !turns.is_empty()).map(|_| paper::turned(kind, &at, rng.pick(&turns)));
         let Some(next) = fresh.into_iter().find(|next| !seen.contains(next)) else { break };
         at = next;
         seen.push(at);
-        paper::set_entry(&mut table, u64::from(paper::index(kind, n, &at)), (turn % 3) as u8);
+        paper::set_entry(table, u64::from(paper::index(kind, n, &at)), (turn % 3) as u8);
     }
-    (table, at)
+    seen
 }
 
 // Read and Plan on one table, with each argument hostile now and then.

@@ -6,8 +6,8 @@ use Rattle.build.proofs.Advances.{advance-blanks, advance-settles, adva
 use Rattle.build.proofs.advance.advance.Statement.{statement}
 use Rattle.build.proofs.advance.advance.Tie as tie
 
-segments-of-requires : tie.Need-segments-of-requires
-segments-of-requires c κs = search needs
+segment-count-of-requires : tie.Need-segment-count-of-requires
+segment-count-of-requires c κs = search needs
 
 first-open-requires : tie.Need-first-open-requires
 first-open-requires c κs = search needs
@@ -26,7 +26,7 @@ returns c =
     let s = c .before .before .before .before .before .before .before .before .before .before .before in
     let a = s .args in
     let first = c .before .before .before .before .before .before .before .first-open in
-    let segments = c .before .before .before .before .before .before .before .before .segments-of in
+    let segments = c .before .before .before .before .before .before .before .before .segment-count-of in
     let phase = c .before .before .before .before .before .before .is-blanking in
     let f = c .before .before .blank-part in
     advance-blanks (a .job) (a .table .now) (a .log .now) (first .result) (first .ensures) (sym (phase .ensures) ∙ c .before .before .before .before .before .if1 .taken)
@@ -42,7 +42,7 @@ returns-2 c =
     let s = c .before .before .before .before .before .before .before .before .before in
     let a = s .args in
     let first = c .before .before .before .before .before .first-open in
-    let segments = c .before .before .before .before .before .before .segments-of in
+    let segments = c .before .before .before .before .before .before .segment-count-of in
     let phase = c .before .before .before .before .is-blanking in
     let f = c .before .close in
     advance-opens (a .job) (a .table .now) (a .log .now) (s .pre .0) (s .pre .1) (f .result) (f .ensures) (sym (phase .ensures) ∙ c .before .before .before .if1 .taken)
@@ -65,7 +65,7 @@ returns-3 c =
     let s = c .before .before .before .before .before .before .before .before .before .before .before .before .before in
     let a = s .args in
     let first = c .before .before .before .before .before .before .before .before .before .first-open in
-    let segments = c .before .before .before .before .before .before .before .before .before .before .segments-of in
+    let segments = c .before .before .before .before .before .before .before .before .before .before .segment-count-of in
     let phase = c .before .before .before .before .before .before .before .before .is-blanking in
     let pending = c .before .before .before .before .before .before .first-pending in
     let f = c .before .before .settle-part in
@@ -88,7 +88,7 @@ returns-4 c =
     let s = c .before .before .before .before .before .before .before .before .before .before .before .before .before .before .before .before in
     let a = s .args in
     let first = c .before .before .before .before .before .before .before .before .before .before .before .before .first-open in
-    let segments = c .before .before .before .before .before .before .before .before .before .before .before .before .before .segments-of in
+    let segments = c .before .before .before .before .before .before .before .before .before .before .before .before .before .segment-count-of in
     let phase = c .before .before .before .before .before .before .before .before .before .before .before .is-blanking in
     let pending = c .before .before .before .before .before .before .before .before .before .first-pending in
     let f = c .before .before .before .before .expand-part in
@@ -106,7 +106,7 @@ returns-5 c =
     let s = c .before .before .before .before .before .before .before .before .before .before .before in
     let a = s .args in
     let first = c .before .before .before .before .before .before .before .first-open in
-    let segments = c .before .before .before .before .before .before .before .before .segments-of in
+    let segments = c .before .before .before .before .before .before .before .before .segment-count-of in
     let phase = c .before .before .before .before .before .before .is-blanking in
     let pending = c .before .before .before .before .first-pending in
     let f = c .before .close2 in
@@ -118,7 +118,7 @@ pub advance-spec : {M : Type 1} → statement M
 advance-spec =
     tie.close
     (tie.spec
-    segments-of-requires
+    segment-count-of-requires
     first-open-requires
     is-blanking-requires
     blank-part-requires

@@ -9,7 +9,7 @@ use Rattle.search.specs.Entries.{bytesFor}
 use Rattle.search.specs.Promise.{rightWords}
 use Rattle.search.specs.Segments.{segmentCount}
 use Rattle.search.proofs.Coherence.{begin-given}
-use Rattle.search.proofs.Invariant.{Given}
+use Rattle.search.proofs.Terms.{termsWith, Given}
 use Rattle.search.proofs.SegmentLaws.{segment-size-facts, log-room-facts}
 use Rattle.build.proofs.Refusing.{begin-refuses, table-refused, log-refused, none-refused}
 use Rattle.build.proofs.build.build_refusal.Statement.{statement}
@@ -25,13 +25,13 @@ returns c =
     begin-refuses (a .kind) (a .n) (a .wanted) (a .size) (a .room) (a .bytes) (a .words) (f .result) (f .ensures) (c .if1 .taken)
 
 -- what Begin's row lets by
-given : (c : tie.Else1) → let a = c .before .before .args in Given (a .kind) (a .n) (a .wanted) (a .size) (a .room)
+given : (c : tie.Else1) → let a = c .before .before .args in Given (termsWith (a .kind) (a .n) (a .wanted) (a .size) (a .room))
 given c =
     let a = c .before .before .args in
     begin-given (a .kind) (a .n) (a .wanted) (a .size) (a .room) (sym (c .before .begin-refusal .ensures) ∙ c .if1 .left)
 
 stack-count-requires : tie.Need-stack-count-requires
-stack-count-requires c κs = given c .size
+stack-count-requires c κs = given c .in-range
 
 -- the table's right length, and the log area's
 bytes : (c : tie.After-bytes-for) → let a = c .before .before .before .before .args in c .bytes-for .result ≡ bytesFor (stackCount (a .kind) (a .n))

@@ -6,7 +6,7 @@ use borrow.Author.Needs.{needs}
 use borrow.Author.Tests.{lt-ltb, le-ltb}
 use lib.Dec.{ltb}
 use lib.ListN.{getD}
-use Rattle.search.specs.Expand.{firstFrom}
+use Rattle.base.specs.Words.{firstFrom}
 use Rattle.search.specs.Drive.{isPending, firstPending}
 use Rattle.search.specs.JobState.{waitingOf}
 use Rattle.build.proofs.Choosing.{Seeks, seek-starts, seek-on, seek-finds, seek-ends}
@@ -19,11 +19,11 @@ Inv-loop segments waiting t₀ t = (segments ≤ 64) × (t ≤ segments) × Seek
 abbrev μ-loop : tie.MeasureT-loop
 μ-loop segments waiting t₀ t = segments - t
 
-segments-of-requires : tie.Need-segments-of-requires Inv-loop μ-loop
-segments-of-requires c κs = search needs
+segment-count-of-requires : tie.Need-segment-count-of-requires Inv-loop μ-loop
+segment-count-of-requires c κs = search needs
 
 loop-holds : tie.Need-loop-holds Inv-loop μ-loop
-loop-holds c = (c .before .segments-of .ensures .1, omega arith, seek-starts (λ k. ltb 0 (getD (c .before .before .args .job .waiting) k 0)) (c .before .segments-of .result))
+loop-holds c = (c .before .segment-count-of .ensures .1, omega arith, seek-starts (λ k. ltb 0 (getD (c .before .before .args .job .waiting) k 0)) (c .before .segment-count-of .result))
 
 cast-if1 : tie.Need-cast-if1 Inv-loop μ-loop
 cast-if1 c = omega arith
@@ -40,7 +40,7 @@ returns c =
     let l = c .before .before in
     let s = l .before .before in
     let job = s .before .args .job in
-    let G = s .segments-of in
+    let G = s .segment-count-of in
     let t = l .loop .t in
     seek-finds (isPending job) (G .result) t (l .loop .inv .2) (lt-ltb 0 (waitingOf job t) (omega (arith, c .if1 .taken)))
     ∙ ap (firstFrom (isPending job) 0) (G .ensures .0)
@@ -56,7 +56,7 @@ loop-again c =
     let l = c .before .before in
     let s = l .before .before in
     let waiting = s .before .args .job .waiting in
-    let G = s .segments-of in
+    let G = s .segment-count-of in
     let t = l .loop .t in (
       l .loop .inv .0,
       omega arith,
@@ -69,7 +69,7 @@ returns-2 c =
     let l = c .before in
     let s = l .before .before in
     let job = s .before .args .job in
-    let G = s .segments-of in
+    let G = s .segment-count-of in
     seek-ends (isPending job) (G .result) (l .loop .t) (omega arith) (l .loop .inv .2) ∙ ap (firstFrom (isPending job) 0) (G .ensures .0)
 
 pub first-pending-spec : {M : Type 1} → statement M
@@ -78,7 +78,7 @@ first-pending-spec =
     (tie.spec
     Inv-loop
     μ-loop
-    segments-of-requires
+    segment-count-of-requires
     loop-holds
     cast-if1
     mul-if1

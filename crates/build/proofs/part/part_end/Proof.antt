@@ -11,8 +11,8 @@ use Rattle.build.proofs.part.part_end.Tie as tie
 part-start-requires : tie.Need-part-start-requires
 part-start-requires c κs = search needs
 
-stacks-of-requires : tie.Need-stacks-of-requires
-stacks-of-requires c κs = search needs
+stack-count-at-requires : tie.Need-stack-count-at-requires
+stack-count-at-requires c κs = search needs
 
 bytes-for-requires : tie.Need-bytes-for-requires
 bytes-for-requires c κs = search needs
@@ -29,14 +29,14 @@ returns : tie.Need-returns
 returns c =
     let s = c .before .before .before .args in
     ap (λ (a : ℕ). a + c .bytes-for .result) (c .before .before .part-start .ensures)
-    ∙ ap (λ (b : ℕ). s .j * (s .job .size / 4) + b) (c .bytes-for .ensures ∙ ap bytesFor (c .before .stacks-of .ensures))
+    ∙ ap (λ (b : ℕ). s .j * (s .job .size / 4) + b) (c .bytes-for .ensures ∙ ap bytesFor (c .before .stack-count-at .ensures))
 
 pub part-end-spec : {M : Type 1} → statement M
 part-end-spec =
     tie.close
     (tie.spec
     part-start-requires
-    stacks-of-requires
+    stack-count-at-requires
     bytes-for-requires
     cast-result
     add-result

@@ -1,5 +1,5 @@
 -- `bytewise::breadth::level` is safe and ends: the index grows up to the length, which no call changes.
-use Prim.Native.Nat.{_≤_, _-_}
+use Prim.Native.Nat.{_-_, _*_, _≤_}
 use lib.ListN.{length}
 use mathlib.Core.Path.{_≡_}
 use borrow.Author.Needs.{needs}
@@ -7,7 +7,7 @@ use Rattle.bytewise.proofs.breadth.level.Statement.{statement}
 use Rattle.bytewise.proofs.breadth.level.Tie as tie
 
 abbrev Inv-loop : tie.InvT-loop
-Inv-loop kind n bytes₀ d found₀ i₀ bytes found i = (i ≤ length bytes₀) × (length bytes ≡ length bytes₀)
+Inv-loop kind n bytes₀ d found₀ i₀ bytes found i = (i ≤ length bytes₀) × (length bytes ≡ length bytes₀) × (found ≤ 12 * i)
 
 abbrev μ-loop : tie.MeasureT-loop
 μ-loop kind n bytes₀ d found₀ i₀ bytes found i = length bytes₀ - i
@@ -18,8 +18,8 @@ loop-holds c = search needs
 spread-from-requires : tie.Need-spread-from-requires Inv-loop μ-loop
 spread-from-requires c κs = search needs
 
-wrapping-add-u64-requires : tie.Need-wrapping-add-u64-requires Inv-loop μ-loop
-wrapping-add-u64-requires c κs = search needs
+add-found : tie.Need-add-found Inv-loop μ-loop
+add-found c = search needs
 
 add-i : tie.Need-add-i Inv-loop μ-loop
 add-i c = search needs
@@ -44,7 +44,7 @@ level-spec =
     μ-loop
     loop-holds
     spread-from-requires
-    wrapping-add-u64-requires
+    add-found
     add-i
     loop-less
     loop-again

@@ -1,4 +1,5 @@
 -- `bytewise::breadth::spread` is safe and ends: the turns left fall from n, and no length changes.
+use Prim.Native.Nat.{_-_, _≤_}
 use lib.ListN.{length}
 use mathlib.Core.Path.{_≡_}
 use borrow.Author.Needs.{needs}
@@ -6,7 +7,7 @@ use Rattle.bytewise.proofs.breadth.spread.Statement.{statement}
 use Rattle.bytewise.proofs.breadth.spread.Tie as tie
 
 abbrev Inv-loop : tie.InvT-loop
-Inv-loop kind n bytes₀ i mark parent found₀ least k₀ bytes found k = length bytes ≡ length bytes₀
+Inv-loop kind n bytes₀ i mark parent found₀ least k₀ bytes found k = (length bytes ≡ length bytes₀) × (k ≤ n) × (found ≤ n - k)
 
 abbrev μ-loop : tie.MeasureT-loop
 μ-loop kind n bytes₀ i mark parent found₀ least k₀ bytes found k = k
@@ -29,8 +30,8 @@ rank-requires c κs = search needs
 reach-requires : tie.Need-reach-requires Inv-loop μ-loop
 reach-requires c κs = search needs
 
-wrapping-add-u64-requires : tie.Need-wrapping-add-u64-requires Inv-loop μ-loop
-wrapping-add-u64-requires c κs = search needs
+add-found : tie.Need-add-found Inv-loop μ-loop
+add-found c = search needs
 
 sub-k : tie.Need-sub-k Inv-loop μ-loop
 sub-k c = search needs
@@ -59,7 +60,7 @@ spread-spec =
     turned-requires
     rank-requires
     reach-requires
-    wrapping-add-u64-requires
+    add-found
     sub-k
     loop-less
     loop-again

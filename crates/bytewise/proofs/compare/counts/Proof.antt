@@ -5,7 +5,7 @@ use Rattle.bytewise.proofs.compare.counts.Statement.{statement}
 use Rattle.bytewise.proofs.compare.counts.Tie as tie
 
 abbrev Inv-loop : tie.InvT-loop
-Inv-loop a b differ₀ d₀ differ d = d ≤ 32
+Inv-loop a b differ₀ d₀ differ d = (d ≤ 32) × (differ ≤ d)
 
 abbrev μ-loop : tie.MeasureT-loop
 μ-loop a b differ₀ d₀ differ d = 32 - d
@@ -28,8 +28,8 @@ array-read-count-differs-2 c = search needs
 count-differs-requires : tie.Need-count-differs-requires Inv-loop μ-loop
 count-differs-requires c κs = search needs
 
-wrapping-add-u64-requires : tie.Need-wrapping-add-u64-requires Inv-loop μ-loop
-wrapping-add-u64-requires c κs = search needs
+add-differ : tie.Need-add-differ Inv-loop μ-loop
+add-differ c = search needs
 
 add-d : tie.Need-add-d Inv-loop μ-loop
 add-d c = search needs
@@ -55,7 +55,7 @@ counts-spec =
     mul-count-differs-2
     array-read-count-differs-2
     count-differs-requires
-    wrapping-add-u64-requires
+    add-differ
     add-d
     loop-less
     loop-again

@@ -6,13 +6,10 @@ use Rattle.bytewise.proofs.compare.entries.Statement.{statement}
 use Rattle.bytewise.proofs.compare.entries.Tie as tie
 
 abbrev Inv-loop : tie.InvT-loop
-Inv-loop kind n table bytes differ₀ i₀ differ i = i ≤ length bytes
+Inv-loop kind n table bytes differ₀ i₀ differ i = (i ≤ length bytes) × (differ ≤ i)
 
 abbrev μ-loop : tie.MeasureT-loop
 μ-loop kind n table bytes differ₀ i₀ differ i = length bytes - i
-
-returns : tie.Need-returns Inv-loop μ-loop
-returns c = search needs
 
 loop-holds : tie.Need-loop-holds Inv-loop μ-loop
 loop-holds c = search needs
@@ -26,8 +23,8 @@ shared-slice-read-entry-differs c = search needs
 entry-differs-requires : tie.Need-entry-differs-requires Inv-loop μ-loop
 entry-differs-requires c κs = search needs
 
-wrapping-add-u64-requires : tie.Need-wrapping-add-u64-requires Inv-loop μ-loop
-wrapping-add-u64-requires c κs = search needs
+add-differ : tie.Need-add-differ Inv-loop μ-loop
+add-differ c = search needs
 
 add-i : tie.Need-add-i Inv-loop μ-loop
 add-i c = search needs
@@ -38,8 +35,8 @@ loop-less c = search needs
 loop-again : tie.Need-loop-again Inv-loop μ-loop
 loop-again c = search needs
 
-returns-2 : tie.Need-returns-2 Inv-loop μ-loop
-returns-2 c = search needs
+returns : tie.Need-returns Inv-loop μ-loop
+returns c = search needs
 
 pub entries-spec : {M : Type 1} → statement M
 entries-spec =
@@ -47,13 +44,12 @@ entries-spec =
     (tie.spec
     Inv-loop
     μ-loop
-    returns
     loop-holds
     cast-entry-differs
     shared-slice-read-entry-differs
     entry-differs-requires
-    wrapping-add-u64-requires
+    add-differ
     add-i
     loop-less
     loop-again
-    returns-2)
+    returns)

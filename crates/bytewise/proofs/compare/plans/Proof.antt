@@ -6,7 +6,7 @@ use Rattle.bytewise.proofs.compare.plans.Statement.{statement}
 use Rattle.bytewise.proofs.compare.plans.Tie as tie
 
 abbrev Inv-loop : tie.InvT-loop
-Inv-loop kind n goal table bytes differ₀ i₀ differ i = i ≤ length bytes
+Inv-loop kind n goal table bytes differ₀ i₀ differ i = (i ≤ length bytes) × (differ ≤ i)
 
 abbrev μ-loop : tie.MeasureT-loop
 μ-loop kind n goal table bytes differ₀ i₀ differ i = length bytes - i
@@ -20,8 +20,8 @@ shared-slice-read-plan-differs c = search needs
 plan-differs-requires : tie.Need-plan-differs-requires Inv-loop μ-loop
 plan-differs-requires c κs = search needs
 
-wrapping-add-u64-requires : tie.Need-wrapping-add-u64-requires Inv-loop μ-loop
-wrapping-add-u64-requires c κs = search needs
+add-differ : tie.Need-add-differ Inv-loop μ-loop
+add-differ c = search needs
 
 add-i : tie.Need-add-i Inv-loop μ-loop
 add-i c = search needs
@@ -44,7 +44,7 @@ plans-spec =
     loop-holds
     shared-slice-read-plan-differs
     plan-differs-requires
-    wrapping-add-u64-requires
+    add-differ
     add-i
     loop-less
     loop-again

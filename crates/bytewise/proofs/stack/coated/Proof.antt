@@ -12,9 +12,6 @@ Inv-loop n index next₀ left₀ p₀ next left p = (p ≤ n) × (length next �
 abbrev μ-loop : tie.MeasureT-loop
 μ-loop n index next₀ left₀ p₀ next left p = p
 
-returns : tie.Need-returns Inv-loop μ-loop
-returns c = search needs
-
 loop-holds : tie.Need-loop-holds Inv-loop μ-loop
 loop-holds c = search needs
 
@@ -42,8 +39,8 @@ loop-less c = search needs
 loop-again : tie.Need-loop-again Inv-loop μ-loop
 loop-again c = search needs
 
-returns-2 : tie.Need-returns-2 Inv-loop μ-loop
-returns-2 c = search needs
+returns : tie.Need-returns Inv-loop μ-loop
+returns c = search needs
 
 pub coated-spec : {M : Type 1} → statement M
 coated-spec =
@@ -51,7 +48,6 @@ coated-spec =
     (tie.spec
     Inv-loop
     μ-loop
-    returns
     loop-holds
     sub-p
     array-read-next
@@ -61,4 +57,4 @@ coated-spec =
     array-write-next
     loop-less
     loop-again
-    returns-2)
+    returns)

@@ -12,9 +12,6 @@ Inv-loop p stack next₀ pane q₀ next q = (q ≤ 12) × (length next ≡ 12)
 abbrev μ-loop : tie.MeasureT-loop
 μ-loop p stack next₀ pane q₀ next q = 12 - q
 
-returns : tie.Need-returns Inv-loop μ-loop
-returns c = search needs
-
 array-read-pane : tie.Need-array-read-pane Inv-loop μ-loop
 array-read-pane c = search needs
 
@@ -42,8 +39,8 @@ loop-less c = search needs
 loop-again : tie.Need-loop-again Inv-loop μ-loop
 loop-again c = search needs
 
-returns-2 : tie.Need-returns-2 Inv-loop μ-loop
-returns-2 c = search needs
+returns : tie.Need-returns Inv-loop μ-loop
+returns c = search needs
 
 pub make-room-spec : {M : Type 1} → statement M
 make-room-spec =
@@ -51,7 +48,6 @@ make-room-spec =
     (tie.spec
     Inv-loop
     μ-loop
-    returns
     array-read-pane
     add-q
     loop-holds
@@ -61,4 +57,4 @@ make-room-spec =
     add-q-2
     loop-less
     loop-again
-    returns-2)
+    returns)

@@ -1,5 +1,7 @@
 -- `bytewise::stack::order_at` is safe and ends: the place falls from n.
-use Prim.Native.Nat.{_≤_}
+use Prim.Native.Nat.{_≤_, _<_, _-_}
+use native.Mathlib.Nat.{mod-lt}
+use native.Mathlib.Omega.{arith}
 use borrow.Author.Needs.{needs}
 use Rattle.bytewise.proofs.stack.order_at.Statement.{statement}
 use Rattle.bytewise.proofs.stack.order_at.Tie as tie
@@ -9,9 +11,6 @@ Inv-loop n index stack₀ left₀ p₀ stack left p = (p ≤ n) × (n ≤ 12)
 
 abbrev μ-loop : tie.MeasureT-loop
 μ-loop n index stack₀ left₀ p₀ stack left p = p
-
-returns : tie.Need-returns Inv-loop μ-loop
-returns c = search needs
 
 loop-holds : tie.Need-loop-holds Inv-loop μ-loop
 loop-holds c = search needs
@@ -26,10 +25,14 @@ rem-stack : tie.Need-rem-stack Inv-loop μ-loop
 rem-stack c = search needs
 
 cast-stack : tie.Need-cast-stack Inv-loop μ-loop
-cast-stack c = search needs
+cast-stack c =
+    let some : 0 < c .before .before .args .n - (c .before .loop .p - 1) = omega arith in
+    omega (arith, mod-lt (c .before .loop .left) some)
 
 add-stack : tie.Need-add-stack Inv-loop μ-loop
-add-stack c = search needs
+add-stack c =
+    let some : 0 < c .before .before .args .n - (c .before .loop .p - 1) = omega arith in
+    omega (arith, mod-lt (c .before .loop .left) some)
 
 array-write-stack : tie.Need-array-write-stack Inv-loop μ-loop
 array-write-stack c = search needs
@@ -49,8 +52,8 @@ loop-less c = search needs
 loop-again : tie.Need-loop-again Inv-loop μ-loop
 loop-again c = search needs
 
-returns-2 : tie.Need-returns-2 Inv-loop μ-loop
-returns-2 c = search needs
+returns : tie.Need-returns Inv-loop μ-loop
+returns c = search needs
 
 pub order-at-spec : {M : Type 1} → statement M
 order-at-spec =
@@ -58,7 +61,6 @@ order-at-spec =
     (tie.spec
     Inv-loop
     μ-loop
-    returns
     loop-holds
     sub-p
     sub-stack
@@ -71,4 +73,4 @@ order-at-spec =
     make-room-requires
     loop-less
     loop-again
-    returns-2)
+    returns)

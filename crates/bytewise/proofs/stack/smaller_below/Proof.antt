@@ -1,20 +1,14 @@
--- `bytewise::stack::smaller_below` is safe and ends, and finds at most one for each place passed.
-use Prim.Native.Nat.{_≤_, _-_}
+-- `bytewise::stack::smaller_below` is safe and ends, and finds fewer than the places passed.
+use Prim.Native.Nat.{_≤_, _<_, _-_}
 use borrow.Author.Needs.{needs}
 use Rattle.bytewise.proofs.stack.smaller_below.Statement.{statement}
 use Rattle.bytewise.proofs.stack.smaller_below.Tie as tie
 
 abbrev Inv-loop : tie.InvT-loop
-Inv-loop n p stack pane found₀ q₀ found q = (q ≤ n) × (found ≤ q)
+Inv-loop n p stack pane found₀ q₀ found q = (q ≤ n) × (found < q)
 
 abbrev μ-loop : tie.MeasureT-loop
 μ-loop n p stack pane found₀ q₀ found q = n - q
-
-returns : tie.Need-returns Inv-loop μ-loop
-returns c = search needs
-
-returns-2 : tie.Need-returns-2 Inv-loop μ-loop
-returns-2 c = search needs
 
 array-read-pane : tie.Need-array-read-pane Inv-loop μ-loop
 array-read-pane c = search needs
@@ -43,8 +37,8 @@ loop-less c = search needs
 loop-again : tie.Need-loop-again Inv-loop μ-loop
 loop-again c = search needs
 
-returns-3 : tie.Need-returns-3 Inv-loop μ-loop
-returns-3 c = search needs
+returns : tie.Need-returns Inv-loop μ-loop
+returns c = search needs
 
 pub smaller-below-spec : {M : Type 1} → statement M
 smaller-below-spec =
@@ -52,8 +46,6 @@ smaller-below-spec =
     (tie.spec
     Inv-loop
     μ-loop
-    returns
-    returns-2
     array-read-pane
     add-q
     loop-holds
@@ -63,4 +55,4 @@ smaller-below-spec =
     add-q-2
     loop-less
     loop-again
-    returns-3)
+    returns)

@@ -5,7 +5,7 @@ use Prim.Native.Nat.{ℕ}
 use borrow.Author.Needs.{needs}
 use lib.ListN.{length, set}
 use Rattle.search.specs.Blank.{blankRefusal, blanked, blankOf}
-use Rattle.search.specs.JobState.{stacksOf, progressed}
+use Rattle.search.specs.JobState.{stackCountAt, progressed}
 use Rattle.search.specs.declared.Answer.{Answer}
 use Rattle.search.specs.declared.Job.{Job}
 use Rattle.search.proofs.Accepted.{blank-facts, blank-accepted, blank-refused}
@@ -18,7 +18,7 @@ module _ (job : Job) (j : ℕ) (segment : List ℕ) (r : ℕ) (e : r ≡ blankRe
       ap (λ (q : ℕ). (segment, record { refusal = q; job = job })) e ∙ sym (blank-refused job j segment (λ z. h (e ∙ z)))
 
   accepted : (after : List ℕ) (next : Job) → r ≡ 0 → after ≡ blanked job j
-      → next ≡ progressed job (job .phase) (set (job .passed) j (stacksOf job j)) (job .waiting) (job .counts)
+      → next ≡ progressed job (job .phase) (set (job .passed) j (stackCountAt job j)) (job .waiting) (job .counts)
       → _≡_ {A = List ℕ × Answer} (after, record { refusal = 0; job = next }) (blankOf job j segment)
   accepted after next h k n = rw (k, n) (sym (blank-accepted job j segment (sym e ∙ h)))
 

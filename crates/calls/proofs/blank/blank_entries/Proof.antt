@@ -6,7 +6,7 @@ use native.Mathlib.Omega.{arith}
 use borrow.Author.Needs.{needs}
 use lib.ListN.{length}
 use Rattle.search.specs.Entries.{bytesFor, blank, setEntry}
-use Rattle.search.specs.JobState.{stacksOf}
+use Rattle.search.specs.JobState.{stackCountAt}
 use Rattle.search.proofs.EntryLaws.{blank-length}
 use Rattle.calls.proofs.Blanking.{blank-is, blanked-other, blanked-here, goal-inside}
 use Rattle.job.proofs.Bounds.{coherent-bounds}
@@ -20,7 +20,7 @@ rank-requires : tie.Need-rank-requires
 rank-requires c κs =
     let s = c .before .before .before .before .before .before in
     let b = coherent-bounds (s .args .job) (s .pre .0) in
-    (b .is-size, b .is-stack)
+    (b .is-pane-count, b .is-stack)
 
 div-if1 : tie.Need-div-if1
 div-if1 c =
@@ -31,10 +31,10 @@ same-length : tie.Need-same-length
 same-length c = search needs
 
 -- the bytes once they are all 255
-blanks : (c : tie.After-blank-bytes) → let a = c .before .before .before .args in c .blank-bytes .last .0 ≡ blank (stacksOf (a .job) (a .j))
+blanks : (c : tie.After-blank-bytes) → let a = c .before .before .before .args in c .blank-bytes .last .0 ≡ blank (stackCountAt (a .job) (a .j))
 blanks c =
     let s = c .before .before .before in
-    blank-is (stacksOf (s .args .job) (s .args .j)) (s .args .segment .now) (c .blank-bytes .last .0) (s .pre .1) (c .blank-bytes .ensures)
+    blank-is (stackCountAt (s .args .job) (s .args .j)) (s .args .segment .now) (c .blank-bytes .last .0) (s .pre .1) (c .blank-bytes .ensures)
 
 returns : tie.Need-returns
 returns c =
@@ -54,8 +54,8 @@ set-entry-requires c κs =
     let b = r .before .before .before .before in
     let s = b .before .before .before in
     let h = goal-inside (s .args .job) (s .args .j) (r .rank .result) (r .rank .ensures) (s .pre .0) (c .before .if1 .left) in
-    let l : length (b .blank-bytes .last .0) ≡ bytesFor (stacksOf (s .args .job) (s .args .j)) =
-    ap length (blanks b) ∙ blank-length (stacksOf (s .args .job) (s .args .j)) in
+    let l : length (b .blank-bytes .last .0) ≡ bytesFor (stackCountAt (s .args .job) (s .args .j)) =
+    ap length (blanks b) ∙ blank-length (stackCountAt (s .args .job) (s .args .j)) in
     (omega arith, rw l h)
 
 same-length-2 : tie.Need-same-length-2

@@ -9,14 +9,14 @@ use lib.ListN.{getD}
 use Rattle.base.specs.Words.{unless}
 use Rattle.search.specs.Blank.{blankRefusal}
 use Rattle.search.specs.Entries.{bytesFor}
-use Rattle.search.specs.JobState.{isCoherent, isBlanking, segmentsOf, stacksOf, passedOf}
+use Rattle.search.specs.JobState.{isCoherent, isBlanking, segmentCountOf, stackCountAt, passedOf}
 use Rattle.search.specs.declared.Job.{Job}
 use Rattle.calls.proofs.blank.blank_refusal.Statement.{statement}
 use Rattle.calls.proofs.blank.blank_refusal.Tie as tie
 
 -- the row after 7, by what the code has computed
 blank-row : (job : Job) (j bytes : ℕ) (blanking : Bool) (segments stacks length : ℕ) → isCoherent job ≡ true → blanking ≡ isBlanking (job .phase)
-    → segments ≡ segmentsOf job → stacks ≡ stacksOf job j → length ≡ bytesFor (stacksOf job j)
+    → segments ≡ segmentCountOf job → stacks ≡ stackCountAt job j → length ≡ bytesFor (stackCountAt job j)
     → unless blanking 8 (unless (ltb j segments) 9 (unless (eqb bytes length) 10 (unless (ltb (getD (job .passed) j 0) stacks) 11 0)))
     ≡ blankRefusal job j bytes
 unfolding blankRefusal passedOf
@@ -35,11 +35,11 @@ is-blanking-requires c κs = search needs
 coherent : (c : tie.Else1) → isCoherent (c .before .before .args .job) ≡ true
 coherent c = sym (c .before .is-coherent .ensures) ∙ not-false (c .before .is-coherent .result) (c .if1 .left)
 
-segments-of-requires : tie.Need-segments-of-requires
-segments-of-requires c κs = coherent (c .before)
+segment-count-of-requires : tie.Need-segment-count-of-requires
+segment-count-of-requires c κs = coherent (c .before)
 
-stacks-of-requires : tie.Need-stacks-of-requires
-stacks-of-requires c κs = coherent (c .before .before)
+stack-count-at-requires : tie.Need-stack-count-at-requires
+stack-count-at-requires c κs = coherent (c .before .before)
 
 bytes-for-requires : tie.Need-bytes-for-requires
 bytes-for-requires c κs = search needs
@@ -51,20 +51,20 @@ row : (c : tie.After-bytes-for) → let m = c .before in
     let g = m .before in
     let a = g .before .before .before .before .args in
     unless (g .before .is-blanking .result) 8
-    (unless (ltb (a .j) (g .segments-of .result)) 9
-    (unless (eqb (a .bytes) (c .bytes-for .result)) 10 (unless (ltb (getD (a .job .passed) (a .j) 0) (m .stacks-of .result)) 11 0)))
+    (unless (ltb (a .j) (g .segment-count-of .result)) 9
+    (unless (eqb (a .bytes) (c .bytes-for .result)) 10 (unless (ltb (getD (a .job .passed) (a .j) 0) (m .stack-count-at .result)) 11 0)))
     ≡ blankRefusal (a .job) (a .j) (a .bytes)
 row c =
     let m = c .before in
     let g = m .before in
     let p = g .before in
     let a = p .before .before .before .args in
-    blank-row (a .job) (a .j) (a .bytes) (p .is-blanking .result) (g .segments-of .result) (m .stacks-of .result) (c .bytes-for .result)
+    blank-row (a .job) (a .j) (a .bytes) (p .is-blanking .result) (g .segment-count-of .result) (m .stack-count-at .result) (c .bytes-for .result)
     (coherent (p .before))
     (p .is-blanking .ensures)
-    (g .segments-of .ensures .0)
-    (m .stacks-of .ensures)
-    (c .bytes-for .ensures ∙ ap bytesFor (m .stacks-of .ensures))
+    (g .segment-count-of .ensures .0)
+    (m .stack-count-at .ensures)
+    (c .bytes-for .ensures ∙ ap bytesFor (m .stack-count-at .ensures))
 
 returns-2 : tie.Need-returns-2
 returns-2 c =
@@ -75,10 +75,10 @@ in-blanking : (c : tie.Else2) → c .before .before .before .before .before .is-
 in-blanking c = not-false (c .before .before .before .before .before .is-blanking .result) (c .if2 .left)
 
 inside : (c : tie.Else3) → let g = c .before .before .before .before .before in
-    ltb (g .before .before .before .before .args .j) (g .segments-of .result) ≡ true
+    ltb (g .before .before .before .before .args .j) (g .segment-count-of .result) ≡ true
 inside c =
     let g = c .before .before .before .before .before in
-    lt-ltb (g .before .before .before .before .args .j) (g .segments-of .result) (c .if3 .left)
+    lt-ltb (g .before .before .before .before .args .j) (g .segment-count-of .result) (c .if3 .left)
 
 long : (c : tie.Else4) → let b = c .before .before .before .before in
     eqb (b .before .before .before .before .before .before .args .bytes) (b .bytes-for .result) ≡ true
@@ -91,7 +91,7 @@ returns-3 c =
     let e = c .before in
     let b = e .before .before in
     let g = b .before .before in
-    rw (← row b, in-blanking e, le-ltb (g .before .before .before .before .args .j) (g .segments-of .result) (c .if3 .taken))
+    rw (← row b, in-blanking e, le-ltb (g .before .before .before .before .args .j) (g .segment-count-of .result) (c .if3 .taken))
 
 returns-4 : tie.Need-returns-4
 returns-4 c =
@@ -122,7 +122,7 @@ returns-5 c =
       in-blanking (i .before),
       inside i,
       long l,
-      le-ltb (getD (a .job .passed) (a .j) 0) (m .stacks-of .result) (c .if5 .taken),
+      le-ltb (getD (a .job .passed) (a .j) 0) (m .stack-count-at .result) (c .if5 .taken),
     )
 
 returns-6 : tie.Need-returns-6
@@ -137,7 +137,7 @@ returns-6 c =
       in-blanking (i .before),
       inside i,
       long l,
-      lt-ltb (getD (a .job .passed) (a .j) 0) (m .stacks-of .result) (c .if5 .left),
+      lt-ltb (getD (a .job .passed) (a .j) 0) (m .stack-count-at .result) (c .if5 .left),
     )
 
 pub blank-refusal-spec : {M : Type 1} → statement M
@@ -147,8 +147,8 @@ blank-refusal-spec =
     is-coherent-requires
     returns
     is-blanking-requires
-    segments-of-requires
-    stacks-of-requires
+    segment-count-of-requires
+    stack-count-at-requires
     bytes-for-requires
     cast-length
     returns-2

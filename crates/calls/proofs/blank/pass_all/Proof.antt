@@ -8,8 +8,8 @@ use Rattle.job.proofs.Bounds.{segment-below}
 use Rattle.calls.proofs.blank.pass_all.Statement.{statement}
 use Rattle.calls.proofs.blank.pass_all.Tie as tie
 
-stacks-of-requires : tie.Need-stacks-of-requires
-stacks-of-requires c κs = search needs
+stack-count-at-requires : tie.Need-stack-count-at-requires
+stack-count-at-requires c κs = search needs
 
 mul-next : tie.Need-mul-next
 mul-next c = search needs
@@ -21,7 +21,7 @@ returns : tie.Need-returns
 unfolding progressed
 returns c =
     let job = c .before .args .job in
-    ap (λ (m : ℕ). progressed job (job .phase) (set (job .passed) (c .before .args .j) m) (job .waiting) (job .counts)) (c .stacks-of .ensures)
+    ap (λ (m : ℕ). progressed job (job .phase) (set (job .passed) (c .before .args .j) m) (job .waiting) (job .counts)) (c .stack-count-at .ensures)
 
 pub pass-all-spec : {M : Type 1} → statement M
-pass-all-spec = tie.close (tie.spec stacks-of-requires mul-next element-write-next returns)
+pass-all-spec = tie.close (tie.spec stack-count-at-requires mul-next element-write-next returns)

@@ -11,8 +11,8 @@ use lib.ListN.{getD, drop}
 use Rattle.base.specs.Words.{all, from}
 use Rattle.stacks.specs.Stack.{stackCount}
 use Rattle.search.specs.Close.{isDone, isReady}
-use Rattle.search.specs.JobState.{stacksAll, segmentsOf, stacksOf, passedOf, waitingOf}
-use Rattle.search.specs.Segments.{segmentCount, stacksIn}
+use Rattle.search.specs.JobState.{stackCountOf, segmentCountOf, stackCountAt, passedOf, waitingOf}
+use Rattle.search.specs.Segments.{segmentCount, stackCountIn}
 use Rattle.search.specs.declared.Job.{Job}
 use Rattle.job.proofs.Bounds.{coherent-bounds}
 use Rattle.job.proofs.Scans.{upto-on, upto-fails, upto-end}
@@ -21,11 +21,11 @@ use Rattle.calls.proofs.close.is_ready.Tie as tie
 
 -- the test of segment j, by N, S and the two arrays
 abbrev done : ℕ → ℕ → List ℕ → List ℕ → ℕ → Bool
-done N S passed waiting j = eqb (getD passed j 0) (stacksIn N S j) && eqb (getD waiting j 0) 0
+done N S passed waiting j = eqb (getD passed j 0) (stackCountIn N S j) && eqb (getD waiting j 0) 0
 
 ready-is : (job : Job) (N G : ℕ) → N ≡ stackCount (job .kind) (job .n) → G ≡ segmentCount N (job .size)
     → all (done N (job .size) (job .passed) (job .waiting)) (from 0 G) ≡ isReady job
-unfolding isReady isDone passedOf waitingOf stacksOf segmentsOf stacksAll
+unfolding isReady isDone passedOf waitingOf stackCountAt segmentCountOf stackCountOf
 ready-is job N G e g =
     ap (λ (m : ℕ). all (done N (job .size) (job .passed) (job .waiting)) (from 0 m)) g
     ∙ ap (λ (m : ℕ). all (done m (job .size) (job .passed) (job .waiting)) (from 0 (segmentCount m (job .size)))) e
@@ -40,17 +40,17 @@ abbrev μ-loop : tie.MeasureT-loop
 μ-loop size count segments passed waiting j₀ j = segments - j
 
 stack-count-requires : tie.Need-stack-count-requires Inv-loop μ-loop
-stack-count-requires c κs = coherent-bounds (c .args .job) (c .pre) .is-size
+stack-count-requires c κs = coherent-bounds (c .args .job) (c .pre) .is-pane-count
 
 segment-count-requires : tie.Need-segment-count-requires Inv-loop μ-loop
 segment-count-requires c κs = coherent-bounds (c .before .args .job) (c .before .pre) .some
 
 loop-holds : tie.Need-loop-holds Inv-loop μ-loop
-unfolding segmentsOf stacksAll
+unfolding segmentCountOf stackCountOf
 loop-holds c =
     let g = c .before .before in
     let job = g .before .before .args .job in
-    let e : g .segment-count .result ≡ segmentsOf job =
+    let e : g .segment-count .result ≡ segmentCountOf job =
     g .segment-count .ensures ∙ ap (λ (m : ℕ). segmentCount m (job .size)) (g .before .stack-count .ensures) in
     (omega (arith, e, coherent-bounds job (g .before .before .pre) .few), search needs, refl)
 

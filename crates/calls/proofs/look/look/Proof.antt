@@ -6,7 +6,7 @@ use borrow.Author.Needs.{needs}
 use borrow.Author.Tests.{ne-eqb}
 use lib.ListN.{length}
 use Rattle.search.specs.Look.{lookRefusal, lookOf}
-use Rattle.search.specs.Settle.{pending}
+use Rattle.search.specs.Logs.{pending}
 use Rattle.search.specs.declared.Job.{Job}
 use Rattle.search.proofs.Accepted.{look-facts}
 use Rattle.calls.proofs.look.look.Statement.{statement}

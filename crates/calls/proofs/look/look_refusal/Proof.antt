@@ -6,14 +6,14 @@ use borrow.Author.Needs.{needs}
 use borrow.Author.Tests.{lt-ltb, le-ltb, eq-eqb, ne-eqb, not-true, not-false}
 use lib.Dec.{ltb, eqb}
 use Rattle.base.specs.Words.{unless}
-use Rattle.search.specs.JobState.{isCoherent, segmentsOf, logLength}
+use Rattle.search.specs.JobState.{isCoherent, segmentCountOf, logLength}
 use Rattle.search.specs.Look.{lookRefusal}
 use Rattle.search.specs.declared.Job.{Job}
 use Rattle.calls.proofs.look.look_refusal.Statement.{statement}
 use Rattle.calls.proofs.look.look_refusal.Tie as tie
 
 -- the row after 7, by what the code has computed
-look-row : (job : Job) (j words segments area : ℕ) → isCoherent job ≡ true → segments ≡ segmentsOf job → area ≡ logLength job
+look-row : (job : Job) (j words segments area : ℕ) → isCoherent job ≡ true → segments ≡ segmentCountOf job → area ≡ logLength job
     → unless (ltb j segments) 9 (unless (eqb words area) 10 0) ≡ lookRefusal job j words
 unfolding lookRefusal
 look-row job j words segments area h g w = rw (h, g, w)
@@ -28,30 +28,30 @@ returns c = rw (← c .before .is-coherent .ensures, not-true (c .before .is-coh
 coherent : (c : tie.Else1) → isCoherent (c .before .before .args .job) ≡ true
 coherent c = sym (c .before .is-coherent .ensures) ∙ not-false (c .before .is-coherent .result) (c .if1 .left)
 
-segments-of-requires : tie.Need-segments-of-requires
-segments-of-requires c κs = coherent c
+segment-count-of-requires : tie.Need-segment-count-of-requires
+segment-count-of-requires c κs = coherent c
 
 log-length-requires : tie.Need-log-length-requires
 log-length-requires c κs = coherent (c .before)
 
 row : (c : tie.After-log-length) → let g = c .before in
     let a = g .before .before .before .args in
-    unless (ltb (a .j) (g .segments-of .result)) 9 (unless (eqb (a .words) (c .log-length .result)) 10 0) ≡ lookRefusal (a .job) (a .j) (a .words)
+    unless (ltb (a .j) (g .segment-count-of .result)) 9 (unless (eqb (a .words) (c .log-length .result)) 10 0) ≡ lookRefusal (a .job) (a .j) (a .words)
 row c =
     let g = c .before in
     let a = g .before .before .before .args in
-    look-row (a .job) (a .j) (a .words) (g .segments-of .result) (c .log-length .result) (coherent (g .before)) (g .segments-of .ensures .0)
+    look-row (a .job) (a .j) (a .words) (g .segment-count-of .result) (c .log-length .result) (coherent (g .before)) (g .segment-count-of .ensures .0)
     (c .log-length .ensures)
 
 returns-2 : tie.Need-returns-2
 returns-2 c =
     let l = c .before in
     let g = l .before in
-    rw (← row l, le-ltb (g .before .before .before .args .j) (g .segments-of .result) (c .if2 .taken))
+    rw (← row l, le-ltb (g .before .before .before .args .j) (g .segment-count-of .result) (c .if2 .taken))
 
 -- what the test of j has shown where the code goes on
-inside : (c : tie.Else2) → let g = c .before .before in ltb (g .before .before .before .args .j) (g .segments-of .result) ≡ true
-inside c = let g = c .before .before in lt-ltb (g .before .before .before .args .j) (g .segments-of .result) (c .if2 .left)
+inside : (c : tie.Else2) → let g = c .before .before in ltb (g .before .before .before .args .j) (g .segment-count-of .result) ≡ true
+inside c = let g = c .before .before in lt-ltb (g .before .before .before .args .j) (g .segment-count-of .result) (c .if2 .left)
 
 returns-3 : tie.Need-returns-3
 returns-3 c =
@@ -69,7 +69,7 @@ look-refusal-spec =
     (tie.spec
     is-coherent-requires
     returns
-    segments-of-requires
+    segment-count-of-requires
     log-length-requires
     returns-2
     returns-3

@@ -6,8 +6,7 @@ use native.Mathlib.Omega.{arith}
 use borrow.Author.Needs.{needs}
 use lib.ListN.{getD, take, drop}
 use Rattle.search.specs.JobState.{waitingOf}
-use Rattle.search.specs.Segments.{logPart}
-use Rattle.search.specs.Settle.{pending}
+use Rattle.search.specs.Logs.{logPart, pending}
 use Rattle.search.specs.declared.Job.{Job}
 use Rattle.job.proofs.Bounds.{area-small, segment-below, part-within}
 use Rattle.calls.proofs.look.waiting_part.Statement.{statement}

@@ -4,8 +4,7 @@ use Prim.Native.Nat.{_+_, _-_, _≤_}
 use native.Mathlib.Omega.{arith}
 use borrow.Author.Needs.{needs}
 use lib.ListN.{length, getD, drop}
-use Rattle.search.specs.Expand.{Marks, markOne}
-use Rattle.search.specs.Settle.{markAll}
+use Rattle.search.specs.Marks.{Marks, markOne, markAll}
 use Rattle.calls.specs.Marked.{marksOf}
 use Rattle.calls.proofs.Settling.{count-le, marks-on, marks-end}
 use Rattle.calls.proofs.settle.mark_all.Statement.{statement}

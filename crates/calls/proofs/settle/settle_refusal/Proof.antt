@@ -8,8 +8,9 @@ use borrow.Author.Tests.{not-true, not-false}
 use lib.Dec.{ltb}
 use lib.ListN.{length}
 use Rattle.base.specs.Words.{unless, all}
-use Rattle.search.specs.JobState.{stacksOf}
-use Rattle.search.specs.Settle.{pending, settleRefusal}
+use Rattle.search.specs.JobState.{stackCountAt}
+use Rattle.search.specs.Settle.{settleRefusal}
+use Rattle.search.specs.Logs.{pending}
 use Rattle.search.specs.declared.Job.{Job}
 use Rattle.search.proofs.Accepted.{LevelFacts, level-facts}
 use Rattle.job.proofs.Rows.{level-refuses, level-goes-on}
@@ -18,7 +19,7 @@ use Rattle.calls.proofs.settle.settle_refusal.Tie as tie
 
 -- what is left of the row
 abbrev rest : Job → ℕ → List ℕ → ℕ
-rest job j log = unless (all (λ i. ltb i (stacksOf job j)) (pending job j log)) 12 0
+rest job j log = unless (all (λ i. ltb i (stackCountAt job j)) (pending job j log)) 12 0
 
 level-refusal-requires : tie.Need-level-refusal-requires
 level-refusal-requires c κs = search needs
@@ -35,8 +36,8 @@ facts c =
     let a = c .before .before .before .args in
     level-facts (a .job) (a .j) (a .bytes) (length (a .log .now)) 0 (sym (c .before .level-refusal .ensures) ∙ c .if1 .left) .0
 
-stacks-of-requires : tie.Need-stacks-of-requires
-stacks-of-requires c κs = facts c .coherent
+stack-count-at-requires : tie.Need-stack-count-at-requires
+stack-count-at-requires c κs = facts c .coherent
 
 waiting-part-requires : tie.Need-waiting-part-requires
 waiting-part-requires c κs = let f = facts (c .before) in (f .coherent, f .inside, f .wide)
@@ -54,8 +55,8 @@ decides c =
     let f = e .before .level-refusal in
     ap (λ (t : Bool). unless t 12 0)
     (c .offsets-fit .ensures
-    ∙ ap (λ (m : ℕ). all (λ i. ltb i m) (c .before .waiting-part .result .now)) (c .before .before .stacks-of .ensures)
-    ∙ ap (all (λ i. ltb i (stacksOf (a .job) (a .j)))) (c .before .waiting-part .ensures))
+    ∙ ap (λ (m : ℕ). all (λ i. ltb i m) (c .before .waiting-part .result .now)) (c .before .before .stack-count-at .ensures)
+    ∙ ap (all (λ i. ltb i (stackCountAt (a .job) (a .j)))) (c .before .waiting-part .ensures))
     ∙ level-goes-on (a .job) (a .j) (a .bytes) (length (a .log .now)) (rest (a .job) (a .j) (a .log .now)) (f .result) (f .ensures) (e .if1 .left)
 
 returns-2 : tie.Need-returns-2
@@ -70,7 +71,7 @@ settle-refusal-spec =
     (tie.spec
     level-refusal-requires
     returns
-    stacks-of-requires
+    stack-count-at-requires
     waiting-part-requires
     offsets-fit-requires
     returns-2

@@ -9,7 +9,7 @@ use Rattle.stacks.specs.Turn.{firstTurn, turnOf}
 use Rattle.stacks.specs.Index.{rankOf}
 use Rattle.stacks.specs.Stack.{isStack}
 use Rattle.stacks.proofs.Numbering.{unrank-stack, rank-unrank}
-use Rattle.stacks.proofs.Sizes.{size-twelve}
+use Rattle.stacks.proofs.KindLaws.{panes-twelve}
 use Rattle.stacks.proofs.TurnLaws.{first-pos, first-inside}
 use Rattle.expand.proofs.Filling.{filledTo, filled-none, filled-more, filled-all}
 use Rattle.expand.proofs.children.children_of.Statement.{statement}
@@ -33,7 +33,7 @@ loop-holds c =
     let s = c .before .before in
     let size = s .pre .0 in
     let first = c .first-turn .ensures in (
-      size-twelve (s .args .kind) (s .args .n) size,
+      panes-twelve (s .args .kind) (s .args .n) size,
       omega (arith, first-inside (s .args .kind) (s .args .n) size),
       omega arith,
       first-pos (s .args .kind),

@@ -37,8 +37,8 @@ returns c =
 scan-of-requires : tie.Need-scan-of-requires
 scan-of-requires c κs = (given c .coherent, given c .level)
 
-stacks-of-requires : tie.Need-stacks-of-requires
-stacks-of-requires c κs = given (c .before) .coherent
+stack-count-at-requires : tie.Need-stack-count-at-requires
+stack-count-at-requires c κs = given (c .before) .coherent
 
 mul-expand-run : tie.Need-mul-expand-run
 mul-expand-run c = search needs
@@ -73,11 +73,11 @@ expand-run-requires c κs =
     let ok = scanned .before in
     let s = ok .before .before .before .before in
     let a = s .args in
-    run-given (a .job) (a .j) (a .segment .now) (a .log .now) (accepted ok) (scanned .scan-of .ensures) (counted .stacks-of .ensures)
+    run-given (a .job) (a .j) (a .segment .now) (a .log .now) (accepted ok) (scanned .scan-of .ensures) (counted .stack-count-at .ensures)
     (search (needs, s .good .0 .1 .1 .1 .1 .1 .1 .1 .1 .1 .0))
 
-advanced-requires : tie.Need-advanced-requires
-advanced-requires c κs =
+expanded-job-requires : tie.Need-expanded-job-requires
+expanded-job-requires c κs =
     let f = given (c .before .before .before .before .before .before .before .before .before .before .before .before .before) in
     (f .coherent, f .inside)
 
@@ -94,10 +94,10 @@ returns-2 c =
     let scanned = counted .before in
     let ok = scanned .before in
     let a = ok .before .before .before .before .args in
-    answer-is (a .job) (a .j) (a .segment .now) (a .log .now) (accepted ok) (scanned .scan-of .ensures) (counted .stacks-of .ensures)
+    answer-is (a .job) (a .j) (a .segment .now) (a .log .now) (accepted ok) (scanned .scan-of .ensures) (counted .stack-count-at .ensures)
     (ran .expand-run .result)
     (ran .expand-run .ensures)
-    (c .advanced .ensures)
+    (c .expanded-job .ensures)
 
 pub expand-spec : {M : Type 1} → statement M
 expand-spec =
@@ -106,14 +106,14 @@ expand-spec =
     expand-refusal-requires
     returns
     scan-of-requires
-    stacks-of-requires
+    stack-count-at-requires
     mul-expand-run
     array-read-expand-run
     cast-expand-run
     mul-expand-run-2
     array-read-expand-run-2
     expand-run-requires
-    advanced-requires
+    expanded-job-requires
     same-length
     same-length-2
     returns-2)

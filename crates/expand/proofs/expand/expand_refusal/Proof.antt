@@ -22,8 +22,8 @@ returns c =
     let a = c .before .before .args in
     refusal-level (a .job) (a .j) (a .bytes) (a .words) (c .before .level-refusal .ensures) (c .if1 .taken)
 
-stacks-of-requires : tie.Need-stacks-of-requires
-stacks-of-requires c κs = given (c .before) .coherent
+stack-count-at-requires : tie.Need-stack-count-at-requires
+stack-count-at-requires c κs = given (c .before) .coherent
 
 mul-if2 : tie.Need-mul-if2
 mul-if2 c = search needs
@@ -39,14 +39,14 @@ unfolding passedOf
 returns-2 c =
     let ok = c .before .before .before in
     let a = ok .before .before .args in
-    refusal-passed (a .job) (a .j) (a .bytes) (a .words) (ok .before .level-refusal .ensures) (c .before .stacks-of .ensures) (ok .if1 .left) (c .if2 .taken)
+    refusal-passed (a .job) (a .j) (a .bytes) (a .words) (ok .before .level-refusal .ensures) (c .before .stack-count-at .ensures) (ok .if1 .left) (c .if2 .taken)
 
 returns-3 : tie.Need-returns-3
 unfolding passedOf
 returns-3 c =
     let ok = c .before .before .before in
     let a = ok .before .before .args in
-    refusal-none (a .job) (a .j) (a .bytes) (a .words) (ok .before .level-refusal .ensures) (c .before .stacks-of .ensures) (ok .if1 .left) (c .if2 .left)
+    refusal-none (a .job) (a .j) (a .bytes) (a .words) (ok .before .level-refusal .ensures) (c .before .stack-count-at .ensures) (ok .if1 .left) (c .if2 .left)
 
 pub expand-refusal-spec : {M : Type 1} → statement M
 expand-refusal-spec =
@@ -54,7 +54,7 @@ expand-refusal-spec =
     (tie.spec
     level-refusal-requires
     returns
-    stacks-of-requires
+    stack-count-at-requires
     mul-if2
     array-read-if2
     returns-2

@@ -11,11 +11,11 @@ level-of-requires c κs = search needs
 sub-from : tie.Need-sub-from
 sub-from c = rw (c .level-of .ensures) (level-least (c .before .args .job) (c .before .pre .0) (c .before .pre .1))
 
-segments-of-requires : tie.Need-segments-of-requires
-segments-of-requires c κs = search needs
+segment-count-of-requires : tie.Need-segment-count-of-requires
+segment-count-of-requires c κs = search needs
 
 turn-count-requires : tie.Need-turn-count-requires
-turn-count-requires c κs = coherent-bounds (c .before .before .args .job) (c .before .before .pre .0) .is-size
+turn-count-requires c κs = coherent-bounds (c .before .before .args .job) (c .before .before .pre .0) .is-pane-count
 
 next-entry-requires : tie.Need-next-entry-requires
 next-entry-requires c κs = search needs
@@ -24,7 +24,7 @@ returns : tie.Need-returns
 returns c =
     let s = c .before .before .before .before in
     let l = c .before .before .before .level-of in
-    scan-is (s .args .job) (s .args .j) (c .before .before .segments-of .ensures .0)
+    scan-is (s .args .job) (s .args .j) (c .before .before .segment-count-of .ensures .0)
     (c .before .turn-count .ensures)
     (l .ensures)
     (rw (l .ensures) (level-least (s .args .job) (s .pre .0) (s .pre .1)))
@@ -36,7 +36,7 @@ scan-of-spec =
     (tie.spec
     level-of-requires
     sub-from
-    segments-of-requires
+    segment-count-of-requires
     turn-count-requires
     next-entry-requires
     returns)

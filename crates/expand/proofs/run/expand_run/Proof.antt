@@ -3,7 +3,7 @@ use mathlib.Core.Path.{sym, _∙_}
 use mathlib.Core.Logic.{⊎-elim}
 use Prim.Native.Nat.{_-_}
 use native.Mathlib.Omega.{arith}
-use Rattle.stacks.proofs.Sizes.{count-fits}
+use Rattle.stacks.proofs.KindLaws.{count-fits}
 use Rattle.expand.proofs.Fitting.{scan-facts}
 use Rattle.expand.proofs.Running.{RunTo, base-inside, run-none, run-end, run-same, run-byte, run-inside, run-skipped, run-blocked, run-children, run-placed}
 use Rattle.expand.proofs.run.expand_run.Statement.{statement}
@@ -32,12 +32,12 @@ add-children-of c =
     let l = c .before .before .before .before in
     let r = l .before .loop .inv in
     let scan = l .before .before .before .before .before .args .scan in
-    omega (arith, run-inside r (l .loop-test .taken), count-fits (scan .kind) (scan .n) (r .given .fit .is-size))
+    omega (arith, run-inside r (l .loop-test .taken), count-fits (scan .kind) (scan .n) (r .given .fit .is-pane-count))
 
 children-of-requires : tie.Need-children-of-requires Inv-loop μ-loop
 children-of-requires c κs =
     let l = c .before .before .before .before in
-    let r = l .before .loop .inv in (r .given .fit .is-size, run-inside r (l .loop-test .taken))
+    let r = l .before .loop .inv in (r .given .fit .is-pane-count, run-inside r (l .loop-test .taken))
 
 full-segment-requires : tie.Need-full-segment-requires Inv-loop μ-loop
 full-segment-requires c κs =

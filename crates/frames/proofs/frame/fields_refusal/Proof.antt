@@ -10,9 +10,9 @@ use lib.ListN.{length, take}
 use lib.Seq.{length-take-le}
 use Rattle.base.specs.Words.{unless}
 use Rattle.stacks.specs.Stack.{isStack, stackCount}
-use Rattle.stacks.proofs.Sizes.{size-twelve}
+use Rattle.stacks.proofs.KindLaws.{panes-twelve}
 use Rattle.search.specs.Segments.{isSegmentSize}
-use Rattle.frames.specs.Frame.{sizeIn, fieldsRefusal}
+use Rattle.frames.specs.Frame.{stackLimit, sizeIn, fieldsRefusal}
 use Rattle.frames.specs.Hex.{bytesOf}
 use Rattle.frames.proofs.FrameRefusals.{fields-length, fields-limit, fields-rest, wanted-part, size-part}
 use Rattle.frames.proofs.HexLaws.{chars-bytes}
@@ -46,13 +46,13 @@ returns-2 c =
 places-at-requires : tie.Need-places-at-requires
 places-at-requires c κs =
     let a = c .before .before .before in
-    let l = size-twelve (a .args .kind) (a .args .n) (a .pre .0) in
+    let l = panes-twelve (a .args .kind) (a .args .n) (a .pre .0) in
     (l, omega arith)
 
 is-stack-requires : tie.Need-is-stack-requires
 is-stack-requires c κs =
     let a = c .before .before .before .before in
-    size-twelve (a .args .kind) (a .args .n) (a .pre .0)
+    panes-twelve (a .args .kind) (a .args .n) (a .pre .0)
 
 -- the length and the count of stacks pass, and the stack's and the size's tests decide
 rest : (c : tie.After-is-stack) (t : Bool)
@@ -62,7 +62,7 @@ rest : (c : tie.After-is-stack) (t : Bool)
 rest c t q =
     let e = c .before .before .before .before in
     let a = e .before in
-    let limit : stackCount (a .args .kind) (a .args .n) ≤ 46080 = omega (arith, c .before .before .before .stack-count .ensures, c .before .before .if2 .left) in
+    let limit : stackCount (a .args .kind) (a .args .n) ≤ stackLimit = omega (arith, c .before .before .before .stack-count .ensures, c .before .before .if2 .left) in
     fields-rest (a .args .kind) (a .args .n) (bytes a) (bytes-count a ∙ e .if1 .left) limit (c .is-stack .result) t
     (c .is-stack .ensures
     ∙ ap (isStack (a .args .kind) (a .args .n))

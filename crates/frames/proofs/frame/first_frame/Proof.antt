@@ -5,7 +5,7 @@ use native.Mathlib.Omega.{arith}
 use borrow.Author.Needs.{needs}
 use Rattle.frames.specs.Frame.{firstRefusal, firstOf}
 use Rattle.frames.specs.Hex.{bytesOf}
-use Rattle.frames.specs.Lines.{textOf}
+use Rattle.frames.specs.Kept.{textOf}
 use Rattle.frames.proofs.FrameRefusals.{no-first, a-first, kind-is, panes-is, panes-fit, wanted-is, size-is}
 use Rattle.frames.proofs.frame.first_frame.Statement.{statement}
 use Rattle.frames.proofs.frame.first_frame.Tie as tie
@@ -57,8 +57,8 @@ returns-2 c =
     let line = e .before .before .args .line in
     let f = e .before .first-refusal in
     let n = b .byte-at2 .result in
-    a-first (firstRefusal (textOf line)) (f .result) (f .ensures) (bytesOf (textOf line)) (b .before .byte-at .result) n (c .before .places-at .result) (c .number-at .result)
-    (e .if1 .left)
+    a-first (firstRefusal (textOf line)) (f .result) (f .ensures) (bytesOf (textOf line)) (b .before .byte-at .result) n
+    (c .before .places-at .result) (c .number-at .result) (e .if1 .left)
     (b .before .byte-at .ensures ∙ kind-is line (search needs) (accepted e))
     (b .byte-at2 .ensures ∙ panes-is line (search needs) (accepted e))
     (c .before .places-at .ensures ∙ wanted-is line (search needs) (accepted e) n (b .byte-at2 .ensures))

@@ -5,11 +5,11 @@ use Prim.Native.Nat.{ℕ, _/_}
 use borrow.Author.Needs.{needs}
 use borrow.Author.Tests.{not-true, not-false}
 use lib.ListN.{take}
-use Rattle.stacks.specs.Operations.{sizeRefusal}
-use Rattle.perm.proofs.Refusals.{size-refuses, size-goes-on, size-passes}
+use Rattle.stacks.specs.Operations.{kindRefusal}
+use Rattle.perm.proofs.Refusals.{kind-refuses, kind-goes-on, kind-passes}
 use Rattle.frames.specs.Frame.{isFrame, fieldsRefusal, firstRefusal}
 use Rattle.frames.specs.Hex.{bytesOf}
-use Rattle.frames.specs.Lines.{textOf}
+use Rattle.frames.specs.Kept.{textOf}
 use Rattle.frames.proofs.FrameLaws.{frame-count}
 use Rattle.frames.proofs.FrameRefusals.{first-none, first-few, first-row}
 use Rattle.frames.proofs.frame.first_refusal.Statement.{statement}
@@ -37,17 +37,17 @@ byte-at-requires c κs = search needs
 byte-at-requires-2 : tie.Need-byte-at-requires-2
 byte-at-requires-2 c κs = search needs
 
-size-refusal-requires : tie.Need-size-refusal-requires
-size-refusal-requires c κs = search needs
+kind-refusal-requires : tie.Need-kind-refusal-requires
+kind-refusal-requires c κs = search needs
 
 -- what is left to refuse after the kind and n
-abbrev left : tie.After-size-refusal → ℕ
+abbrev left : tie.After-kind-refusal → ℕ
 left c =
     let a = c .before .before .before .before .before .before .before .before .args .line in
     fieldsRefusal (c .before .before .byte-at .result) (c .before .byte-at2 .result) (take (a .length / 2) (bytesOf (a .chars)))
 
-row : (c : tie.After-size-refusal)
-    → sizeRefusal (c .before .before .byte-at .result) (c .before .byte-at2 .result) (left c)
+row : (c : tie.After-kind-refusal)
+    → kindRefusal (c .before .before .byte-at .result) (c .before .byte-at2 .result) (left c)
     ≡ firstRefusal (textOf (c .before .before .before .before .before .before .before .before .args .line))
 row c =
     let t = c .before .before .before .before in
@@ -58,22 +58,23 @@ row c =
 returns-3 : tie.Need-returns-3
 returns-3 c =
     let s = c .before in
-    size-refuses (s .before .before .byte-at .result) (s .before .byte-at2 .result) (left s) (s .size-refusal .result) (s .size-refusal .ensures) (c .if3 .taken)
+    kind-refuses (s .before .before .byte-at .result) (s .before .byte-at2 .result) (left s) (s .kind-refusal .result) (s .kind-refusal .ensures) (c .if3 .taken)
     ∙ row s
 
 fields-refusal-requires : tie.Need-fields-refusal-requires
 fields-refusal-requires c κs =
     let s = c .before in
     let e = s .before .before .before .before .before .before in (
-      size-passes (s .before .before .byte-at .result) (s .before .byte-at2 .result) 0 (sym (s .size-refusal .ensures) ∙ c .if3 .left) .0,
+      kind-passes (s .before .before .byte-at .result) (s .before .byte-at2 .result) 0 (sym (s .kind-refusal .ensures) ∙ c .if3 .left) .0,
       frame-count (e .before .before .args .line) (search needs) (is-one e),
     )
 
 returns-4 : tie.Need-returns-4
 returns-4 c =
     let s = c .before .before in
+    let k = s .kind-refusal in
     c .fields-refusal .ensures
-    ∙ size-goes-on (s .before .before .byte-at .result) (s .before .byte-at2 .result) (left s) (s .size-refusal .result) (s .size-refusal .ensures) (c .before .if3 .left)
+    ∙ kind-goes-on (s .before .before .byte-at .result) (s .before .byte-at2 .result) (left s) (k .result) (k .ensures) (c .before .if3 .left)
     ∙ row s
 
 pub first-refusal-spec : {M : Type 1} → statement M
@@ -85,7 +86,7 @@ first-refusal-spec =
     returns-2
     byte-at-requires
     byte-at-requires-2
-    size-refusal-requires
+    kind-refusal-requires
     returns-3
     fields-refusal-requires
     returns-4)

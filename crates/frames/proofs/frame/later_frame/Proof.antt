@@ -5,7 +5,7 @@ use borrow.Author.Needs.{needs}
 use Rattle.perm.proofs.Refusals.{no-stack, a-stack}
 use Rattle.frames.specs.Frame.{laterRefusal, laterOf, placesOf}
 use Rattle.frames.specs.Hex.{bytesOf}
-use Rattle.frames.specs.Lines.{textOf}
+use Rattle.frames.specs.Kept.{textOf}
 use Rattle.frames.proofs.FrameRefusals.{later-passes, later-panes}
 use Rattle.frames.proofs.frame.later_frame.Statement.{statement}
 use Rattle.frames.proofs.frame.later_frame.Tie as tie

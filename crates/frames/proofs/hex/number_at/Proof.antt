@@ -66,10 +66,11 @@ bytes-make a b c d w x y z e f g h = omega arith
 returns : tie.Need-returns
 returns c =
     let a = c .before .before .before .before .args in
-    bytes-make (getD (bytesOf (a .chars)) (a .i) 0) (getD (bytesOf (a .chars)) (a .i + 1) 0) (getD (bytesOf (a .chars)) (a .i + 2) 0) (getD (bytesOf (a .chars)) (a .i + 3) 0)
+    let bs = bytesOf (a .chars) in
+    bytes-make (getD bs (a .i) 0) (getD bs (a .i + 1) 0) (getD bs (a .i + 2) 0) (getD bs (a .i + 3) 0)
     (c .before .before .before .byte-at .result) (c .before .before .byte-at2 .result) (c .before .byte-at3 .result) (c .byte-at4 .result)
     (c .before .before .before .byte-at .ensures) (c .before .before .byte-at2 .ensures) (c .before .byte-at3 .ensures) (c .byte-at4 .ensures)
-    ∙ number-at-is (bytesOf (a .chars)) (a .i) (omega (arith, chars-bytes (a .chars) (search needs)))
+    ∙ number-at-is bs (a .i) (omega (arith, chars-bytes (a .chars) (search needs)))
 
 pub number-at-spec : {M : Type 1} → statement M
 number-at-spec =

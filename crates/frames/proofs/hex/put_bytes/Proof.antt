@@ -81,7 +81,7 @@ same-length c = omega arith
 returns : tie.Need-returns Inv-loop μ-loop
 returns c =
     let a = c .before .before .before .before .args in
-    (omega arith, put-end (a .out .now) (a .at) (a .bytes .now) (c .before .loop .i) (c .before .loop .out) (omega arith) (c .before .loop .inv .2))
+    put-end (a .out .now) (a .at) (a .bytes .now) (c .before .loop .i) (c .before .loop .out) (omega arith) (c .before .loop .inv .2)
 
 pub put-bytes-spec : {M : Type 1} → statement M
 put-bytes-spec =

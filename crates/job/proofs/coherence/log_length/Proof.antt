@@ -9,8 +9,8 @@ use Rattle.job.proofs.Bounds.{coherent-bounds}
 use Rattle.job.proofs.coherence.log_length.Statement.{statement}
 use Rattle.job.proofs.coherence.log_length.Tie as tie
 
-segments-of-requires : tie.Need-segments-of-requires
-segments-of-requires c κs = search needs
+segment-count-of-requires : tie.Need-segment-count-of-requires
+segment-count-of-requires c κs = search needs
 
 cast-result : tie.Need-cast-result
 cast-result c = search needs
@@ -22,12 +22,12 @@ mul-result : tie.Need-mul-result
 mul-result c =
     let s = c .before .before in
     let h : s .args .job .room ≤ 1048576 = coherent-bounds (s .args .job) (s .pre) .narrow in
-    omega (arith, mul-le-mul (c .before .segments-of .ensures .1) h)
+    omega (arith, mul-le-mul (c .before .segment-count-of .ensures .1) h)
 
 returns : tie.Need-returns
 unfolding logLength
-returns c = ap (λ (g : ℕ). g * c .before .before .args .job .room) (c .before .segments-of .ensures .0)
+returns c = ap (λ (g : ℕ). g * c .before .before .args .job .room) (c .before .segment-count-of .ensures .0)
 
 pub log-length-spec : {M : Type 1} → statement M
 log-length-spec =
-    tie.close (tie.spec segments-of-requires cast-result cast-result-2 mul-result returns)
+    tie.close (tie.spec segment-count-of-requires cast-result cast-result-2 mul-result returns)

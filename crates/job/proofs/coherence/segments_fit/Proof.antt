@@ -10,8 +10,8 @@ use lib.Dec.{leb, ltb}
 use lib.ListN.{getD, drop}
 use Rattle.base.specs.Words.{all, from}
 use Rattle.stacks.specs.Stack.{stackCount}
-use Rattle.search.specs.JobState.{stacksAll, segmentsOf, stacksOf, passedOf, waitingOf, segmentFits}
-use Rattle.search.specs.Segments.{segmentLimit, segmentCount, stacksIn}
+use Rattle.search.specs.JobState.{stackCountOf, segmentCountOf, stackCountAt, passedOf, waitingOf, segmentFits}
+use Rattle.search.specs.Segments.{segmentLimit, segmentCount, stackCountIn}
 use Rattle.search.specs.declared.Job.{Job}
 use Rattle.job.proofs.Bounds.{begun-bounds}
 use Rattle.job.proofs.Scans.{upto-on, upto-fails, upto-end}
@@ -20,11 +20,11 @@ use Rattle.job.proofs.coherence.segments_fit.Tie as tie
 
 -- the test of segment j, by N, S, C, G and the two arrays
 abbrev fits : ℕ → ℕ → ℕ → ℕ → List ℕ → List ℕ → ℕ → Bool
-fits N S C G passed waiting j = leb (getD passed j 0) (stacksIn N S j) && leb (getD waiting j 0) (cond (ltb j G) C 0)
+fits N S C G passed waiting j = leb (getD passed j 0) (stackCountIn N S j) && leb (getD waiting j 0) (cond (ltb j G) C 0)
 
 fits-is : (job : Job) (N G : ℕ) → N ≡ stackCount (job .kind) (job .n) → G ≡ segmentCount N (job .size)
     → all (fits N (job .size) (job .room) G (job .passed) (job .waiting)) (from 0 64) ≡ all (segmentFits job) (from 0 segmentLimit)
-unfolding segmentFits passedOf waitingOf stacksOf segmentsOf stacksAll segmentLimit
+unfolding segmentFits passedOf waitingOf stackCountAt segmentCountOf stackCountOf segmentLimit
 fits-is job N G e g =
     ap (λ (m : ℕ). all (fits N (job .size) (job .room) m (job .passed) (job .waiting)) (from 0 64)) g
     ∙ ap (λ (m : ℕ). all (fits m (job .size) (job .room) (segmentCount m (job .size)) (job .passed) (job .waiting)) (from 0 64)) e
@@ -39,7 +39,7 @@ abbrev μ-loop : tie.MeasureT-loop
 μ-loop size room count segments passed waiting j₀ j = 64 - j
 
 stack-count-requires : tie.Need-stack-count-requires Inv-loop μ-loop
-stack-count-requires c κs = begun-bounds (c .args .job) (c .pre) .is-size
+stack-count-requires c κs = begun-bounds (c .args .job) (c .pre) .is-pane-count
 
 segment-count-requires : tie.Need-segment-count-requires Inv-loop μ-loop
 segment-count-requires c κs = begun-bounds (c .before .args .job) (c .before .pre) .some

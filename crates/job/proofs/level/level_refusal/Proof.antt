@@ -7,15 +7,15 @@ use borrow.Author.Tests.{lt-ltb, le-ltb, eq-eqb, ne-eqb, not-true, not-false}
 use lib.Dec.{ltb, eqb}
 use Rattle.base.specs.Words.{unless}
 use Rattle.search.specs.Entries.{bytesFor}
-use Rattle.search.specs.Expand.{levelRefusal}
-use Rattle.search.specs.JobState.{isCoherent, isLevel, segmentsOf, stacksOf, logLength}
+use Rattle.search.specs.JobState.{isCoherent, isLevel, segmentCountOf, stackCountAt, logLength}
+use Rattle.search.specs.Level.{levelRefusal}
 use Rattle.search.specs.declared.Job.{Job}
 use Rattle.job.proofs.level.level_refusal.Statement.{statement}
 use Rattle.job.proofs.level.level_refusal.Tie as tie
 
 -- the row after 7, by what the code has computed
 level-row : (job : Job) (j bytes words : ℕ) (level : Bool) (segments length area : ℕ) → isCoherent job ≡ true → level ≡ isLevel (job .phase)
-    → segments ≡ segmentsOf job → length ≡ bytesFor (stacksOf job j) → area ≡ logLength job
+    → segments ≡ segmentCountOf job → length ≡ bytesFor (stackCountAt job j) → area ≡ logLength job
     → unless level 8 (unless (ltb j segments) 9 (unless (eqb bytes length) 10 (unless (eqb words area) 10 0)))
     ≡ levelRefusal job j bytes words 0
 unfolding levelRefusal
@@ -34,11 +34,11 @@ is-level-requires c κs = search needs
 coherent : (c : tie.Else1) → isCoherent (c .before .before .args .job) ≡ true
 coherent c = sym (c .before .is-coherent .ensures) ∙ not-false (c .before .is-coherent .result) (c .if1 .left)
 
-segments-of-requires : tie.Need-segments-of-requires
-segments-of-requires c κs = coherent (c .before)
+segment-count-of-requires : tie.Need-segment-count-of-requires
+segment-count-of-requires c κs = coherent (c .before)
 
-stacks-of-requires : tie.Need-stacks-of-requires
-stacks-of-requires c κs = coherent (c .before .before)
+stack-count-at-requires : tie.Need-stack-count-at-requires
+stack-count-at-requires c κs = coherent (c .before .before)
 
 bytes-for-requires : tie.Need-bytes-for-requires
 bytes-for-requires c κs = search needs
@@ -53,7 +53,7 @@ row : (c : tie.After-log-length) → let b = c .before in
     let g = b .before .before in
     let a = g .before .before .before .before .args in
     unless (g .before .is-level .result) 8
-    (unless (ltb (a .j) (g .segments-of .result)) 9
+    (unless (ltb (a .j) (g .segment-count-of .result)) 9
     (unless (eqb (a .bytes) (b .bytes-for .result)) 10 (unless (eqb (a .words) (c .log-length .result)) 10 0)))
     ≡ levelRefusal (a .job) (a .j) (a .bytes) (a .words) 0
 row c =
@@ -61,11 +61,11 @@ row c =
     let g = b .before .before in
     let p = g .before in
     let a = p .before .before .before .args in
-    level-row (a .job) (a .j) (a .bytes) (a .words) (p .is-level .result) (g .segments-of .result) (b .bytes-for .result) (c .log-length .result)
+    level-row (a .job) (a .j) (a .bytes) (a .words) (p .is-level .result) (g .segment-count-of .result) (b .bytes-for .result) (c .log-length .result)
     (coherent (p .before))
     (p .is-level .ensures)
-    (g .segments-of .ensures .0)
-    (b .bytes-for .ensures ∙ ap bytesFor (b .before .stacks-of .ensures))
+    (g .segment-count-of .ensures .0)
+    (b .bytes-for .ensures ∙ ap bytesFor (b .before .stack-count-at .ensures))
     (c .log-length .ensures)
 
 returns-2 : tie.Need-returns-2
@@ -76,10 +76,10 @@ in-level : (c : tie.Else2) → c .before .before .before .before .before .is-lev
 in-level c = not-false (c .before .before .before .before .before .is-level .result) (c .if2 .left)
 
 inside : (c : tie.Else3) → let g = c .before .before .before .before .before in
-    ltb (g .before .before .before .before .args .j) (g .segments-of .result) ≡ true
+    ltb (g .before .before .before .before .args .j) (g .segment-count-of .result) ≡ true
 inside c =
     let g = c .before .before .before .before .before in
-    lt-ltb (g .before .before .before .before .args .j) (g .segments-of .result) (c .if3 .left)
+    lt-ltb (g .before .before .before .before .args .j) (g .segment-count-of .result) (c .if3 .left)
 
 long : (c : tie.Else4) → let b = c .before .before .before .before in
     eqb (b .before .before .before .before .before .before .args .bytes) (b .bytes-for .result) ≡ true
@@ -92,7 +92,7 @@ returns-3 c =
     let e = c .before in
     let l = e .before in
     let g = l .before .before .before in
-    rw (← row l, in-level e, le-ltb (g .before .before .before .before .args .j) (g .segments-of .result) (c .if3 .taken))
+    rw (← row l, in-level e, le-ltb (g .before .before .before .before .args .j) (g .segment-count-of .result) (c .if3 .taken))
 
 returns-4 : tie.Need-returns-4
 returns-4 c =
@@ -129,8 +129,8 @@ level-refusal-spec =
     is-coherent-requires
     returns
     is-level-requires
-    segments-of-requires
-    stacks-of-requires
+    segment-count-of-requires
+    stack-count-at-requires
     bytes-for-requires
     cast-length
     log-length-requires

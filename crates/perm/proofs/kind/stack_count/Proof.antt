@@ -3,15 +3,15 @@ use mathlib.Core.Path.{_≡_, ap₂}
 use Prim.Native.Nat.{ℕ, _*_}
 use native.Mathlib.Omega.{arith}
 use Rattle.stacks.specs.Stack.{stackCount}
-use Rattle.stacks.proofs.Sizes.{size-twelve, count-fits}
+use Rattle.stacks.proofs.KindLaws.{panes-twelve, count-fits}
 use Rattle.perm.proofs.kind.stack_count.Statement.{statement}
 use Rattle.perm.proofs.kind.stack_count.Tie as tie
 
 factorial-requires : tie.Need-factorial-requires
-factorial-requires c κs = size-twelve (c .args .kind) (c .args .n) (c .pre)
+factorial-requires c κs = panes-twelve (c .args .kind) (c .args .n) (c .pre)
 
 coatings-of-requires : tie.Need-coatings-of-requires
-coatings-of-requires c κs = size-twelve (c .before .args .kind) (c .before .args .n) (c .before .pre)
+coatings-of-requires c κs = panes-twelve (c .before .args .kind) (c .before .args .n) (c .before .pre)
 
 product : (c : tie.After-coatings-of) → c .before .factorial .result * c .coatings-of .result ≡ stackCount (c .before .before .args .kind) (c .before .before .args .n)
 unfolding stackCount

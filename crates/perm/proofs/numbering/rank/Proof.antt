@@ -9,7 +9,7 @@ use lib.ListN.{getD}
 use mir.Syntax.{w8}
 use mir.Val.{toZ, ofZ}
 use Rattle.stacks.specs.Index.{rankOf}
-use Rattle.stacks.proofs.Sizes.{size-twelve, count-fits}
+use Rattle.stacks.proofs.KindLaws.{panes-twelve, count-fits}
 use Rattle.stacks.proofs.Numbering.{rank-lt}
 use Rattle.perm.specs.declared.numbering.Ranking.{Ranking}
 use Rattle.perm.proofs.Signed.{place-back}
@@ -24,7 +24,7 @@ abbrev μ-loop : tie.MeasureT-loop
 μ-loop kind n stack top above₀ p₀ above p = n - p
 
 loop-holds : tie.Need-loop-holds Inv-loop μ-loop
-loop-holds c = (size-twelve (c .args .kind) (c .args .n) (c .pre .0), omega arith, ranked-start (c .args .n) (c .args .t3))
+loop-holds c = (panes-twelve (c .args .kind) (c .args .n) (c .pre .0), omega arith, ranked-start (c .args .n) (c .args .t3))
 
 sub-rank-place : tie.Need-sub-rank-place Inv-loop μ-loop
 sub-rank-place c = omega arith

@@ -8,7 +8,7 @@ use lib.ListN.{length, getD}
 use mir.Syntax.{w8}
 use mir.Val.{toZ, ofZ}
 use Rattle.stacks.specs.Turn.{turnOf}
-use Rattle.stacks.proofs.Sizes.{size-twelve}
+use Rattle.stacks.proofs.KindLaws.{panes-twelve}
 use Rattle.stacks.proofs.TurnLaws.{turn-stack}
 use Rattle.perm.specs.declared.numbering.Ranking.{Ranking}
 use Rattle.perm.proofs.Sets.{shifted}
@@ -28,7 +28,7 @@ abbrev μ-loop : tie.MeasureT-loop
 loop-holds : tie.Need-loop-holds Inv-loop μ-loop
 loop-holds c =
     let a = c .args in
-    (search needs, size-twelve (a .kind) (a .n) (c .pre .0), c .pre .3, omega arith, ranked-start (a .n) (turnOf (a .kind) (a .k) (a .t3)))
+    (search needs, panes-twelve (a .kind) (a .n) (c .pre .0), c .pre .3, omega arith, ranked-start (a .n) (turnOf (a .kind) (a .k) (a .t3)))
 
 sub-flipped : tie.Need-sub-flipped Inv-loop μ-loop
 sub-flipped c = omega arith

@@ -9,7 +9,7 @@ use mir.Val.{toZ, ofZ}
 use lib.Pow.{pow-pos}
 use Rattle.base.proofs.Numbers.{fact-pos}
 use Rattle.stacks.specs.Index.{stackAt}
-use Rattle.stacks.proofs.Sizes.{size-twelve, coatings-pos}
+use Rattle.stacks.proofs.KindLaws.{panes-twelve, coatings-pos}
 use Rattle.perm.proofs.Sets.{pow-twelve, shifted, bit-le}
 use Rattle.perm.proofs.Signed.{pane-back}
 use Rattle.perm.proofs.Unranking.{Unranked, unranked-start, unranked-ones, unranked-step, unranked-end}
@@ -30,7 +30,7 @@ abbrev coats : tie.At-loop Inv-loop μ-loop → ℕ
 coats a = a .before .before .args .index % a .before .coatings-of .result
 
 coatings-of-requires : tie.Need-coatings-of-requires Inv-loop μ-loop
-coatings-of-requires c κs = size-twelve (c .args .kind) (c .args .n) (c .pre .0)
+coatings-of-requires c κs = panes-twelve (c .args .kind) (c .args .n) (c .pre .0)
 
 rem-coats : tie.Need-rem-coats Inv-loop μ-loop
 rem-coats c = omega (arith, c .coatings-of .ensures, coatings-pos (c .before .args .kind) (c .before .args .n))
@@ -39,17 +39,17 @@ div-left : tie.Need-div-left Inv-loop μ-loop
 div-left c = omega (arith, c .coatings-of .ensures, coatings-pos (c .before .args .kind) (c .before .args .n))
 
 shl-free : tie.Need-shl-free Inv-loop μ-loop
-shl-free c = omega (arith, size-twelve (c .before .args .kind) (c .before .args .n) (c .before .pre .0))
+shl-free c = omega (arith, panes-twelve (c .before .args .kind) (c .before .args .n) (c .before .pre .0))
 
 sub-free : tie.Need-sub-free Inv-loop μ-loop
 sub-free c =
     let n = c .before .args .n in
-    omega (arith, shifted n (size-twelve (c .before .args .kind) n (c .before .pre .0)), pow-pos n)
+    omega (arith, shifted n (panes-twelve (c .before .args .kind) n (c .before .pre .0)), pow-pos n)
 
 loop-holds : tie.Need-loop-holds Inv-loop μ-loop
 loop-holds c =
     let a = c .before .args in (
-      size-twelve (a .kind) (a .n) (c .before .pre .0),
+      panes-twelve (a .kind) (a .n) (c .before .pre .0),
       omega arith,
       unranked-start (a .kind) (a .n) (a .index) (c .coatings-of .result) (c .before .pre .0) (c .before .pre .1) (c .coatings-of .ensures),
     )

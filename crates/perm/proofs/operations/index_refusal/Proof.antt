@@ -5,25 +5,25 @@ use borrow.Author.Tests.{not-true, not-false}
 use Rattle.base.specs.Words.{unless}
 use Rattle.stacks.specs.Operations.{indexRefusal}
 use Rattle.stacks.specs.Stack.{isStack}
-use Rattle.stacks.proofs.Sizes.{size-twelve}
-use Rattle.perm.proofs.Refusals.{size-refuses, size-goes-on, size-passes}
+use Rattle.stacks.proofs.KindLaws.{panes-twelve}
+use Rattle.perm.proofs.Refusals.{kind-refuses, kind-goes-on, kind-passes}
 use borrow.Author.Needs.{needs}
 use Rattle.perm.proofs.operations.index_refusal.Statement.{statement}
 use Rattle.perm.proofs.operations.index_refusal.Tie as tie
 
-size-refusal-requires : tie.Need-size-refusal-requires
-size-refusal-requires c κs = search needs
+kind-refusal-requires : tie.Need-kind-refusal-requires
+kind-refusal-requires c κs = search needs
 
 returns : tie.Need-returns
 unfolding indexRefusal
 returns c =
     let a = c .before .before .args in
-    size-refuses (a .kind) (a .n) (unless (isStack (a .kind) (a .n) (a .stack)) 3 0) (c .before .size-refusal .result) (c .before .size-refusal .ensures) (c .if1 .taken)
+    kind-refuses (a .kind) (a .n) (unless (isStack (a .kind) (a .n) (a .stack)) 3 0) (c .before .kind-refusal .result) (c .before .kind-refusal .ensures) (c .if1 .taken)
 
 is-stack-requires : tie.Need-is-stack-requires
 is-stack-requires c κs =
     let a = c .before .before .args in
-    size-twelve (a .kind) (a .n) (size-passes (a .kind) (a .n) 0 (sym (c .before .size-refusal .ensures) ∙ c .if1 .left) .0)
+    panes-twelve (a .kind) (a .n) (kind-passes (a .kind) (a .n) 0 (sym (c .before .kind-refusal .ensures) ∙ c .if1 .left) .0)
 
 -- the kind and n pass, and the stack's test decides
 rest : (c : tie.After-is-stack)
@@ -31,9 +31,9 @@ rest : (c : tie.After-is-stack)
 unfolding indexRefusal
 rest c =
     let a = c .before .before .before .args in
-    let f = c .before .before .size-refusal in
+    let f = c .before .before .kind-refusal in
     ap (λ (t : Bool). unless t 3 0) (c .is-stack .ensures)
-    ∙ size-goes-on (a .kind) (a .n) (unless (isStack (a .kind) (a .n) (a .stack)) 3 0) (f .result) (f .ensures) (c .before .if1 .left)
+    ∙ kind-goes-on (a .kind) (a .n) (unless (isStack (a .kind) (a .n) (a .stack)) 3 0) (f .result) (f .ensures) (c .before .if1 .left)
 
 returns-2 : tie.Need-returns-2
 returns-2 c = ap (λ (t : Bool). unless t 3 0) (sym (not-true (c .before .is-stack .result) (c .if2 .taken))) ∙ rest (c .before)
@@ -43,4 +43,4 @@ returns-3 c = ap (λ (t : Bool). unless t 3 0) (sym (not-false (c .before .is-st
 
 pub index-refusal-spec : {M : Type 1} → statement M
 index-refusal-spec =
-    tie.close (tie.spec size-refusal-requires returns is-stack-requires returns-2 returns-3)
+    tie.close (tie.spec kind-refusal-requires returns is-stack-requires returns-2 returns-3)

@@ -8,24 +8,24 @@ use borrow.Author.Tests.{lt-ltb, le-ltb}
 use Rattle.base.specs.Words.{unless}
 use Rattle.stacks.specs.Operations.{stackRefusal}
 use Rattle.stacks.specs.Stack.{stackCount}
-use Rattle.perm.proofs.Refusals.{size-refuses, size-goes-on, size-passes}
+use Rattle.perm.proofs.Refusals.{kind-refuses, kind-goes-on, kind-passes}
 use borrow.Author.Needs.{needs}
 use Rattle.perm.proofs.operations.stack_refusal.Statement.{statement}
 use Rattle.perm.proofs.operations.stack_refusal.Tie as tie
 
-size-refusal-requires : tie.Need-size-refusal-requires
-size-refusal-requires c κs = search needs
+kind-refusal-requires : tie.Need-kind-refusal-requires
+kind-refusal-requires c κs = search needs
 
 returns : tie.Need-returns
 unfolding stackRefusal
 returns c =
     let a = c .before .before .args in
-    size-refuses (a .kind) (a .n) (unless (ltb (a .index) (stackCount (a .kind) (a .n))) 4 0) (c .before .size-refusal .result) (c .before .size-refusal .ensures) (c .if1 .taken)
+    kind-refuses (a .kind) (a .n) (unless (ltb (a .index) (stackCount (a .kind) (a .n))) 4 0) (c .before .kind-refusal .result) (c .before .kind-refusal .ensures) (c .if1 .taken)
 
 stack-count-requires : tie.Need-stack-count-requires
 stack-count-requires c κs =
     let a = c .before .before .args in
-    size-passes (a .kind) (a .n) 0 (sym (c .before .size-refusal .ensures) ∙ c .if1 .left) .0
+    kind-passes (a .kind) (a .n) 0 (sym (c .before .kind-refusal .ensures) ∙ c .if1 .left) .0
 
 -- the kind and n pass, and the index's test decides
 rest : (c : tie.After-stack-count)
@@ -33,9 +33,9 @@ rest : (c : tie.After-stack-count)
 unfolding stackRefusal
 rest c =
     let a = c .before .before .before .args in
-    let f = c .before .before .size-refusal in
+    let f = c .before .before .kind-refusal in
     ap (λ (m : ℕ). unless (ltb (a .index) m) 4 0) (c .stack-count .ensures)
-    ∙ size-goes-on (a .kind) (a .n) (unless (ltb (a .index) (stackCount (a .kind) (a .n))) 4 0) (f .result) (f .ensures) (c .before .if1 .left)
+    ∙ kind-goes-on (a .kind) (a .n) (unless (ltb (a .index) (stackCount (a .kind) (a .n))) 4 0) (f .result) (f .ensures) (c .before .if1 .left)
 
 returns-2 : tie.Need-returns-2
 returns-2 c =
@@ -49,4 +49,4 @@ returns-3 c =
 
 pub stack-refusal-spec : {M : Type 1} → statement M
 stack-refusal-spec =
-    tie.close (tie.spec size-refusal-requires returns stack-count-requires returns-2 returns-3)
+    tie.close (tie.spec kind-refusal-requires returns stack-count-requires returns-2 returns-3)

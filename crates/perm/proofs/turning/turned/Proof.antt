@@ -7,7 +7,7 @@ use lib.ListN.{length, take, drop}
 use mir.Syntax.{w8}
 use mir.Val.{toZ, ofZ}
 use borrow.Author.Needs.{needs}
-use Rattle.stacks.proofs.Sizes.{size-twelve}
+use Rattle.stacks.proofs.KindLaws.{panes-twelve}
 use Rattle.perm.proofs.Group.{groupOf, pane-read, pane-flipped, turned-step, turned-end}
 use Rattle.perm.proofs.turning.turned.Statement.{statement}
 use Rattle.perm.proofs.turning.turned.Tie as tie
@@ -20,7 +20,7 @@ abbrev μ-loop : tie.MeasureT-loop
 μ-loop kind n k stack group next₀ p₀ next p = k - p
 
 loop-holds : tie.Need-loop-holds Inv-loop μ-loop
-loop-holds c = (search needs, c .pre .2, size-twelve (c .args .kind) (c .args .n) (c .pre .0), omega arith, refl)
+loop-holds c = (search needs, c .pre .2, panes-twelve (c .args .kind) (c .args .n) (c .pre .0), omega arith, refl)
 
 sub-flipped : tie.Need-sub-flipped Inv-loop μ-loop
 sub-flipped c = omega arith

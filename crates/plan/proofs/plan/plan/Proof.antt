@@ -1,12 +1,12 @@
 -- `plan::plan::plan` meets its contract: the refusals in their order, and then the route's turns at the front of the list.
-use mathlib.Core.Path.{_≡_, ap}
+use mathlib.Core.Path.{_≡_, sym, ap, _∙_}
 use Prim.Native.Nat.{_≤_}
 use native.Mathlib.Omega.{arith}
 use lib.ListN.{length}
-use Rattle.search.specs.Plan.{Route, routeFrom}
+use Rattle.search.specs.Plan.{planLimit, Route, routeFrom}
 use Rattle.plan.specs.Routes.{routeOf}
 use Rattle.plan.proofs.Routes.{route-stack, route-taken}
-use Rattle.plan.proofs.Rows.{RowFacts, row-facts}
+use Rattle.search.proofs.PlanLaws.{RowFacts, row-facts}
 use Rattle.plan.proofs.Answers.{no-plan-unseen, no-plan-root, no-plan-route, a-plan, row-refused, plan-refused, plan-accepted}
 use borrow.Author.Needs.{needs}
 use Rattle.plan.proofs.plan.plan.Statement.{statement}
@@ -24,10 +24,10 @@ returns c =
 facts : (c : tie.Else1) → let a = c .before .before .before .before .args in RowFacts (a .kind) (a .n) (a .wanted) (a .given) (length (a .table .now)) (length (a .list .now))
 facts c =
     let a = c .before .before .before .before .args in
-    row-facts (a .kind) (a .n) (a .wanted) (a .given) (length (a .table .now)) (length (a .list .now)) (c .before .plan-refusal .result) (c .before .plan-refusal .ensures) (c .if1 .left)
+    row-facts (a .kind) (a .n) (a .wanted) (a .given) (length (a .table .now)) (length (a .list .now)) 0 (sym (c .before .plan-refusal .ensures) ∙ c .if1 .left) .0
 
 entry-of-requires : tie.Need-entry-of-requires
-entry-of-requires c κs = (facts c .of-size, facts c .start, facts c .long)
+entry-of-requires c κs = (facts c .of-panes, facts c .start, facts c .long)
 
 returns-2 : tie.Need-returns-2
 returns-2 c =
@@ -38,7 +38,7 @@ returns-2 c =
 entry-of-requires-2 : tie.Need-entry-of-requires-2
 entry-of-requires-2 c κs =
     let e = c .before .before in
-    (facts e .of-size, facts e .goal, facts e .long)
+    (facts e .of-panes, facts e .goal, facts e .long)
 
 returns-3 : tie.Need-returns-3
 returns-3 c =
@@ -50,7 +50,7 @@ returns-3 c =
 route-from-requires : tie.Need-route-from-requires
 route-from-requires c κs =
     let e = c .before .before .before .before in
-    (facts e .of-size, facts e .goal, facts e .start, facts e .long)
+    (facts e .of-panes, facts e .goal, facts e .start, facts e .long)
 
 -- the stack that the route has come to
 stack-is : (c : tie.After-route-from)
@@ -61,12 +61,12 @@ rank-requires : tie.Need-rank-requires
 rank-requires c κs =
     let e = c .before .before .before .before .before .before .before in
     let a = e .before .before .before .before .args in
-    (facts e .of-size, rw (stack-is (c .before .before)) (route-stack (a .kind) (a .n) (a .table .now) (a .wanted) (a .given) (facts e .of-size) (facts e .start)))
+    (facts e .of-panes, rw (stack-is (c .before .before)) (route-stack (a .kind) (a .n) (a .table .now) (a .wanted) (a .given) (facts e .of-panes) (facts e .start)))
 
 rank-requires-2 : tie.Need-rank-requires-2
 rank-requires-2 c κs =
     let e = c .before .before .before .before .before .before .before .before in
-    (facts e .of-size, facts e .goal)
+    (facts e .of-panes, facts e .goal)
 
 returns-4 : tie.Need-returns-4
 returns-4 c =
@@ -84,6 +84,7 @@ few c =
     route-taken (a .kind) (a .n) (a .table .now) (a .wanted) (a .given) (routeOf (c .route-from .result)) (c .route-from .result .taken) (c .route-from .ensures .0) (c .route-from .ensures .1)
 
 copy-turns-requires : tie.Need-copy-turns-requires
+unfolding planLimit
 copy-turns-requires c κs =
     let w = c .before .before .before .before .before .before in
     (omega (arith, few w), omega (arith, few w, facts (w .before .before .before .before .before) .wide))

@@ -3,38 +3,38 @@ use mathlib.Core.Path.{_≡_, sym, ap, _∙_}
 use mathlib.Core.Bool.{true}
 use native.Mathlib.Omega.{arith}
 use borrow.Author.Tests.{not-true, not-false}
-use Rattle.stacks.specs.Stack.{isSize, isStack}
-use Rattle.stacks.proofs.Sizes.{size-twelve}
+use Rattle.stacks.specs.Stack.{isPaneCount, isStack}
+use Rattle.stacks.proofs.KindLaws.{panes-twelve}
 use Rattle.search.specs.Entries.{bytesFor}
-use Rattle.perm.proofs.Refusals.{size-passes}
-use Rattle.plan.proofs.Rows.{row-size, row-wanted, row-given, row-table, row-list, row-accepts}
+use Rattle.perm.proofs.Refusals.{kind-passes}
+use Rattle.plan.proofs.Rows.{row-kind, row-wanted, row-given, row-table, row-list, row-accepts}
 use borrow.Author.Needs.{needs}
 use Rattle.plan.proofs.plan.plan_refusal.Statement.{statement}
 use Rattle.plan.proofs.plan.plan_refusal.Tie as tie
 
-size-refusal-requires : tie.Need-size-refusal-requires
-size-refusal-requires c κs = search needs
+kind-refusal-requires : tie.Need-kind-refusal-requires
+kind-refusal-requires c κs = search needs
 
 returns : tie.Need-returns
 returns c =
     let a = c .before .before .args in
-    row-size (a .kind) (a .n) (a .wanted) (a .given) (a .bytes) (a .room) (c .before .size-refusal .result) (c .before .size-refusal .ensures) (c .if1 .taken)
+    row-kind (a .kind) (a .n) (a .wanted) (a .given) (a .bytes) (a .slots) (c .before .kind-refusal .result) (c .before .kind-refusal .ensures) (c .if1 .taken)
 
 -- the kind and n pass
-sized : (c : tie.Else1) → isSize (c .before .before .args .kind) (c .before .before .args .n) ≡ true
-sized c =
+in-range : (c : tie.Else1) → isPaneCount (c .before .before .args .kind) (c .before .before .args .n) ≡ true
+in-range c =
     let a = c .before .before .args in
-    size-passes (a .kind) (a .n) 0 (sym (c .before .size-refusal .ensures) ∙ c .if1 .left) .0
+    kind-passes (a .kind) (a .n) 0 (sym (c .before .kind-refusal .ensures) ∙ c .if1 .left) .0
 
 is-stack-requires : tie.Need-is-stack-requires
-is-stack-requires c κs = size-twelve (c .before .before .args .kind) (c .before .before .args .n) (sized c)
+is-stack-requires c κs = panes-twelve (c .before .before .args .kind) (c .before .before .args .n) (in-range c)
 
 returns-2 : tie.Need-returns-2
 returns-2 c =
     let b = c .before .before in
-    let f = b .before .size-refusal in
+    let f = b .before .kind-refusal in
     let a = b .before .before .args in
-    row-wanted (a .kind) (a .n) (a .wanted) (a .given) (a .bytes) (a .room) (f .result) (f .ensures) (b .if1 .left)
+    row-wanted (a .kind) (a .n) (a .wanted) (a .given) (a .bytes) (a .slots) (f .result) (f .ensures) (b .if1 .left)
     (sym (c .before .is-stack .ensures) ∙ not-true (c .before .is-stack .result) (c .if2 .taken))
 
 goal-passes : (c : tie.Else2) → let a = c .before .before .before .before .args in isStack (a .kind) (a .n) (a .wanted) ≡ true
@@ -46,16 +46,16 @@ is-stack-requires-2 c κs = is-stack-requires (c .before .before) κs
 returns-3 : tie.Need-returns-3
 returns-3 c =
     let b = c .before .before .before .before in
-    let f = b .before .size-refusal in
+    let f = b .before .kind-refusal in
     let a = b .before .before .args in
-    row-given (a .kind) (a .n) (a .wanted) (a .given) (a .bytes) (a .room) (f .result) (f .ensures) (b .if1 .left) (goal-passes (c .before .before))
+    row-given (a .kind) (a .n) (a .wanted) (a .given) (a .bytes) (a .slots) (f .result) (f .ensures) (b .if1 .left) (goal-passes (c .before .before))
     (sym (c .before .is-stack2 .ensures) ∙ not-true (c .before .is-stack2 .result) (c .if3 .taken))
 
 start-passes : (c : tie.Else3) → let a = c .before .before .before .before .before .before .args in isStack (a .kind) (a .n) (a .given) ≡ true
 start-passes c = sym (c .before .is-stack2 .ensures) ∙ not-false (c .before .is-stack2 .result) (c .if3 .left)
 
 stack-count-requires : tie.Need-stack-count-requires
-stack-count-requires c κs = sized (c .before .before .before .before)
+stack-count-requires c κs = in-range (c .before .before .before .before)
 
 bytes-for-requires : tie.Need-bytes-for-requires
 bytes-for-requires c κs = search needs
@@ -68,9 +68,9 @@ returns-4 c =
     let d = c .before in
     let g = d .before .before in
     let b = g .before .before .before .before in
-    let f = b .before .size-refusal in
+    let f = b .before .kind-refusal in
     let a = b .before .before .args in
-    row-table (a .kind) (a .n) (a .wanted) (a .given) (a .bytes) (a .room) (f .result) (f .ensures) (b .if1 .left) (goal-passes (g .before .before)) (start-passes g)
+    row-table (a .kind) (a .n) (a .wanted) (a .given) (a .bytes) (a .slots) (f .result) (f .ensures) (b .if1 .left) (goal-passes (g .before .before)) (start-passes g)
     (d .bytes-for .result) (d .bytes-for .ensures ∙ ap bytesFor (d .before .stack-count .ensures)) (c .if4 .taken)
 
 returns-5 : tie.Need-returns-5
@@ -78,9 +78,9 @@ returns-5 c =
     let d = c .before .before in
     let g = d .before .before in
     let b = g .before .before .before .before in
-    let f = b .before .size-refusal in
+    let f = b .before .kind-refusal in
     let a = b .before .before .args in
-    row-list (a .kind) (a .n) (a .wanted) (a .given) (a .bytes) (a .room) (f .result) (f .ensures) (b .if1 .left) (goal-passes (g .before .before)) (start-passes g)
+    row-list (a .kind) (a .n) (a .wanted) (a .given) (a .bytes) (a .slots) (f .result) (f .ensures) (b .if1 .left) (goal-passes (g .before .before)) (start-passes g)
     (d .bytes-for .result) (d .bytes-for .ensures ∙ ap bytesFor (d .before .stack-count .ensures)) (c .before .if4 .left) (omega arith)
 
 returns-6 : tie.Need-returns-6
@@ -88,16 +88,16 @@ returns-6 c =
     let d = c .before .before in
     let g = d .before .before in
     let b = g .before .before .before .before in
-    let f = b .before .size-refusal in
+    let f = b .before .kind-refusal in
     let a = b .before .before .args in
-    row-accepts (a .kind) (a .n) (a .wanted) (a .given) (a .bytes) (a .room) (f .result) (f .ensures) (b .if1 .left) (goal-passes (g .before .before)) (start-passes g)
+    row-accepts (a .kind) (a .n) (a .wanted) (a .given) (a .bytes) (a .slots) (f .result) (f .ensures) (b .if1 .left) (goal-passes (g .before .before)) (start-passes g)
     (d .bytes-for .result) (d .bytes-for .ensures ∙ ap bytesFor (d .before .stack-count .ensures)) (c .before .if4 .left) (omega arith)
 
 pub plan-refusal-spec : {M : Type 1} → statement M
 plan-refusal-spec =
     tie.close
     (tie.spec
-    size-refusal-requires
+    kind-refusal-requires
     returns
     is-stack-requires
     returns-2

@@ -5,7 +5,7 @@ use native.Mathlib.Omega.{arith}
 use borrow.Author.Needs.{needs}
 use Rattle.base.specs.Words.{from}
 use Rattle.stacks.specs.Turn.{turnsOf}
-use Rattle.stacks.proofs.Sizes.{size-twelve}
+use Rattle.stacks.proofs.KindLaws.{panes-twelve}
 use Rattle.stacks.proofs.TurnLaws.{turn-stack, first-inside}
 use Rattle.plan.specs.Routes.{firstTo}
 use Rattle.plan.proofs.Routes.{entry-inside, untried-all, tried-all, tried-hit, tried-miss}
@@ -23,7 +23,7 @@ first-turn-requires : tie.Need-first-turn-requires Inv-loop μ-loop
 first-turn-requires c κs = search needs
 
 add-left : tie.Need-add-left Inv-loop μ-loop
-add-left c = record { fits = omega (arith, size-twelve (c .before .before .args .kind) (c .before .before .args .n) (c .before .before .pre .0)) }
+add-left c = record { fits = omega (arith, panes-twelve (c .before .before .args .kind) (c .before .before .args .n) (c .before .before .pre .0)) }
 
 sub-left : tie.Need-sub-left Inv-loop μ-loop
 sub-left c = omega (arith, c .first-turn .ensures, first-inside (c .before .before .args .kind) (c .before .before .args .n) (c .before .before .pre .0))
@@ -31,7 +31,7 @@ sub-left c = omega (arith, c .first-turn .ensures, first-inside (c .before .befo
 loop-holds : tie.Need-loop-holds Inv-loop μ-loop
 loop-holds c =
     let a = c .before .before .args in
-    (size-twelve (a .kind) (a .n) (c .before .before .pre .0), omega (arith, sub-left c), ap (firstTo (a .kind) (a .n) (a .table .now) (a .stack) (a .v)) (untried-all (a .kind) (a .n) (c .first-turn .result) (c .before .before .pre .0) (c .first-turn .ensures)))
+    (panes-twelve (a .kind) (a .n) (c .before .before .pre .0), omega (arith, sub-left c), ap (firstTo (a .kind) (a .n) (a .table .now) (a .stack) (a .v)) (untried-all (a .kind) (a .n) (c .first-turn .result) (c .before .before .pre .0) (c .first-turn .ensures)))
 
 add-k : tie.Need-add-k Inv-loop μ-loop
 add-k c = record { fits = omega arith }

@@ -1,0 +1,2 @@
+-- What the numbers of a stack are bounded by.
+pub mod Digits

@@ -1,0 +1,21 @@
+-- `exports::table_calls::build_table` meets its contract: what the export states.
+use Rattle.hokrund.specs.Calls.{buildCall}
+use borrow.Author.Needs.{needs}
+use Rattle.exports.proofs.table_calls.build_table.Statement.{statement}
+use Rattle.exports.proofs.table_calls.build_table.Tie as tie
+
+hokrund-build-table-requires : tie.Need-hokrund-build-table-requires
+hokrund-build-table-requires c κs = search needs
+
+same-length : tie.Need-same-length
+same-length c = search needs
+
+same-length-2 : tie.Need-same-length-2
+same-length-2 c = search needs
+
+returns : tie.Need-returns
+unfolding buildCall
+returns c = c .before .before .before .before .hokrund-build-table .ensures
+
+pub build-table-spec : {M : Type 1} → statement M
+build-table-spec = tie.close (tie.spec hokrund-build-table-requires same-length same-length-2 returns)

@@ -1,0 +1,3 @@
+-- What a call on a mirror of the job answers.
+pub mod Mirrored
+pub mod Outcomes

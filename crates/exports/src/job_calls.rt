@@ -1,0 +1,48 @@
+// Begin, and the calls on a job.
+ghost use mathlib.Core.Path.{_≡_};
+ghost use lib.ListN.{take, drop};
+ghost use Rattle.search.specs.Begin.{beginOf};
+ghost use Rattle.hokrund.specs.Mirror.{answerOf};
+ghost use Rattle.exports.specs.Outcomes.{Blanks, Expands, Settles, Looks, Closes};
+use hokrund::job_calls;
+use hokrund::mirror::HokrundAnswer;
+use hokrund::mirror::HokrundExpanded;
+use hokrund::mirror::HokrundJob;
+use hokrund::mirror::HokrundLook;
+use hokrund::mirror::HokrundStack;
+
+pub fn begin(kind: u8, n: u8, wanted: HokrundStack, size: u32, room: u32) -> HokrundAnswer
+    ensures { λ r. ⌜ r ≡ answerOf (beginOf kind n (wanted .places) size room) ⌝ }
+{
+    job_calls::hokrund_begin(kind, n, wanted, size, room)
+}
+
+pub fn blank(job: HokrundJob, j: u32, segment: &mut [u8]) -> HokrundAnswer
+    ensures { λ r. ⌜ Blanks job j (now (segment .entry)) (now (segment .exit), r) ⌝ }
+{
+    job_calls::hokrund_blank(job, j, segment)
+}
+
+pub fn expand(job: HokrundJob, j: u32, segment: &mut [u8], log: &mut [u32]) -> HokrundExpanded
+    ensures { λ r. ⌜ Expands job j (now (segment .entry)) (now (log .entry)) (now (segment .exit), now (log .exit), r) ⌝ }
+{
+    job_calls::hokrund_expand(job, j, segment, log)
+}
+
+pub fn settle(job: HokrundJob, j: u32, segment: &mut [u8], log: &[u32]) -> HokrundAnswer
+    ensures { λ r. ⌜ Settles job j (now (segment .entry)) (now (log .entry)) (now (segment .exit), r) ⌝ }
+{
+    job_calls::hokrund_settle(job, j, segment, log)
+}
+
+pub fn look(job: HokrundJob, j: u32, log: &[u32]) -> HokrundLook
+    ensures { λ r. ⌜ Looks job j (now (log .entry)) (take (r .length) (drop (r .start) (now (log .entry))), r) ⌝ }
+{
+    job_calls::hokrund_look(job, j, log)
+}
+
+pub fn close(job: HokrundJob) -> HokrundAnswer
+    ensures { λ r. ⌜ Closes job r ⌝ }
+{
+    job_calls::hokrund_close(job)
+}

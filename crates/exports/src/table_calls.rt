@@ -1,0 +1,44 @@
+// Build the whole table, Read an entry, and Plan.
+ghost use mathlib.Core.Path.{_≡_};
+ghost use Rattle.search.specs.Drive.{buildOf};
+ghost use Rattle.search.specs.Plan.{planOf};
+ghost use Rattle.search.specs.Read.{readOf};
+ghost use Rattle.hokrund.specs.Mirror.{answerOf, entryReadOf, plannedOf, oneLent, twoLent};
+use hokrund::mirror::HokrundAnswer;
+use hokrund::mirror::HokrundEntry;
+use hokrund::mirror::HokrundPlanned;
+use hokrund::mirror::HokrundStack;
+use hokrund::table_calls;
+
+pub fn build_table(
+    kind: u8,
+    n: u8,
+    wanted: HokrundStack,
+    size: u32,
+    room: u32,
+    table: &mut [u8],
+    log: &mut [u32],
+) -> HokrundAnswer
+    ensures { λ r. ⌜ (now (table .exit), now (log .exit), r) ≡ twoLent answerOf (buildOf kind n (wanted .places) size room (now (table .entry)) (now (log .entry))) ⌝ }
+{
+    table_calls::hokrund_build_table(kind, n, wanted, size, room, table, log)
+}
+
+pub fn read_entry(kind: u8, n: u8, table: &[u8], index: u32) -> HokrundEntry
+    ensures { λ r. ⌜ r ≡ entryReadOf (readOf kind n (now (table .entry)) index) ⌝ }
+{
+    table_calls::hokrund_read_entry(kind, n, table, index)
+}
+
+pub fn plan(
+    kind: u8,
+    n: u8,
+    wanted: HokrundStack,
+    given: HokrundStack,
+    table: &[u8],
+    list: &mut [u8],
+) -> HokrundPlanned
+    ensures { λ r. ⌜ (now (list .exit), r) ≡ oneLent plannedOf (planOf kind n (wanted .places) (given .places) (now (table .entry)) (now (list .entry))) ⌝ }
+{
+    table_calls::hokrund_plan(kind, n, wanted, given, table, list)
+}

@@ -1,0 +1,104 @@
+-- `frames::output::write_levels` meets its contract. The loop's invariant: the lines of the levels below this one are written.
+use mathlib.Core.Path.{_≡_, refl, sym, ap, _∙_, subst}
+use mathlib.Core.Logic.{inl, inr}
+use mathlib.Core.List.{List, []}
+use Prim.Native.Nat.{ℕ, _+_, _-_, _<_, _≤_}
+use native.Mathlib.Numerals.{add-one}
+use native.Mathlib.Omega.{arith}
+use borrow.Author.Needs.{needs}
+use lib.ListN.{length, getD, take}
+use lib.Seq.{length-take-le}
+use Rattle.frames.specs.Output.{levelLine, levelsFrom}
+use Rattle.frames.specs.Written.{textLimit, over, Put, Wrote}
+use Rattle.frames.proofs.Writing.{wrote, put-after, levels-more, levels-length, levels-all}
+use Rattle.frames.proofs.output.write_levels.Statement.{statement}
+use Rattle.frames.proofs.output.write_levels.Tie as tie
+
+abbrev Inv-loop : tie.InvT-loop
+Inv-loop out₀ deepest counts at₀ level₀ out at level =
+    (level ≤ 32) × (level ≤ deepest + 1) × (length counts ≡ 32) × Wrote (levelsFrom 0 (take level counts)) out₀ out at
+
+abbrev μ-loop : tie.MeasureT-loop
+μ-loop out₀ deepest counts at₀ level₀ out at level = 32 - level
+
+loop-holds : tie.Need-loop-holds Inv-loop μ-loop
+unfolding levelsFrom over
+loop-holds c = (omega arith, omega arith, search needs, wrote (levelsFrom 0 []) (c .args .out .now) (c .args .out .now) 0 refl refl)
+
+cast-put-level : tie.Need-cast-put-level Inv-loop μ-loop
+cast-put-level c = search needs
+
+mul-put-level : tie.Need-mul-put-level Inv-loop μ-loop
+mul-put-level c = search needs
+
+array-read-put-level : tie.Need-array-read-put-level Inv-loop μ-loop
+array-read-put-level c = search needs
+
+-- the lines so far are short of the buffer by a line
+lines-fit : (counts out₀ out : List ℕ) (at level : ℕ) → length counts ≡ 32 → level < 32 → Wrote (levelsFrom 0 (take level counts)) out₀ out at
+    → at + 10 < textLimit
+lines-fit counts out₀ out at level w h l =
+    omega (arith, l .count, levels-length 0 (take level counts), length-take-le level counts (omega arith))
+
+put-level-requires : tie.Need-put-level-requires Inv-loop μ-loop
+put-level-requires c κs =
+    let a = c .before .before .before in
+    let long : length (a .loop .out) ≡ textLimit = c .put-level-arg .given .0 .1 in
+    rw long
+    (lines-fit (a .before .args .t2) (a .before .args .out .now) (a .loop .out) (a .loop .at) (a .loop .level) (a .loop .inv .2)
+    (array-read-put-level c) (a .loop .inv .3))
+
+add-level : tie.Need-add-level Inv-loop μ-loop
+add-level c = search needs
+
+loop-less : tie.Need-loop-less Inv-loop μ-loop
+loop-less c = omega (arith, array-read-put-level (c .before))
+
+-- a line more
+one-more : (counts out₀ out out′ : List ℕ) (at level r : ℕ) → level < length counts → Wrote (levelsFrom 0 (take level counts)) out₀ out at
+    → Put (levelLine level (getD counts level 0)) at out out′ r → Wrote (levelsFrom 0 (take (level + 1) counts)) out₀ out′ r
+one-more counts out₀ out out′ at level r h l p =
+    subst (λ (t : List ℕ). Wrote t out₀ out′ r)
+    (sym (levels-more counts level h) ∙ ap (λ (k : ℕ). levelsFrom 0 (take k counts)) (sym (add-one level)))
+    (put-after (levelsFrom 0 (take level counts)) (levelLine level (getD counts level 0)) out₀ out out′ at r (l .count) (l .front) p)
+
+loop-again : tie.Need-loop-again Inv-loop μ-loop
+loop-again c =
+    let a = c .before .before .before .before in
+    let less = array-read-put-level (c .before) in (
+      omega (arith, less),
+      omega arith,
+      a .loop .inv .2,
+      one-more (a .before .args .t2) (a .before .args .out .now) (a .loop .out) (c .put-level .last .0) (a .loop .at) (a .loop .level)
+          (c .put-level .result) (omega (arith, less)) (a .loop .inv .3) (c .put-level .ensures),
+    )
+
+returns : tie.Need-returns Inv-loop μ-loop
+returns c =
+    let a = c .before .before in
+    let last : 32 ≤ a .loop .level = search needs in
+    subst (λ (t : List ℕ). Wrote t (a .before .args .out .now) (a .loop .out) (a .loop .at))
+    (levels-all (a .before .args .t2) (a .before .args .deepest) (a .loop .level) (a .loop .inv .1) (inr (omega arith))) (a .loop .inv .3)
+
+returns-2 : tie.Need-returns-2 Inv-loop μ-loop
+returns-2 c =
+    let a = c .before in
+    subst (λ (t : List ℕ). Wrote t (a .before .args .out .now) (a .loop .out) (a .loop .at))
+    (levels-all (a .before .args .t2) (a .before .args .deepest) (a .loop .level) (a .loop .inv .1) (inl (omega arith))) (a .loop .inv .3)
+
+pub write-levels-spec : {M : Type 1} → statement M
+write-levels-spec =
+    tie.close
+    (tie.spec
+    Inv-loop
+    μ-loop
+    loop-holds
+    cast-put-level
+    mul-put-level
+    array-read-put-level
+    put-level-requires
+    add-level
+    loop-less
+    loop-again
+    returns
+    returns-2)

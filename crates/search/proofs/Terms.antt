@@ -1,0 +1,109 @@
+-- What an accepted Begin was given, as one value, with document 01's letters for what follows from it.
+--   N, G, m       the stacks, the segments, the stacks of segment j
+--   bytesOf, wordsOf   the right lengths of segment j and of the log area
+--   moves, step   the turns, and the child by a turn, as an index
+--   goal          the wanted stack's index
+--   D             the fewest turns from the stack at an index, cut above the last level
+--   levelCount    how many stacks are at exactly d turns
+--   Given         what Begin saw to, and what follows: some stacks in a segment, few segments, no stack as deep as the last level
+use mathlib.Core.Path.{_≡_}
+use mathlib.Core.Bool.{true}
+use mathlib.Core.List.{List}
+use Prim.Native.Nat.{ℕ, suc, _<_, _≤_}
+use native.Mathlib.Omega.{arith}
+use lib.Dec.{eqb}
+use lib.IntN.{ℤ}
+use Rattle.base.specs.Words.{tally, from}
+use Rattle.graph.proofs.Depths.{Depths}
+use Rattle.stacks.specs.Index.{rankOf}
+use Rattle.stacks.specs.Stack.{isKind, isPaneCount, isStack, stackCount}
+use Rattle.stacks.specs.Turn.{turnsOf, turnBound}
+use Rattle.stacks.proofs.TurnBound.{turn-bound-30}
+use Rattle.search.specs.JobState.{lastLevel}
+use Rattle.search.specs.Promise.{rightBytes, rightWords}
+use Rattle.search.specs.Segments.{segmentCount, stackCountIn, isSegmentSize, isLogRoom}
+use Rattle.search.specs.declared.Job.{Job}
+use Rattle.search.proofs.Fewest.{depth, levels-bound, turn-depths, goal-inside, depth-small}
+use Rattle.search.proofs.SegmentLaws.{SegmentSizeFacts, segment-size-facts}
+use Rattle.search.proofs.Turning.{childAt}
+
+pub record Terms : Type 0 where
+  pub kind : ℕ
+  pub n : ℕ
+  pub wanted : List ℤ
+  pub S : ℕ
+  pub C : ℕ
+
+-- those of a job, and of Begin's arguments
+abbrev pub termsOf : Job → Terms
+termsOf job = record { kind = job .kind; n = job .n; wanted = job .wanted; S = job .size; C = job .room }
+
+abbrev pub termsWith : ℕ → ℕ → List ℤ → ℕ → ℕ → Terms
+termsWith kind n wanted S C = record { kind = kind; n = n; wanted = wanted; S = S; C = C }
+
+abbrev pub N : Terms → ℕ
+N terms = stackCount (terms .kind) (terms .n)
+
+abbrev pub G : Terms → ℕ
+G terms = segmentCount (N terms) (terms .S)
+
+abbrev pub m : Terms → ℕ → ℕ
+m terms = stackCountIn (N terms) (terms .S)
+
+abbrev pub bytesOf : Terms → ℕ → ℕ
+bytesOf terms = rightBytes (terms .kind) (terms .n) (terms .S)
+
+abbrev pub wordsOf : Terms → ℕ
+wordsOf terms = rightWords (terms .kind) (terms .n) (terms .S) (terms .C)
+
+abbrev pub moves : Terms → List ℕ
+moves terms = turnsOf (terms .kind) (terms .n)
+
+abbrev pub step : Terms → ℕ → ℕ → ℕ
+step terms = childAt (terms .kind) (terms .n)
+
+abbrev pub goal : Terms → ℕ
+goal terms = rankOf (terms .kind) (terms .n) (terms .wanted)
+
+abbrev pub D : Terms → ℕ → ℕ
+D terms = depth (terms .kind) (terms .n) (terms .wanted) (suc lastLevel)
+
+abbrev pub levelCount : Terms → ℕ → ℕ
+levelCount terms d = tally (λ v. eqb (D terms v) d) (from 0 (N terms))
+
+pub record Given (terms : Terms) : Type 0 where
+  pub is-kind : isKind (terms .kind) ≡ true
+  pub in-range : isPaneCount (terms .kind) (terms .n) ≡ true
+  pub stack : isStack (terms .kind) (terms .n) (terms .wanted) ≡ true
+  pub segments : isSegmentSize (N terms) (terms .S) ≡ true
+  pub room : isLogRoom (terms .C) ≡ true
+
+module _ {terms : Terms} (given : Given terms) where
+  sizes : SegmentSizeFacts (N terms) (terms .S)
+  sizes = segment-size-facts (N terms) (terms .S) (given .segments)
+
+  pub some : 0 < terms .S
+  some = omega (arith, sizes .least)
+
+  pub few : G terms ≤ 64
+  few = sizes .few
+
+  -- the levels that are searched reach past every stack
+  pub bound : turnBound (terms .kind) (terms .n) < suc lastLevel
+  bound = levels-bound (terms .kind) (terms .n) (given .in-range)
+
+  pub depths : Depths (N terms) (moves terms) (step terms) (goal terms) (suc lastLevel) (D terms)
+  depths = turn-depths (terms .kind) (terms .n) (terms .wanted) (suc lastLevel) (given .in-range) (given .stack) bound
+
+  pub goal-here : goal terms < N terms
+  goal-here = goal-inside (terms .kind) (terms .n) (terms .wanted) (suc lastLevel) (given .in-range) (given .stack) bound
+
+  -- no stack is as deep as the last level
+  pub depth-last : (v : ℕ) → v < N terms → D terms v < lastLevel
+  unfolding lastLevel
+  depth-last v h =
+      omega (
+        arith,
+        depth-small (terms .kind) (terms .n) (terms .wanted) (suc lastLevel) (given .in-range) (given .stack) bound v h,
+        turn-bound-30 (terms .kind) (terms .n) (given .in-range),
+      )

@@ -1,0 +1,332 @@
+-- What a report means: the table of an accepted first frame is that of a finished build, so the levels are its levels and the plans are shortest.
+use mathlib.Core.Path.{_≡_, refl, sym, ap, ap₂, subst, _∙_}
+use mathlib.Core.Logic.{_⊎_, inl, inr}
+use mathlib.Core.Bool.{Bool, true, false, _&&_, cond}
+use mathlib.Core.List.{List, [], _∷_, _++_}
+use Prim.Native.Nat.{ℕ, suc, _+_, _/_, _%_, _<_, _≤_}
+use native.Mathlib.Nat.{mod-eq-of-lt}
+use native.Mathlib.Omega.{arith}
+use lib.Dec.{leb, ltb, eqb}
+use lib.IntN.{ℤ}
+use lib.ListN.{length, getD, take, drop, replicate, length-replicate, take-append-drop, List·getD-eq-default}
+use lib.Seq.{take-at, take-append-seam, length-take-le, getD-take, getD-drop}
+use borrow.Author.Tests.{eq-eqb, ne-eqb, lt-ltb, leb-true, le-leb}
+use Rattle.base.specs.Words.{unless, all, tally, total}
+use Rattle.base.proofs.Counting.{tally-le, tally-at, total-append}
+use Rattle.base.proofs.Tests.{unless-zero, and-left, and-right, and-both, lt-or-ge}
+use Rattle.stacks.specs.Counts.{CountsAt}
+use Rattle.stacks.specs.Index.{rankOf, allStacks}
+use Rattle.stacks.specs.Stack.{isPaneCount, isStack, stackCount}
+use Rattle.stacks.specs.Turn.{firstTurn, lastTurn, isTurn, Road, Fewest}
+use Rattle.stacks.proofs.Numbering.{rank-lt}
+use Rattle.search.specs.Build.{World}
+use Rattle.search.specs.Drive.{buildRefusal, built, Builds}
+use Rattle.search.specs.Entries.{bytesFor}
+use Rattle.search.specs.JobState.{lastLevel, countOf, levelOf}
+use Rattle.search.specs.Plan.{planOf, planLimit, planRefusal, routeFrom}
+use Rattle.search.specs.Promise.{rightWords, Plans, Finishes, PlanArrives}
+use Rattle.search.specs.Segments.{segmentCount, isLogRoom, joined}
+use Rattle.search.specs.declared.Answer.{Answer}
+use Rattle.search.specs.declared.Job.{Job}
+use Rattle.search.specs.declared.Planned.{Planned}
+use Rattle.search.proofs.AllStacks.{all-stacks-length, all-stacks-each}
+use Rattle.search.proofs.Coherence.{given-begin}
+use Rattle.search.proofs.Fewest.{levels-bound, stack-depth, fewest-depth}
+use Rattle.search.proofs.Terms.{termsWith, Given}
+use Rattle.search.proofs.Finishing.{plan-arrives}
+use Rattle.search.proofs.WholeTable.{build-finishes}
+use Rattle.frames.specs.Frame.{stackLimit, tableLimit, reportRoom, isFrame, placesOf, kindIn, panesIn, wantedIn, sizeIn, firstWith, firstRefusal, firstOf, laterRefusal, laterOf}
+use Rattle.frames.specs.Hex.{isByte, bytesOf, fourBytes}
+use Rattle.frames.specs.Output.{levelLine, levelsFrom, levelLines, deepestLine, planLine, refusalLine}
+use Rattle.frames.proofs.FrameRefusals.{FirstPasses, first-passes, later-passes}
+use Rattle.frames.proofs.HexLaws.{number-four, line-says}
+use Rattle.session.specs.Report.{isReported, tableBytes, logWords, builtIn, headText, planText, laterTexts, reportFrom, reportOf}
+use Rattle.session.specs.Promise.{Answers, Reports}
+use Rattle.session.proofs.LentLaws.{table-some, log-some}
+use Rattle.session.proofs.AnswerLaws.{plan-accepted, later-accepted, later-refused}
+
+-- as many turns are answered as stand at the front of the list
+front-count : (t : Bool) (r : ℕ) (turns list : List ℕ)
+    → (let accepted : List ℕ × Planned = (turns ++ drop (length turns) list, record { refusal = 0; turns = length turns }) in
+    let out = cond t accepted (list, record { refusal = r; turns = 0 }) in
+    length (take (out .1 .turns) (out .0)) ≡ out .1 .turns)
+front-count true r turns list = ap length (take-append-seam turns (drop (length turns) list))
+front-count false r turns list = refl
+
+plan-count : (kind n : ℕ) (wanted given : List ℤ) (table list : List ℕ)
+    → (let out = planOf kind n wanted given table list in length (take (out .1 .turns) (out .0)) ≡ out .1 .turns)
+unfolding planOf
+plan-count kind n wanted given table list =
+    let r = planRefusal kind n wanted given table (length list) in
+    front-count (eqb r 0) r (routeFrom kind n table wanted given .turns) list
+
+later-stack : (kind n : ℕ) (cs : List ℕ) → laterRefusal kind n cs ≡ 0 → laterOf kind n cs .stack ≡ placesOf (bytesOf cs)
+unfolding laterOf
+later-stack kind n cs h = rw (eq-eqb (laterRefusal kind n cs) 0 h)
+
+later-is-stack : (kind n : ℕ) (cs : List ℕ) → laterRefusal kind n cs ≡ 0 → isStack kind n (placesOf (bytesOf cs)) ≡ true
+unfolding laterRefusal
+later-is-stack kind n cs h =
+    let stack : ℕ = unless (isStack kind n (placesOf (bytesOf cs))) 3 0 in
+    let a = unless-zero (isFrame cs) 15 (unless (eqb (length (bytesOf cs)) n) 16 stack) h in
+    unless-zero (isStack kind n (placesOf (bytesOf cs))) 2 0 (unless-zero (eqb (length (bytesOf cs)) n) 15 stack (a .1) .1) .0
+
+-- turns fit their byte, and so does the number of a plan's turns
+turns-fit : (kind n : ℕ) (ks : List ℕ) → n ≤ 12 → all (isTurn kind n) ks ≡ true → all isByte ks ≡ true
+unfolding all isTurn lastTurn isByte
+turns-fit kind n [] h t = refl
+turns-fit kind n (k ∷ ks) h t =
+    let low = leb (firstTurn kind) k in
+    let high = leb-true k n (and-right low (leb k n) (and-left (low && leb k n) (all (isTurn kind n) ks) t)) in
+    and-both (ltb k 256) (all isByte ks) (lt-ltb k 256 (omega arith)) (turns-fit kind n ks h (and-right (low && leb k n) (all (isTurn kind n) ks) t))
+
+plan-fits : (kind n : ℕ) (turns : List ℕ) → n ≤ 12 → length turns ≤ planLimit → all (isTurn kind n) turns ≡ true
+    → all isByte (length turns ∷ turns) ≡ true
+unfolding all isByte planLimit
+plan-fits kind n turns h l t =
+    and-both (ltb (length turns) 256) (all isByte turns) (lt-ltb (length turns) 256 (omega arith)) (turns-fit kind n turns h t)
+
+module _ (kind n : ℕ) (wanted : List ℤ) (table : List ℕ) where
+  -- Plan's promise, of a table
+  pub record PlansIn (given : List ℤ) : Type 0 where
+    pub accepts : planOf kind n wanted given table (replicate planLimit 0) .1 .refusal ≡ 0
+    pub arrives : (let out = planOf kind n wanted given table (replicate planLimit 0) in Road kind n (take (out .1 .turns) (out .0)) given wanted)
+    pub shortest : Fewest kind n given wanted (planOf kind n wanted given table (replicate planLimit 0) .1 .turns)
+
+  answers : (cs : List ℕ) → laterRefusal kind n cs ≡ 0 → PlansIn (placesOf (bytesOf cs)) → Answers kind n wanted table cs
+  unfolding laterOf PlanArrives
+  answers cs h p =
+      let given = placesOf (bytesOf cs) in
+      let out = planOf kind n wanted given table (replicate planLimit 0) in
+      let count = plan-count kind n wanted given table (replicate planLimit 0) in
+      record {
+        turns = take (out .1 .turns) (out .0);
+        text = sym (later-accepted kind n wanted table cs (laterOf kind n cs) refl h)
+            ∙ ap (planText kind n wanted table) (later-stack kind n cs h)
+            ∙ sym (plan-accepted kind n wanted table given (out .0) (out .1) refl (p .accepts));
+        arrives = p .arrives;
+        shortest = subst (Fewest kind n given wanted) (sym count) (p .shortest);
+        fit = plan-fits kind n (take (out .1 .turns) (out .0)) (later-passes kind n cs h .2)
+            (rw count (plan-arrives kind n wanted given table (replicate planLimit 0) (p .accepts) .1)) (p .arrives .turns);
+      }
+
+plans-in : (w : World) (kind n : ℕ) (wanted given : List ℤ) → w .job .kind ≡ kind → w .job .n ≡ n → w .job .wanted ≡ wanted
+    → Plans w given (replicate planLimit 0) → PlansIn kind n wanted (joined (w .segments)) given
+plans-in w kind n wanted given a b c p =
+    subst (λ k. PlansIn k n wanted (joined (w .segments)) given) a
+    (subst (λ m. PlansIn (w .job .kind) m wanted (joined (w .segments)) given) b
+    (subst (λ v. PlansIn (w .job .kind) (w .job .n) v (joined (w .segments)) given) c
+    (record { accepts = p .accepts; arrives = p .arrives; shortest = p .shortest })))
+
+-- A later frame that is not refused is answered a road of fewest turns, from its stack to the wanted one.
+later-means : (w : World) (kind n : ℕ) (wanted : List ℤ) (cs : List ℕ) → Finishes kind n wanted w → laterRefusal kind n cs ≡ 0
+    → Answers kind n wanted (joined (w .segments)) cs
+unfolding planLimit
+later-means w kind n wanted cs f h =
+    answers kind n wanted (joined (w .segments)) cs h
+    (plans-in w kind n wanted (placesOf (bytesOf cs)) (f .given-kind) (f .given-n) (f .given-wanted)
+    (f .plans (placesOf (bytesOf cs)) (replicate planLimit 0) (later-is-stack kind n cs h) (omega arith)))
+
+total-zeros : (xs : List ℕ) → ((i : ℕ) → getD xs i 0 ≡ 0) → total xs ≡ 0
+unfolding total
+total-zeros [] h = refl
+total-zeros (x ∷ xs) h = omega (arith, h 0, total-zeros xs (λ i. h (suc i)))
+
+-- ---- the build of an accepted first frame
+
+-- what it is given
+module _ (cs table : List ℕ) (h : firstRefusal cs ≡ 0) (long : length table ≡ tableLimit) where
+  abbrev bs : List ℕ
+  bs = bytesOf cs
+
+  abbrev kind : ℕ
+  kind = kindIn bs
+
+  abbrev n : ℕ
+  n = panesIn bs
+
+  abbrev wanted : List ℤ
+  wanted = wantedIn n bs
+
+  abbrev S : ℕ
+  S = sizeIn n bs
+
+  abbrev part : List ℕ
+  part = take (tableBytes kind n) table
+
+  abbrev log : List ℕ
+  log = replicate (logWords kind n S) 0
+
+  passes : FirstPasses cs
+  passes = first-passes cs h
+
+  given : Given (termsWith kind n wanted S reportRoom)
+  unfolding isLogRoom
+  given = record { is-kind = passes .is-kind; in-range = passes .in-range; stack = passes .stack; segments = passes .segments; room = refl }
+
+  reported : isReported kind n ≡ true
+  unfolding isReported
+  reported = and-both (isPaneCount kind n) (leb (stackCount kind n) stackLimit) (passes .in-range) (le-leb (stackCount kind n) stackLimit (passes .few))
+
+  bytes-are : tableBytes kind n ≡ bytesFor (stackCount kind n)
+  unfolding tableBytes
+  bytes-are = rw reported
+
+  part-length : length part ≡ tableBytes kind n
+  part-length = length-take-le (tableBytes kind n) table (omega (arith, table-some kind n (bytesFor (stackCount kind n)) reported refl))
+
+  words-are : logWords kind n S ≡ rightWords kind n S reportRoom
+  unfolding rightWords
+  words-are = sym (log-some kind n S (segmentCount (stackCount kind n) S) reported (passes .segments) refl .0)
+
+  accepted : buildRefusal kind n wanted S reportRoom (length part) (length log) ≡ 0
+  unfolding buildRefusal
+  accepted =
+      rw (
+        given-begin (termsWith kind n wanted S reportRoom) given,
+        eq-eqb (length part) (bytesFor (stackCount kind n)) (part-length ∙ bytes-are),
+        eq-eqb (length log) (rightWords kind n S reportRoom) (length-replicate (logWords kind n S) 0 ∙ words-are),
+      )
+
+  builds : Builds kind n wanted S reportRoom part log
+  builds = build-finishes kind n wanted S reportRoom part log accepted
+
+  abbrev end : World
+  end = built kind n wanted S reportRoom part log
+
+  abbrev finishes : Finishes kind n wanted end
+  finishes = builds .finishes
+
+  built-end : builtIn kind n wanted S table ≡ (joined (end .segments) ++ drop (tableBytes kind n) table, end .job)
+  unfolding builtIn
+  built-end = ap (λ (x : List ℕ × List ℕ × Answer). (x .0 ++ drop (tableBytes kind n) table, x .2 .job)) (builds .leaves)
+
+  -- the part of the table that later frames are answered from
+  table-is : take (tableBytes kind n) (builtIn kind n wanted S table .0) ≡ joined (end .segments)
+  table-is =
+      ap (λ (x : List ℕ × Job). take (tableBytes kind n) (x .0)) built-end
+      ∙ take-at (joined (end .segments)) (drop (tableBytes kind n) table) (tableBytes kind n) (builds .table-length ∙ part-length)
+
+  -- ---- its counts
+
+  abbrev deepest : ℕ
+  deepest = levelOf (end .job .phase)
+
+  deepest-low : deepest ≤ lastLevel
+  deepest-low =
+      let s = finishes .deepest in
+      omega (
+        arith,
+        levels-bound kind n (given .in-range),
+        stack-depth kind n wanted (suc lastLevel) (given .in-range) (given .stack) (levels-bound kind n (given .in-range)) (s .0) (s .1),
+        fewest-depth kind n wanted (suc lastLevel) (given .in-range) (given .stack) (levels-bound kind n (given .in-range)) (s .0) (s .1) (s .2),
+      )
+
+  counts-at : (d : ℕ) → d ≤ deepest → CountsAt kind n wanted d (countOf (end .job) d)
+  counts-at d l = finishes .counts d (omega (arith, deepest-low))
+
+  count-is : (d : ℕ) (l : d ≤ deepest) → countOf (end .job) d ≡ tally (counts-at d l .test) (allStacks kind n)
+  count-is d l = let at = counts-at d l in at .tallied (at .test) (at .tells)
+
+  count-few : (d : ℕ) → d ≤ deepest → countOf (end .job) d ≤ stackLimit
+  count-few d l = omega (arith, count-is d l, tally-le (counts-at d l .test) (allStacks kind n), all-stacks-length kind n, passes .few)
+
+  -- a stack is at the deepest level, so its count stands in the list
+  deepest-stands : deepest < length (end .job .counts)
+  unfolding countOf
+  deepest-stands = go (lt-or-ge deepest (length (end .job .counts)))
+    where
+      s : (t : List ℤ) × (isStack kind n t ≡ true) × Fewest kind n t wanted deepest
+      s = finishes .deepest
+
+      here : deepest ≤ deepest
+      here = omega arith
+
+      test : List ℤ → Bool
+      test = counts-at deepest here .test
+
+      some : 0 < countOf (end .job) deepest
+      some =
+          rw (count-is deepest here)
+          (tally-at test (allStacks kind n) (rankOf kind n (s .0)) []
+          (rw (all-stacks-length kind n) (rank-lt kind n (s .0) (given .in-range) (s .1)))
+          (ap test (all-stacks-each kind n (s .0) (given .in-range) (s .1)) ∙ counts-at deepest here .tells .every (s .0) (s .1) (s .2)))
+
+      go : (deepest < length (end .job .counts)) ⊎ (length (end .job .counts) ≤ deepest) → deepest < length (end .job .counts)
+      go (inl l) = l
+      go (inr l) = absurd (omega (arith, some, List·getD-eq-default (end .job .counts) 0 l))
+
+  abbrev shown : List ℕ
+  shown = take (suc deepest) (end .job .counts)
+
+  shown-at : (d : ℕ) → d ≤ deepest → getD shown d 0 ≡ countOf (end .job) d
+  unfolding countOf
+  shown-at d l = getD-take (suc deepest) (end .job .counts) d 0 (omega arith)
+
+  -- past the deepest level there is no stack to count
+  added-is : total shown ≡ stackCount kind n
+  unfolding countOf
+  added-is =
+      let past = suc deepest in
+      let counts = end .job .counts in
+      let rest = total-zeros (drop past counts) (λ i. getD-drop past counts i 0 ∙ finishes .past (past + i) (omega arith)) in
+      omega (arith, total-append (take past counts) (drop past counts), ap total (take-append-drop past counts), finishes .added, finishes .all-seen)
+
+  head-is : headText (builtIn kind n wanted S table .1) ≡ levelsFrom 0 shown ++ deepestLine deepest
+  unfolding headText levelLines
+  head-is = ap (λ (x : List ℕ × Job). headText (x .1)) built-end
+
+  reports : (lines : List (List ℕ)) (text : List ℕ)
+      → text ≡ headText (builtIn kind n wanted S table .1) ++ laterTexts kind n wanted (take (tableBytes kind n) (builtIn kind n wanted S table .0)) lines
+      → Reports kind n wanted lines text
+  unfolding laterOf lastLevel
+  reports lines text e =
+      record {
+        deepest = deepest;
+        counts = shown;
+        built = joined (end .segments);
+        text-is = e ∙ ap₂ (λ (a b : List ℕ). a ++ laterTexts kind n wanted b lines) head-is table-is;
+        levels = length-take-le (suc deepest) (end .job .counts) deepest-stands;
+        counted = λ d l. subst (CountsAt kind n wanted d) (sym (shown-at d l)) (counts-at d l);
+        whole = λ d l. number-four (getD shown d 0) ∙ mod-eq-of-lt (omega (arith, shown-at d l, count-few d l));
+        fit = omega (arith, deepest-low);
+        added = added-is;
+        reached = finishes .deepest;
+        greatest = finishes .greatest;
+        refused = λ ds ne. sym (later-refused kind n wanted (joined (end .segments)) ds (laterOf kind n ds) refl ne);
+        planned = λ ds z. later-means end kind n wanted ds finishes z;
+      }
+
+-- The report of an accepted first frame: its counts are the numbers of stacks at each distance, and its plans are shortest.
+pub report-means : (table cs : List ℕ) (lines : List (List ℕ)) → length table ≡ tableLimit → firstRefusal cs ≡ 0
+    → (let first = firstOf cs in Reports (first .kind) (first .n) (first .wanted) lines (reportOf table (cs ∷ lines)))
+unfolding firstOf reportOf reportFrom
+report-means table cs lines long h =
+    subst
+    (λ (r : ℕ). (let first = firstWith r (bytesOf cs) in Reports (first .kind) (first .n) (first .wanted) lines (reportFrom first table lines)))
+    (sym h)
+    (reports cs table h long lines (reportFrom (firstWith 0 (bytesOf cs)) table lines) refl)
+
+-- a refused one ends the run
+pub report-refused : (table cs : List ℕ) (lines : List (List ℕ)) → (firstRefusal cs ≡ 0 → ⊥)
+    → reportOf table (cs ∷ lines) ≡ refusalLine (firstRefusal cs)
+unfolding firstOf reportOf reportFrom
+report-refused table cs lines ne = rw (ne-eqb (firstRefusal cs) 0 ne)
+
+-- What is printed can be read back from its line: the number of turns and the turns, and a level's number and its count.
+pub answer-says : {kind n : ℕ} {wanted : List ℤ} {table cs : List ℕ} (answer : Answers kind n wanted table cs)
+    → bytesOf (planLine (answer .turns)) ≡ length (answer .turns) ∷ answer .turns
+unfolding planLine
+answer-says answer = line-says (length (answer .turns) ∷ answer .turns) (answer .fit)
+
+pub level-says : (d count : ℕ) → d < 256 → bytesOf (levelLine d count) ≡ d ∷ fourBytes count
+unfolding levelLine fourBytes all isByte
+level-says d count h =
+    line-says (d ∷ fourBytes count)
+    (rw (
+      lt-ltb d 256 h,
+      lt-ltb (count / 16777216 % 256) 256 (omega arith),
+      lt-ltb (count / 65536 % 256) 256 (omega arith),
+      lt-ltb (count / 256 % 256) 256 (omega arith),
+      lt-ltb (count % 256) 256 (omega arith),
+    ))

@@ -1,0 +1,26 @@
+-- `session::first::head_text` meets its contract.
+use borrow.Author.Needs.{needs}
+use mathlib.Core.Path.{subst}
+use mathlib.Core.List.{_++_}
+use Prim.Native.Nat.{ℕ}
+use Rattle.frames.specs.Output.{levelLines, deepestLine}
+use Rattle.frames.specs.Written.{Wrote}
+use Rattle.session.specs.Report.{headText}
+use Rattle.session.proofs.first.head_text.Statement.{statement}
+use Rattle.session.proofs.first.head_text.Tie as tie
+
+level-of-requires : tie.Need-level-of-requires
+level-of-requires c κs = search needs
+
+write-head-requires : tie.Need-write-head-requires
+write-head-requires c κs = search needs
+
+returns : tie.Need-returns
+unfolding headText
+returns c =
+    let a = c .before .before .before .before .args in
+    subst (λ (d : ℕ). Wrote (levelLines d (a .job .counts) ++ deepestLine d) (a .out .now) (c .write-head .last .0) (c .write-head .result))
+    (c .before .level-of .ensures) (c .write-head .ensures)
+
+pub head-text-spec : {M : Type 1} → statement M
+head-text-spec = tie.close (tie.spec level-of-requires write-head-requires returns)

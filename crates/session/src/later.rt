@@ -1,0 +1,46 @@
+// What a later frame is answered, written at the front of a lent buffer. The answer is the text's length.
+ghost use Rattle.frames.specs.Kept.{textOf};
+ghost use Rattle.frames.specs.Written.{Wrote};
+ghost use Rattle.session.specs.Report.{planText, laterText};
+use frames::Line;
+use frames::TEXT_LIMIT;
+use frames::frame;
+use frames::output;
+
+// The plan of a stack, or Plan's refusal.
+fn plan_text(
+    kind: u8,
+    n: u8,
+    wanted: [i8; 12],
+    table: &[u8],
+    given: [i8; 12],
+    out: &mut [u8; TEXT_LIMIT],
+) -> usize
+    ensures { λ r. ⌜ Wrote (planText kind n wanted (now (table .entry)) given) (now (out .entry)) (now (out .exit)) r ⌝ }
+{
+    let mut turns = [0u8; 30];
+    let planned = plan::plan::plan(kind, n, wanted, given, table, &mut turns);
+    if planned.refusal != 0 {
+        return output::write_refusal(out, planned.refusal);
+    }
+    output::write_plan(out, turns, planned.turns)
+}
+
+// The frame's refusal, or the plan of its stack.
+pub(crate) fn later_text(
+    kind: u8,
+    n: u8,
+    wanted: [i8; 12],
+    table: &[u8],
+    line: Line,
+    out: &mut [u8; TEXT_LIMIT],
+) -> usize
+    ensures { λ r. ⌜ Wrote (laterText kind n wanted (now (table .entry)) (textOf line)) (now (out .entry)) (now (out .exit)) r ⌝ }
+{
+    let later = frame::later_frame(kind, n, line);
+    if later.refusal != 0 {
+        return output::write_refusal(out, later.refusal);
+    }
+    let given = later.stack;
+    plan_text(kind, n, wanted, table, given, out)
+}

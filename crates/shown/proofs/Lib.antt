@@ -1,0 +1,4 @@
+-- The report's example, whole, and worked cases of its text.
+pub mod Open
+pub mod Texts
+pub mod Example

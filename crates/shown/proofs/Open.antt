@@ -1,0 +1,31 @@
+-- Every definition that a report computes with: who unfolds `report-open` unfolds them all, with those of builds and plans.
+use Rattle.worked.proofs.Open.{all-open}
+use Rattle.frames.specs.Frame
+use Rattle.frames.specs.Hex
+use Rattle.frames.specs.Lines
+use Rattle.frames.specs.Output
+use Rattle.session.specs.Report
+
+texts : Unit {0}
+unfolding Hex.isDigit Hex.digitOf Hex.digitChar Hex.isPairs Hex.bytesOf Hex.hexOf Hex.lineOf Hex.numberFrom Hex.numberOf Hex.fourBytes Lines.inFirst Lines.linesOf
+texts = tt
+
+panes : Unit {0}
+unfolding Frame.isFrame Frame.paneOf Frame.placesOf Frame.kindIn Frame.panesIn Frame.wantedIn Frame.sizeIn
+panes = tt
+
+frames : Unit {0}
+unfolding Frame.fieldsRefusal Frame.bytesRefusal Frame.firstRefusal Frame.firstOf Frame.laterRefusal Frame.laterOf
+frames = tt
+
+lines : Unit {0}
+unfolding Output.levelLine Output.levelsFrom Output.levelLines Output.deepestLine Output.planLine Output.refusalLine
+lines = tt
+
+answers : Unit {0}
+unfolding Report.isReported Report.tableBytes Report.logWords Report.builtIn Report.headText Report.planText Report.laterText Report.laterTexts
+answers = tt
+
+unfoldable pub report-open : Unit {0}
+unfolding all-open texts panes frames lines answers Report.reportFrom Report.reportOf
+report-open = tt

@@ -1,0 +1,128 @@
+-- Every definition that a worked case computes with. Who unfolds `all-open` unfolds them all, so that they are listed here alone.
+use Rattle.base.specs.Words
+use Rattle.stacks.specs.Stack
+use Rattle.stacks.specs.Index
+use Rattle.stacks.specs.Turn
+use Rattle.stacks.specs.Operations
+use Rattle.search.specs.Entries
+use Rattle.search.specs.Segments
+use Rattle.search.specs.JobState
+use Rattle.search.specs.Begin
+use Rattle.search.specs.Blank
+use Rattle.search.specs.Marks
+use Rattle.search.specs.Logs
+use Rattle.search.specs.Level
+use Rattle.search.specs.Expand
+use Rattle.search.specs.Settle
+use Rattle.search.specs.Look
+use Rattle.search.specs.Close
+use Rattle.search.specs.Plan
+use Rattle.search.specs.Build
+use Rattle.search.specs.Promise
+use Rattle.search.specs.Drive
+use Rattle.worked.specs.Cases
+use Rattle.worked.specs.PlainThree
+
+words : Unit {0}
+unfolding Words.all Words.tally Words.total Words.fact Words.from Words.without Words.firstFrom
+words = tt
+
+stacks : Unit {0}
+unfolding Stack.isKind Stack.isCoated Stack.fewestPanes Stack.mostPanes Stack.isPaneCount Stack.orderOf Stack.eachOnce Stack.isUnused Stack.isStack Stack.coatings Stack.stackCount
+stacks = tt
+
+indexes : Unit {0}
+unfolding Index.smaller Index.rankFrom Index.coat Index.coatBits Index.rankOf Index.orderAt Index.paneWith Index.coatedBy Index.stackAt
+indexes = tt
+
+turns : Unit {0}
+unfolding Turn.firstTurn Turn.lastTurn Turn.isTurn Turn.turnsOf Turn.flip Turn.turnOf Turn.turnsFrom
+turns = tt
+
+operations : Unit {0}
+unfolding Operations.kindRefusal Operations.indexRefusal Operations.stackRefusal Operations.turnRefusal Operations.indexOf Operations.stackOf Operations.turnedOf
+operations = tt
+
+entries : Unit {0}
+unfolding Entries.digit Entries.withDigit Entries.entryAt Entries.setEntry Entries.unseen Entries.nextEntry Entries.seenIn Entries.bytesFor Entries.blank
+entries = tt
+
+segments : Unit {0}
+unfolding Segments.segmentLimit Segments.segmentCount Segments.stackCountIn Segments.isSegmentSize Segments.isLogRoom Segments.joined
+segments = tt
+
+jobs : Unit {0}
+unfolding JobState.stackCountOf JobState.segmentCountOf JobState.stackCountAt JobState.logLength JobState.passedOf JobState.waitingOf JobState.countOf JobState.progressed
+jobs = tt
+
+phases : Unit {0}
+unfolding JobState.lastLevel JobState.isBlanking JobState.isLevel JobState.isFinished JobState.levelOf JobState.phaseFits
+phases = tt
+
+coherence : Unit {0}
+unfolding JobState.beginRefusal JobState.countLimit JobState.segmentFits JobState.countFits JobState.isCoherent
+coherence = tt
+
+begins : Unit {0}
+unfolding Begin.begun Begin.beginOf
+begins = tt
+
+blanks : Unit {0}
+unfolding Blank.blankRefusal Blank.goalOf Blank.blanked Blank.blankOf
+blanks = tt
+
+marks : Unit {0}
+unfolding Marks.markOne Marks.markAll
+marks = tt
+
+logs : Unit {0}
+unfolding Logs.logPart Logs.pending Logs.logOne Logs.fallingIn Logs.lacksRoom
+logs = tt
+
+expands : Unit {0}
+unfolding Level.levelRefusal Expand.expandRefusal Expand.isParent Expand.childrenOf Expand.expansion Expand.expandedJob Expand.expandOf
+expands = tt
+
+expand-runs : Unit {0}
+unfolding Expand.placeChild Expand.placeAll Expand.passOne Expand.waitFor Expand.expandStack Expand.expandNext Expand.expandRun
+expand-runs = tt
+
+settles : Unit {0}
+unfolding Settle.settleRefusal Settle.settleOf
+settles = tt
+
+looks : Unit {0}
+unfolding Look.lookRefusal Look.lookOf
+looks = tt
+
+closes : Unit {0}
+unfolding Close.isDone Close.isReady Close.isPastLast Close.closeRefusal Close.nextPhase Close.nextCounts Close.closed Close.closeOf
+closes = tt
+
+plans : Unit {0}
+unfolding Plan.planLimit Plan.planRow Plan.planRefusal Plan.hasPlan Plan.planOf
+plans = tt
+
+routes : Unit {0}
+unfolding Plan.entryOf Plan.leadsTo Plan.follow Plan.isWanted Plan.planStep Plan.planRun Plan.routeFrom
+routes = tt
+
+builds : Unit {0}
+unfolding Build.lent Build.kept Build.isOwn Build.isLentOwn Build.outcome Build.after Promise.rightBytes Promise.rightWords
+builds = tt
+
+drives : Unit {0}
+unfolding Drive.isOpen Drive.isPending Drive.firstOpen Drive.firstPending Drive.nextCall Drive.advanced Drive.drive Drive.mostCalls
+drives = tt
+
+whole-tables : Unit {0}
+unfolding Drive.cut Drive.held Drive.buildRefusal Drive.built Drive.buildOf
+whole-tables = tt
+
+cases : Unit {0}
+unfolding Cases.ordered Cases.any Cases.tooLong Cases.refusals Cases.blankAll Cases.searchLevel Cases.searchLevels Cases.startOf Cases.endOf Cases.whole PlainThree.start PlainThree.early PlainThree.calls
+cases = tt
+
+unfoldable pub all-open : Unit {0}
+unfolding words stacks indexes turns operations entries segments jobs phases coherence begins blanks marks logs expands expand-runs settles looks closes plans routes builds drives whole-tables cases
+all-open = tt

@@ -1,0 +1,81 @@
+-- The words of the worked cases: stacks written by their panes, and builds that take the segments in turn.
+--   places     the panes of a list, top first, and unused places to twelve
+--   ordered    the ordered stack, all coats up
+--   startOf    Begin for the ordered stack with C = 16, and buffers that hold zeros
+--   endOf      the world that such a build comes to after as many levels
+--   whole      Build the whole table for the same, in buffers of these lengths
+--   any        any list of a length, by the number at each place
+--   tooLong    a buffer that is lent with one number too many
+--   refusals   what each call of a list answers, 0 where it is not refused
+use mathlib.Core.List.{List, [], _∷_, _++_, map}
+use Prim.Native.Nat.{ℕ, zero, suc}
+use native.Mathlib.Omega.{arith}
+use lib.IntN.{ℤ, pos, negℤ}
+use lib.ListN.{take, replicate, length-replicate}
+use Rattle.base.specs.Words.{from}
+use Rattle.stacks.specs.Stack.{stackCount}
+use Rattle.search.specs.Begin.{beginOf}
+use Rattle.search.specs.Build.{World, Lent, Call, own, other, doBlank, doExpand, doSettle, doClose, outcome, after}
+use Rattle.search.specs.Drive.{buildOf}
+use Rattle.search.specs.Promise.{rightBytes, rightWords}
+use Rattle.search.specs.Segments.{segmentCount}
+use Rattle.search.specs.declared.Answer.{Answer}
+
+abbrev pub plain : ℕ
+plain = 0
+
+abbrev pub coated : ℕ
+coated = 1
+
+-- pane x with its coat up, and with its coat down
+abbrev pub up : ℕ → ℤ
+up x = pos x
+
+abbrev pub down : ℕ → ℤ
+down x = negℤ (pos x)
+
+abbrev pub places : List ℤ → List ℤ
+places panes = take 12 (panes ++ replicate 12 (pos 0))
+
+unfoldable pub ordered : ℕ → List ℤ
+ordered n = places (map up (from 1 n))
+
+unfoldable pub any : (ℕ → ℕ) → ℕ → List ℕ
+any number count = map number (from 0 count)
+
+unfoldable pub tooLong : {right : ℕ} → Lent right
+tooLong {right} = other (replicate (suc right) 0) (λ h. omega (arith, length-replicate {A = ℕ} (suc right) 0))
+
+module _ {bytes : ℕ → ℕ} {words : ℕ} where
+  unfoldable pub refusals : World → List (Call bytes words) → List ℕ
+  refusals w [] = []
+  refusals w (call ∷ calls) = outcome w call .refusal ∷ refusals (outcome w call .world) calls
+
+  -- each of G segments is blanked, and the phase closed
+  unfoldable pub blankAll : ℕ → List (Call bytes words)
+  blankAll G = map (λ j. doBlank j own) (from 0 G) ++ (doClose ∷ [])
+
+  -- each is expanded, then each log settled, and the level closed
+  unfoldable pub searchLevel : ℕ → List (Call bytes words)
+  searchLevel G = map (λ j. doExpand j own own) (from 0 G) ++ (map (λ j. doSettle j own own) (from 0 G) ++ (doClose ∷ []))
+
+  unfoldable pub searchLevels : ℕ → ℕ → List (Call bytes words)
+  searchLevels G zero = []
+  searchLevels G (suc d) = searchLevel G ++ searchLevels G d
+
+module _ (kind n S : ℕ) where
+  unfoldable pub startOf : World
+  startOf =
+      record {
+        job = beginOf kind n (ordered n) S 16 .job;
+        segments = map (λ j. replicate (rightBytes kind n S j) 0) (from 0 (segmentCount (stackCount kind n) S));
+        log = replicate (rightWords kind n S 16) 0;
+      }
+
+  unfoldable pub endOf : ℕ → World
+  endOf d =
+      let G = segmentCount (stackCount kind n) S in
+      after {bytes = rightBytes kind n S} {words = rightWords kind n S 16} startOf (blankAll G ++ searchLevels G d)
+
+  unfoldable pub whole : ℕ → ℕ → List ℕ × List ℕ × Answer
+  whole bytes words = buildOf kind n (ordered n) S 16 (replicate bytes 0) (replicate words 0)

@@ -1,0 +1,126 @@
+-- What the whole-build theorem says of one list of calls: plain 3 for the ordered stack, S 4 and C 16, so that there are two segments.
+--   start    Begin's job; a byte for each segment and 32 numbers for the log area, whatever they are
+--   early    the calls to the middle of level 1. Some are refused: a segment that is not there, a buffer of a wrong length, a Close too soon
+--   calls    those and the rest, to the end and past it
+--   part     the world after the early calls
+--   end      the world after them all
+use mathlib.Core.Path.{_≡_}
+use mathlib.Core.Bool.{true, false}
+use mathlib.Core.List.{List, [], _∷_, _++_}
+use Prim.Native.Nat.{ℕ, _%_, _≤_, _<_}
+use lib.IntN.{ℤ}
+use lib.ListN.{take}
+use Rattle.base.specs.Words.{total}
+use Rattle.stacks.specs.Counts.{CountsAt}
+use Rattle.stacks.specs.Index.{rankOf}
+use Rattle.stacks.specs.Stack.{isStack}
+use Rattle.stacks.specs.Turn.{Road, Fewest}
+use Rattle.search.specs.Begin.{begun, beginOf}
+use Rattle.search.specs.Build.{World, Call, own, doBlank, doExpand, doSettle, doLook, doClose, outcome, after, isLentOwn, CarriesOn}
+use Rattle.search.specs.Close.{closeOf}
+use Rattle.search.specs.Entries.{entryAt, seenIn}
+use Rattle.search.specs.JobState.{countOf, isFinished, lastLevel}
+use Rattle.search.specs.Plan.{planOf}
+use Rattle.search.specs.Promise.{rightBytes, rightWords, FinishedByClose}
+use Rattle.search.specs.Segments.{joined}
+use Rattle.search.specs.declared.Phase.the-variants.{Level, Finished}
+use Rattle.worked.specs.Cases.{plain, up, places, ordered, any, tooLong, refusals, searchLevels}
+
+abbrev pub Calls : Type 0
+Calls = List (Call (rightBytes plain 3 4) (rightWords plain 3 4 16))
+
+unfoldable pub early : Calls
+early =
+    doBlank 2 own  -- 9: the segments are 0 and 1
+    ∷ doBlank 1 own
+    ∷ doClose  -- 13: segment 0 is not passed
+    ∷ doBlank 0 tooLong  -- 10
+    ∷ doExpand 0 own own  -- 8: the phase is Blanking
+    ∷ doBlank 0 own
+    ∷ doBlank 0 own  -- 11: all its stacks are passed
+    ∷ doClose
+    ∷ doExpand 1 own own
+    ∷ doExpand 0 own tooLong  -- 10
+    ∷ doExpand 0 own own
+    ∷ []
+
+unfoldable pub calls : Calls
+calls =
+    early
+    ++ (doClose  -- 13: an entry waits in the log of segment 1
+    ∷ doLook 1 own
+    ∷ doSettle 1 tooLong own  -- 10
+    ∷ doSettle 1 own own
+    ∷ doClose
+    ∷ (searchLevels 2 3 ++ (doClose ∷ doExpand 0 own own ∷ doLook 0 own ∷ [])))
+
+-- plain 3 1 2
+abbrev pub given : List ℤ
+given = places (up 3 ∷ up 1 ∷ up 2 ∷ [])
+
+abbrev pub table : List ℕ
+table = 0x90 ∷ 0xf6 ∷ []
+
+-- first, second and words are what the buffers held before
+module _ (first second : ℕ) (words : ℕ → ℕ) where
+  unfoldable pub start : World
+  start =
+      record {
+        job = begun plain 3 (ordered 3) 4 16;
+        segments = (first ∷ []) ∷ (second ∷ []) ∷ [];
+        log = any words 32;
+      }
+
+  abbrev pub part : World
+  part = after start early
+
+  abbrev pub end : World
+  end = after start calls
+
+  -- slots are what the turn list held before
+  pub record PlainThree (slots : ℕ → ℕ) : Type 0 where
+    pub begins : beginOf plain 3 (ordered 3) 4 16 ≡ record { refusal = 0; job = begun plain 3 (ordered 3) 4 16 }
+    pub answers : refusals start early ≡ 9 ∷ 0 ∷ 13 ∷ 10 ∷ 8 ∷ 0 ∷ 11 ∷ 0 ∷ 0 ∷ 10 ∷ 0 ∷ []
+    -- part of the list: no call has finished the build, so one carries it on; 31 levels suffice, and no Close says 14
+    pub part-way : part .job .phase ≡ Level 1
+    pub continues : (call : Call (rightBytes plain 3 4) (rightWords plain 3 4 16)) × (isLentOwn call ≡ true) × (outcome part call .refusal ≡ 0)
+        × CarriesOn part (outcome part call .world)
+    pub levels : (d : ℕ) → part .job .phase ≡ Level d → d ≤ lastLevel
+    pub closes : outcome {bytes = rightBytes plain 3 4} {words = rightWords plain 3 4 16} part doClose .refusal ≡ 14 → ⊥
+    pub ends : (more : Calls) × (isFinished (after start (early ++ more) .job .phase) ≡ true)
+    -- the whole list: a Close of it has finished the build, and whatever follows leaves it so
+    pub finished : end .job .phase ≡ Finished 3
+    pub by-close : (before : Calls) × (later : Calls) × (calls ≡ before ++ (doClose ∷ later)) × (isFinished (after start before .job .phase) ≡ false)
+        × (closeOf (after start before .job) .refusal ≡ 0) × (isFinished (closeOf (after start before .job) .job .phase) ≡ true)
+    pub since-close : FinishedByClose start calls → isFinished (end .job .phase) ≡ true
+    pub stays : (more : Calls) → isFinished (after start (calls ++ more) .job .phase) ≡ true
+    -- the table: each entry is the fewest turns modulo 3, the two spare ones are 3
+    pub leaves : joined (end .segments) ≡ table
+    pub entries : (s : List ℤ) → isStack plain 3 s ≡ true → (d : ℕ) × Fewest plain 3 s (ordered 3) d × (entryAt table (rankOf plain 3 s) ≡ d % 3)
+    pub spare-6 : entryAt table 6 ≡ 3
+    pub spare-7 : entryAt table 7 ≡ 3
+    -- the counts 1 2 2 1: as many stacks are at 0, 1, 2 and 3 turns, and none is at more; all 6 are counted
+    pub counts : take 5 (end .job .counts) ≡ 1 ∷ 2 ∷ 2 ∷ 1 ∷ 0 ∷ []
+    pub at-0 : CountsAt plain 3 (ordered 3) 0 1
+    pub at-1 : CountsAt plain 3 (ordered 3) 1 2
+    pub at-2 : CountsAt plain 3 (ordered 3) 2 2
+    pub at-3 : CountsAt plain 3 (ordered 3) 3 1
+    pub at-4 : CountsAt plain 3 (ordered 3) 4 0
+    pub past : (d : ℕ) → 3 < d → countOf (end .job) d ≡ 0
+    pub added : total (end .job .counts) ≡ seenIn table 6
+    pub all-seen : seenIn table 6 ≡ 6
+    -- the deepest level, 3, is reached, and no stack needs more
+    pub deepest : (s : List ℤ) × (isStack plain 3 s ≡ true) × Fewest plain 3 s (ordered 3) 3
+    pub greatest : (s : List ℤ) (d : ℕ) → isStack plain 3 s ≡ true → Fewest plain 3 s (ordered 3) d → d ≤ 3
+    -- Plan gets the job's kind, n and wanted stack, which are Begin's
+    pub same-kind : end .job .kind ≡ plain
+    pub same-n : end .job .n ≡ 3
+    pub same-wanted : end .job .wanted ≡ ordered 3
+    -- Plan takes 3 1 2 to the ordered stack by turns 3 and 2, and no road is shorter
+    pub accepts : planOf plain 3 (ordered 3) given table (any slots 30) .1 .refusal ≡ 0
+    pub turns : planOf plain 3 (ordered 3) given table (any slots 30) .1 .turns ≡ 2
+    pub road : Road plain 3 (3 ∷ 2 ∷ []) given (ordered 3)
+    pub fewest : Fewest plain 3 given (ordered 3) 2
+    -- from a spoilt table, in which 3 1 2 has entry 1, the plan is longer, and arrives
+    pub spoilt : planOf plain 3 (ordered 3) given (0x90 ∷ 0xf5 ∷ []) (any slots 30) .1 ≡ record { refusal = 0; turns = 4 }
+    pub spoilt-road : Road plain 3 (2 ∷ 3 ∷ 2 ∷ 3 ∷ []) given (ordered 3)

@@ -1,0 +1,54 @@
+/* Builds the table of coated 4 for the wanted stack +1 +2 +3 +4 in one call, and shows a plan from it: the stack after each turn.
+ *   rt staticlib hokrund
+ *   cc -std=c99 -Iinclude examples/coated.c target/staticlib/libhokrund.a -o target/coated
+ *   target/coated | cmp - examples/coated.out */
+#include "hokrund.h"
+#include <stdio.h>
+#include <stdlib.h>
+
+enum { KIND = HOKRUND_COATED, PANES = 4, S = 64, C = 16 };
+/* N is no enum constant: that of coated 10 does not fit an int. */
+#define N HOKRUND_STACKS(KIND, PANES)
+#define G HOKRUND_SEGMENT_COUNT(N, S)
+
+static uint8_t table[HOKRUND_TABLE_BYTES(N)];
+static uint32_t logs[HOKRUND_LOG_WORDS(G, C)];
+
+static void accepted(uint8_t refusal)
+{
+    if (refusal != HOKRUND_ACCEPTED) {
+        printf("refused %d\n", refusal);
+        exit(1);
+    }
+}
+
+/* The panes from the top, plus for coat up and minus for coat down. */
+static void show(HokrundStack stack)
+{
+    for (int p = 0; p < PANES; p++)
+        printf(" %+d", stack.places[p]);
+    printf("\n");
+}
+
+int main(void)
+{
+    HokrundStack wanted = {{1, 2, 3, 4}}, stack = {{-1, -2, -3, -4}};
+    uint8_t turns[HOKRUND_TURN_LIST];
+    HokrundAnswer built = hokrund_build_table(KIND, PANES, wanted, S, C, table, sizeof table, logs, HOKRUND_LOG_WORDS(G, C));
+    accepted(built.refusal);
+    for (int d = 0; d <= built.job.level; d++)
+        printf("level %d: %lu\n", d, (unsigned long)built.job.counts[d]);
+
+    HokrundPlanned planned = hokrund_plan(KIND, PANES, wanted, stack, table, sizeof table, turns, sizeof turns);
+    accepted(planned.refusal);
+    printf("given:");
+    show(stack);
+    for (uint32_t t = 0; t < planned.turns; t++) {
+        HokrundStacked turned = hokrund_turn(KIND, PANES, stack, turns[t]);
+        accepted(turned.refusal);
+        stack = turned.stack;
+        printf("turn %d:", turns[t]);
+        show(stack);
+    }
+    return 0;
+}

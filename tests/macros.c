@@ -1,0 +1,120 @@
+/* The header's macros at every kind and n, beside values computed another way: products and sums, step by step. C99 and C++98. */
+#include "hokrund.h"
+#include <stdio.h>
+
+#define ROOM 16
+
+static int differences = 0;
+
+static void same(const char *what, int kind, int n, unsigned long at, uint64_t found, uint64_t expected)
+{
+    if (found != expected) {
+        printf("%s of kind %d, n %d, at %lu: %lu instead of %lu\n", what, kind, n, at, (unsigned long)found, (unsigned long)expected);
+        differences++;
+    }
+}
+
+/* n! is the product of 1 to n, and n! x 2^n that of 2, 4 .. 2n. */
+static uint64_t product(int n, int step)
+{
+    uint64_t count = 1;
+    for (int i = 1; i <= n; i++)
+        count *= (uint64_t)(i * step);
+    return count;
+}
+
+static int most_panes(int kind)
+{
+    return kind == 0 ? 12 : kind == 1 ? 10 : 0;
+}
+
+static uint64_t stacks(int kind, int n)
+{
+    return n < 1 || most_panes(kind) < n ? 0 : product(n, kind + 1);
+}
+
+/* Any kind and n, as an int and as a byte. */
+static void counts(void)
+{
+    for (int kind = -1; kind <= 256; kind++)
+        for (int n = -1; n <= 256; n++) {
+            uint8_t small_kind = (uint8_t)kind, small_n = (uint8_t)n;
+            same("N", kind, n, 0, HOKRUND_STACKS(kind, n), stacks(kind, n));
+            same("N of bytes", small_kind, small_n, 0, HOKRUND_STACKS(small_kind, small_n), stacks(small_kind, small_n));
+        }
+    for (int n = -1; n <= 256; n++)
+        same("n!", 0, n, 0, HOKRUND_FACTORIAL(n), n < 0 || 12 < n ? 0 : product(n, 1));
+}
+
+/* Every segment, one past the last and the last number of all; as 32 bits without a sign, and as ints. */
+static void segments(int kind, int n, uint32_t size)
+{
+    uint64_t left = stacks(kind, n), bytes = 0, words = 0;
+    uint32_t j = 0;
+    while (left > 0) {
+        uint64_t m = left < size ? left : size;
+        same("m", kind, n, j, HOKRUND_SEGMENT_STACKS(HOKRUND_STACKS(kind, n), size, j), m);
+        same("m of ints", kind, n, j, HOKRUND_SEGMENT_STACKS(HOKRUND_STACKS(kind, n), (int)size, (int)j), m);
+        same("bytes", kind, n, j, HOKRUND_SEGMENT_BYTES(m), m / 4 + (m % 4 != 0));
+        same("start", kind, n, j, HOKRUND_SEGMENT_START(size, j), bytes);
+        same("start of ints", kind, n, j, HOKRUND_SEGMENT_START((int)size, (int)j), bytes);
+        left -= m;
+        bytes += m / 4 + (m % 4 != 0);
+        words += ROOM;
+        j++;
+    }
+    same("m past the last", kind, n, j, HOKRUND_SEGMENT_STACKS(HOKRUND_STACKS(kind, n), size, j), 0);
+    same("m far past", kind, n, j, HOKRUND_SEGMENT_STACKS(HOKRUND_STACKS(kind, n), size, UINT32_MAX), 0);
+    same("G", kind, n, size, HOKRUND_SEGMENT_COUNT(HOKRUND_STACKS(kind, n), size), j);
+    same("G of ints", kind, n, size, HOKRUND_SEGMENT_COUNT(HOKRUND_STACKS(kind, n), (int)size), j);
+    same("table", kind, n, size, HOKRUND_TABLE_BYTES(HOKRUND_STACKS(kind, n)), bytes);
+    same("log", kind, n, size, HOKRUND_LOG_WORDS(j, ROOM), words);
+}
+
+/* Sizes that make at most 64 segments, from the smallest on; the last is the largest of all. */
+static void sizes(int kind, int n)
+{
+    uint64_t smallest = (stacks(kind, n) + 255) / 256 * 4;
+    for (uint64_t size = smallest; size < 67108864; size = size * 2 + 4)
+        segments(kind, n, (uint32_t)size);
+    segments(kind, n, 67108864);
+}
+
+/* As constants: the sizes of arrays, and of the largest table and log area. */
+#define ARRAY(count) sizeof(char[count])
+static const uint64_t plain[] = {
+    ARRAY(HOKRUND_STACKS(HOKRUND_PLAIN, 1)), ARRAY(HOKRUND_STACKS(HOKRUND_PLAIN, 2)), ARRAY(HOKRUND_STACKS(HOKRUND_PLAIN, 3)),
+    ARRAY(HOKRUND_STACKS(HOKRUND_PLAIN, 4)), ARRAY(HOKRUND_STACKS(HOKRUND_PLAIN, 5)), ARRAY(HOKRUND_STACKS(HOKRUND_PLAIN, 6)),
+    ARRAY(HOKRUND_STACKS(HOKRUND_PLAIN, 7)), ARRAY(HOKRUND_STACKS(HOKRUND_PLAIN, 8)), ARRAY(HOKRUND_STACKS(HOKRUND_PLAIN, 9)),
+    ARRAY(HOKRUND_STACKS(HOKRUND_PLAIN, 10)), ARRAY(HOKRUND_STACKS(HOKRUND_PLAIN, 11)), ARRAY(HOKRUND_STACKS(HOKRUND_PLAIN, 12))};
+static const uint64_t coated[] = {
+    ARRAY(HOKRUND_STACKS(HOKRUND_COATED, 1)), ARRAY(HOKRUND_STACKS(HOKRUND_COATED, 2)), ARRAY(HOKRUND_STACKS(HOKRUND_COATED, 3)),
+    ARRAY(HOKRUND_STACKS(HOKRUND_COATED, 4)), ARRAY(HOKRUND_STACKS(HOKRUND_COATED, 5)), ARRAY(HOKRUND_STACKS(HOKRUND_COATED, 6)),
+    ARRAY(HOKRUND_STACKS(HOKRUND_COATED, 7)), ARRAY(HOKRUND_STACKS(HOKRUND_COATED, 8)), ARRAY(HOKRUND_STACKS(HOKRUND_COATED, 9)),
+    ARRAY(HOKRUND_STACKS(HOKRUND_COATED, 10))};
+
+#define LARGEST_COUNT HOKRUND_SEGMENT_COUNT(HOKRUND_STACKS(HOKRUND_COATED, 10), 67108864)
+#define LARGEST_STACKS(j) HOKRUND_SEGMENT_STACKS(HOKRUND_STACKS(HOKRUND_COATED, 10), 67108864, j)
+
+static void constants(void)
+{
+    uint64_t all = product(10, 2);
+    for (int n = 1; n <= 12; n++)
+        same("plain N as a constant", 0, n, 0, plain[n - 1], product(n, 1));
+    for (int n = 1; n <= 10; n++)
+        same("coated N as a constant", 1, n, 0, coated[n - 1], product(n, 2));
+    same("table as a constant", 1, 10, 0, ARRAY(HOKRUND_TABLE_BYTES(HOKRUND_STACKS(HOKRUND_COATED, 10))), all / 4);
+    same("log as a constant", 1, 10, 0, ARRAY(HOKRUND_LOG_WORDS(64, 1048576)), (uint64_t)64 * 1048576);
+    same("m as a constant", 1, 10, 35, ARRAY(LARGEST_STACKS(35)), 67108864);
+    same("the last m as a constant", 1, 10, 55, ARRAY(LARGEST_STACKS(LARGEST_COUNT - 1)), all % 67108864);
+}
+
+int main(void)
+{
+    counts();
+    for (int kind = 0; kind <= 1; kind++)
+        for (int n = 1; n <= most_panes(kind); n++)
+            sizes(kind, n);
+    constants();
+    return differences != 0;
+}

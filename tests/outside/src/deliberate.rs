@@ -1,0 +1,617 @@
+// Calls made on purpose, none by the chance of a seed: each limit of document 01 from both sides, each refusal of each operation, answers in
+// which no two numbers can be mistaken for each other, and bytes past the first mebibyte.
+
+use std::rc::Rc;
+
+use crate::build::{ordered, Fields};
+use crate::call::{Answered, Call};
+use crate::cases::walked;
+use crate::paper::{self, Limits, Paper, COATED, PAPER, PLAIN};
+use crate::rng::Rng;
+use crate::system::*;
+
+// A limit, the calls that try it from both sides, and wrong limits that those calls must catch.
+pub struct Limit {
+    pub name: &'static str,
+    pub calls: fn() -> Vec<Call>,
+    pub moved: &'static [fn(&mut Limits)],
+}
+
+// Not among the moved, as they cannot be told apart: an S of at least 3, 2 or 1, as none of these is a multiple of 4 (and with one of at
+// least 0 there is no G).
+pub const LIMITS: &[Limit] = &[
+    Limit {
+        name: "panes of a plain stack",
+        calls: || panes(PLAIN, 12),
+        moved: &[
+            |limits| limits.least_panes = 0,
+            |limits| limits.least_panes = 2,
+            |limits| limits.most_panes[0] = 11,
+            |limits| limits.most_panes[0] = 13,
+        ],
+    },
+    Limit {
+        name: "panes of a coated stack",
+        calls: || panes(COATED, 10),
+        moved: &[|limits| limits.most_panes[1] = 9, |limits| limits.most_panes[1] = 11],
+    },
+    Limit {
+        name: "turns",
+        calls: turns,
+        moved: &[
+            |limits| limits.first_turn[0] = 1,
+            |limits| limits.first_turn[0] = 3,
+            |limits| limits.first_turn[1] = 0,
+            |limits| limits.first_turn[1] = 2,
+            |limits| limits.turn_past_n = -1,
+            |limits| limits.turn_past_n = 1,
+        ],
+    },
+    Limit {
+        name: "N of an index",
+        calls: indices,
+        moved: &[|limits| limits.index_past_stacks = -1, |limits| limits.index_past_stacks = 1],
+    },
+    Limit {
+        name: "S",
+        calls: sizes,
+        moved: &[
+            |limits| limits.least_size = 8,
+            |limits| limits.size_step = 2,
+            |limits| limits.size_step = 8,
+            |limits| limits.most_size -= 4,
+            |limits| limits.most_size += 4,
+        ],
+    },
+    Limit {
+        name: "G",
+        calls: segment_counts,
+        moved: &[|limits| limits.most_segments = 63, |limits| limits.most_segments = 65],
+    },
+    Limit {
+        name: "C",
+        calls: rooms,
+        moved: &[
+            |limits| limits.least_room -= 1,
+            |limits| limits.least_room += 1,
+            |limits| limits.most_room -= 1,
+            |limits| limits.most_room += 1,
+        ],
+    },
+    Limit {
+        name: "phase numbers",
+        calls: phase_numbers,
+        moved: &[|limits| limits.phases = 4, |limits| limits.most_blanking_level = 1],
+    },
+    Limit {
+        name: "levels",
+        calls: levels,
+        moved: &[
+            |limits| limits.first_level = 0,
+            |limits| limits.first_level = 2,
+            |limits| limits.last_level = 30,
+            |limits| limits.last_level = 32,
+        ],
+    },
+    Limit {
+        name: "the deepest level",
+        calls: || calls_on([0, 29, 30, 31, 32, 255].map(|deepest| small_job(Phase::Finished(deepest)))),
+        moved: &[|limits| limits.most_deepest = 29, |limits| limits.most_deepest = 31],
+    },
+    Limit { name: "counts", calls: counts, moved: &[|limits| limits.most_count -= 1, |limits| limits.most_count += 1] },
+    Limit {
+        name: "stacks passed",
+        calls: || calls_on([(0, 4), (0, 5), (1, 2), (1, 3)].map(|(j, passed)| with_passed(j, passed))),
+        moved: &[|limits| limits.passed_past_m = -1, |limits| limits.passed_past_m = 1],
+    },
+    Limit {
+        name: "entries waiting",
+        calls: || calls_on([(0, 16), (0, 17), (1, 16), (1, 17)].map(|(j, waiting)| with_waiting(j, waiting))),
+        moved: &[|limits| limits.waiting_past_c = -1, |limits| limits.waiting_past_c = 1],
+    },
+    Limit {
+        name: "segments from G up",
+        calls: || {
+            let jobs =
+                [with_passed(2, 0), with_passed(2, 1), with_passed(63, 1), with_waiting(2, 1), with_waiting(63, 1)];
+            calls_on(jobs)
+        },
+        moved: &[|limits| limits.most_passed_beyond = 1, |limits| limits.most_waiting_beyond = 1],
+    },
+    Limit {
+        name: "the segment's number",
+        calls: segment_numbers,
+        moved: &[|limits| limits.segment_past_g = -1, |limits| limits.segment_past_g = 1],
+    },
+    Limit {
+        name: "waiting offsets",
+        calls: || [1, 2, 3, u32::MAX].map(settle_of_offset).into(),
+        moved: &[|limits| limits.offset_past_m = -1, |limits| limits.offset_past_m = 1],
+    },
+    Limit {
+        name: "free places of a log",
+        calls: || (13..=16).map(expand_into).collect(),
+        moved: &[|limits| limits.falling_past_free = -1, |limits| limits.falling_past_free = 1],
+    },
+    Limit {
+        name: "the turn list",
+        calls: || [0, 29, 30, 31].map(|len| plan3(&TABLE3, [1, 3, 2], len)).into(),
+        moved: &[|limits| limits.least_list = 29, |limits| limits.least_list = 31],
+    },
+    Limit {
+        name: "turns of a plan",
+        calls: long_plans,
+        moved: &[|limits| limits.most_turns = 29, |limits| limits.most_turns = 31],
+    },
+];
+
+impl Limit {
+    // The paper with each wrong limit.
+    pub fn wrong(&self) -> impl Iterator<Item = Paper> {
+        self.moved.iter().map(|moved| {
+            let mut paper = PAPER;
+            moved(&mut paper.limits);
+            paper
+        })
+    }
+}
+
+// ---- What the calls are made of
+
+// Two segments, of 4 and of 2 stacks, so that the last byte has spare entries.
+const SMALL: Fields = Fields { kind: PLAIN, n: 3, wanted: [1, 2, 3, 0, 0, 0, 0, 0, 0, 0, 0, 0], size: 4, room: 16 };
+const SMALL_LOGS: usize = 32;
+
+// Two full segments, and no two fields alike.
+const TELLING: Fields = Fields { kind: COATED, n: 2, wanted: [2, -1, 0, 0, 0, 0, 0, 0, 0, 0, 0, 0], size: 4, room: 20 };
+const TELLING_LOGS: usize = 40;
+
+// The table of plain 3 for the ordered stack, by document 01.
+const TABLE3: [u8; 2] = [0x90, 0xf6];
+
+fn stack3(panes: [i8; 3]) -> Stack {
+    let mut stack = NO_STACK;
+    stack[..3].copy_from_slice(&panes);
+    stack
+}
+
+fn job_of(fields: &Fields, phase: Phase) -> Job {
+    let Fields { kind, n, wanted, size, room } = *fields;
+    Job { kind, n, wanted, size, room, phase, ..NO_JOB }
+}
+
+fn small_job(phase: Phase) -> Job {
+    job_of(&SMALL, phase)
+}
+
+fn with_passed(j: usize, passed: u32) -> Job {
+    let mut job = small_job(Phase::Level(1));
+    job.passed[j] = passed;
+    job
+}
+
+fn with_waiting(j: usize, waiting: u32) -> Job {
+    let mut job = small_job(Phase::Level(1));
+    job.waiting[j] = waiting;
+    job
+}
+
+fn with_count(level: usize, count: u64, phase: Phase) -> Job {
+    let mut job = small_job(phase);
+    job.counts[level] = count;
+    job
+}
+
+// All stacks passed.
+fn ready(mut job: Job) -> Job {
+    job.passed[..2].copy_from_slice(&[4, 2]);
+    job
+}
+
+fn look(job: Job, j: u32) -> Call {
+    let logs = PAPER.measures(job.kind, job.n, &job.wanted, job.size, job.room).map_or(SMALL_LOGS, |m| m.log_numbers());
+    Call::Look { job, j, logs: vec![0; logs] }
+}
+
+// The five calls on each of some small jobs. Look comes first: it needs nothing of a phase, so it shows a wrong limit before anything else.
+fn calls_on(jobs: impl IntoIterator<Item = Job>) -> Vec<Call> {
+    let jobs: Vec<Job> = jobs.into_iter().collect();
+    let others = jobs.iter().flat_map(|&job| {
+        let (segment, logs) = (vec![0xff], vec![0; SMALL_LOGS]);
+        [
+            Call::Blank { job, j: 0, segment: segment.clone() },
+            Call::Expand { job, j: 0, segment: segment.clone(), logs: logs.clone() },
+            Call::Settle { job, j: 0, segment, logs },
+            Call::Close { job },
+        ]
+    });
+    jobs.iter().map(|&job| look(job, 0)).chain(others).collect()
+}
+
+fn begin(fields: &Fields) -> Call {
+    let Fields { kind, n, wanted, size, room } = *fields;
+    Call::Begin { kind, n, wanted, size, room }
+}
+
+fn build(fields: &Fields, bytes: usize, words: usize) -> Call {
+    let Fields { kind, n, wanted, size, room } = *fields;
+    Call::Build { kind, n, wanted, size, room, table: vec![0x5a; bytes], logs: vec![7; words] }
+}
+
+fn plan3(table: &[u8], given: [i8; 3], list: usize) -> Call {
+    let (table, list) = (Rc::new(table.to_vec()), vec![0xee; list]);
+    Call::Plan { kind: PLAIN, n: 3, wanted: ordered(3), given: stack3(given), table, list }
+}
+
+// ---- The limits
+
+// n at both ends and past them. Read comes first: of all calls it alone needs no place for one pane too many.
+fn panes(kind: u8, most: u8) -> Vec<Call> {
+    let read = |n| Call::ReadEntry { kind, n, table: Rc::default(), index: 0 };
+    let mut calls: Vec<Call> = [0, most + 1, 255].map(read).into();
+    for n in [1, most, 0, most + 1] {
+        let stack = ordered(n.min(12));
+        let right = (1..=most).contains(&n);
+        let stacks = if right { paper::count_of_stacks(kind, n) } else { 0 };
+        let index = stacks.saturating_sub(1) as u32;
+        // Zeros are not touched until they are read, so the largest table costs nothing.
+        let table = Rc::new(vec![0; paper::bytes_of(stacks)]);
+        let fields = Fields { kind, n, wanted: stack, size: 67_108_864, room: 16 };
+        calls.push(Call::Index { kind, n, stack });
+        calls.push(Call::StackAt { kind, n, index });
+        calls.push(Call::Turn { kind, n, stack, k: n });
+        calls.push(begin(&fields));
+        calls.push(Call::ReadEntry { kind, n, table: table.clone(), index });
+        calls.push(Call::Plan { kind, n, wanted: stack, given: stack, table, list: vec![0xee; 30] });
+        calls.push(build(&fields, 0, 0));
+    }
+    calls
+}
+
+fn turns() -> Vec<Call> {
+    let plain = [0, 1, 2, 3, 4, 255].map(|k| Call::Turn { kind: PLAIN, n: 3, stack: ordered(3), k });
+    let coated = [0, 1, 2, 3, 255].map(|k| Call::Turn { kind: COATED, n: 2, stack: ordered(2), k });
+    plain.into_iter().chain(coated).collect()
+}
+
+// Read comes first: the spare entry past the last stack can be read by mistake.
+fn indices() -> Vec<Call> {
+    let read = |index| Call::ReadEntry { kind: PLAIN, n: 3, table: Rc::new(TABLE3.into()), index };
+    let mut calls: Vec<Call> = [0, 5, 6, 7, 8, u32::MAX].map(read).into();
+    for (kind, n) in [(PLAIN, 3), (COATED, 2), (PLAIN, 12), (COATED, 10)] {
+        let stacks = paper::count_of_stacks(kind, n) as u32;
+        calls.extend([stacks - 1, stacks, u32::MAX].map(|index| Call::StackAt { kind, n, index }));
+    }
+    calls
+}
+
+fn sizes() -> Vec<Call> {
+    let small = [0, 2, 4, 6, 8, 12, 67_108_860, 67_108_864, 67_108_868].map(|size| Fields { size, ..SMALL });
+    let large = Fields { kind: PLAIN, n: 12, wanted: ordered(12), size: 67_108_864, room: 16 };
+    let large = [67_108_860, 67_108_864, 67_108_868].map(|size| Fields { size, ..large });
+    let begun = small.iter().chain(&large).map(begin);
+    let looked = small.iter().chain(&large).map(|fields| look(job_of(fields, Phase::Blanking), 0));
+    let built = small.iter().map(|fields| build(fields, 2, fields.measures().map_or(16, |m| m.log_numbers())));
+    begun.chain(looked).chain(built).collect()
+}
+
+// Plain 8 has 64 segments by S 632 and 65 by S 628.
+fn segment_counts() -> Vec<Call> {
+    let fields = [632, 628].map(|size| Fields { kind: PLAIN, n: 8, wanted: ordered(8), size, room: 16 });
+    let looked = fields.iter().map(|fields| look(job_of(fields, Phase::Blanking), 63));
+    fields.iter().map(begin).chain(looked).chain(fields.iter().map(|fields| build(fields, 0, 0))).collect()
+}
+
+fn rooms() -> Vec<Call> {
+    let fields = [15, 16, 17, 1_048_575, 1_048_576, 1_048_577].map(|room| Fields { size: 8, room, ..SMALL });
+    let looked = fields.iter().map(|fields| look(job_of(fields, Phase::Blanking), 0));
+    let built = fields.iter().map(|fields| build(fields, 2, fields.room as usize));
+    fields.iter().map(begin).chain(looked).chain(built).collect()
+}
+
+// The phases, then every number that is none and every level that Blanking has not: they come back with the job as they were.
+fn phase_numbers() -> Vec<Call> {
+    let phases = [Phase::Blanking, Phase::Level(1), Phase::Finished(1)];
+    let numbers = (3..=255).map(|number| Phase::NoPhase(number, number % 33));
+    let levels = (1..=255).map(|level| Phase::NoPhase(0, level));
+    calls_on(phases.into_iter().chain(numbers).chain(levels).map(small_job))
+}
+
+// Levels at both ends and past them; Close at the last two levels, with and without new stacks.
+fn levels() -> Vec<Call> {
+    let mut calls = calls_on([0, 1, 2, 30, 31, 32, 255].map(|d| small_job(Phase::Level(d))));
+    for (d, count) in [(30, 0), (30, 1), (31, 0), (31, 1)] {
+        calls.push(Call::Close { job: ready(with_count(d as usize, count, Phase::Level(d))) });
+    }
+    calls
+}
+
+// The limit of a count, at each level.
+fn counts() -> Vec<Call> {
+    let limit = 1 << 60;
+    let jobs = (0..32).flat_map(|level| [limit, limit + 1].map(|count| with_count(level, count, Phase::Level(2))));
+    calls_on(jobs.chain([with_count(31, limit - 1, Phase::Level(2)), with_count(31, u64::MAX, Phase::Level(2))]))
+}
+
+// The last segment and the one past it, of two segments and of 64, for each call that names one.
+fn segment_numbers() -> Vec<Call> {
+    let many = Fields { kind: PLAIN, n: 8, wanted: ordered(8), size: 632, room: 16 };
+    let (level, blanking) = (small_job(Phase::Level(1)), small_job(Phase::Blanking));
+    let looked = [1, 2, 3, 257, 65_537, u32::MAX].map(|j| look(level, j));
+    let of_many = [63, 64, 65].map(|j| look(job_of(&many, Phase::Level(1)), j));
+    let others = [1, 2, 257, u32::MAX].into_iter().flat_map(|j| {
+        let (segment, logs) = (vec![0xff], vec![0; SMALL_LOGS]);
+        [
+            Call::Blank { job: blanking, j, segment: segment.clone() },
+            Call::Expand { job: level, j, segment: segment.clone(), logs: logs.clone() },
+            Call::Settle { job: level, j, segment, logs },
+        ]
+    });
+    looked.into_iter().chain(of_many).chain(others).collect()
+}
+
+// One offset waits for the segment of two stacks.
+fn settle_of_offset(offset: u32) -> Call {
+    let mut logs = vec![0; SMALL_LOGS];
+    logs[16] = offset;
+    Call::Settle { job: with_waiting(1, 1), j: 1, segment: vec![0xff], logs }
+}
+
+// Stack 3 1 2 of segment 1 has two children, both in segment 0, where so many entries wait.
+fn expand_into(waiting: u32) -> Call {
+    Call::Expand { job: with_waiting(0, waiting), j: 1, segment: vec![0xfc], logs: vec![9; SMALL_LOGS] }
+}
+
+// Two stacks on a road that Plan follows turn by turn, 30 and 31 turns from the wanted one.
+fn long_plans() -> Vec<Call> {
+    let fields = Fields { kind: PLAIN, n: 9, wanted: ordered(9), size: 67_108_864, room: 16 };
+    let calls = |seed| {
+        let mut table = vec![0xff; paper::bytes_of(paper::count_of_stacks(fields.kind, fields.n))];
+        let road = walked(&mut Rng::new(seed), &fields, 31, &mut table);
+        let table = Rc::new(table);
+        let Fields { kind, n, wanted, .. } = fields;
+        let plan = |turns: usize| {
+            let given = road.get(turns).copied().unwrap_or(wanted);
+            Call::Plan { kind, n, wanted, given, table: table.clone(), list: vec![0xee; 40] }
+        };
+        [plan(30), plan(31)]
+    };
+    let followed = |calls: &[Call; 2]| {
+        let longer = Paper { limits: Limits { most_turns: 31, ..PAPER.limits } };
+        let all = |call: &Call, turns| call.run(&longer).answer == Answered::Planned(Planned { refusal: 0, turns });
+        all(&calls[0], 30) && all(&calls[1], 31)
+    };
+    (0..).map(calls).find(followed).expect("some road has no shorter way").into()
+}
+
+// ---- Every refusal, and answers that tell
+
+// What each operation does, and each of its refusals.
+pub fn operations() -> Vec<Call> {
+    [
+        stack_calls(),
+        begin_and_build(),
+        blank_calls(),
+        expand_calls(),
+        settle_calls(),
+        look_calls(),
+        close_calls(),
+        table_calls(),
+    ]
+    .concat()
+}
+
+fn stack_calls() -> Vec<Call> {
+    let (kind, n, stack) = (TELLING.kind, TELLING.n, TELLING.wanted);
+    vec![
+        Call::Index { kind, n, stack },
+        Call::Index { kind: 2, n, stack },
+        Call::Index { kind, n: 0, stack },
+        Call::Index { kind: PLAIN, n, stack },
+        Call::StackAt { kind, n, index: 5 },
+        Call::StackAt { kind: 2, n, index: 5 },
+        Call::StackAt { kind, n: 0, index: 5 },
+        Call::StackAt { kind, n, index: 8 },
+        Call::Turn { kind, n, stack, k: 1 },
+        Call::Turn { kind, n, stack, k: 2 },
+        Call::Turn { kind: 2, n, stack, k: 1 },
+        Call::Turn { kind, n: 0, stack, k: 1 },
+        Call::Turn { kind: PLAIN, n, stack, k: 2 },
+        Call::Turn { kind, n, stack, k: 3 },
+    ]
+}
+
+fn begin_and_build() -> Vec<Call> {
+    let wrong = [
+        Fields { kind: 2, ..TELLING },
+        Fields { n: 0, ..TELLING },
+        Fields { kind: PLAIN, ..TELLING },
+        Fields { size: 6, ..TELLING },
+        Fields { room: 15, ..TELLING },
+    ];
+    // Right lengths, and one too few or too many of each.
+    let lengths = [(2, 40), (1, 40), (3, 40), (2, 39), (2, 41), (40, 2), (0, 0)];
+    let begun = wrong.iter().chain([&TELLING, &SMALL]).map(begin);
+    let built = lengths.iter().map(|(bytes, words)| build(&TELLING, *bytes, *words));
+    begun.chain(wrong.iter().map(|fields| build(fields, 2, TELLING_LOGS))).chain(built).collect()
+}
+
+fn blank_calls() -> Vec<Call> {
+    let blanking = small_job(Phase::Blanking);
+    let (segment, job) = (vec![0x5a], blanking);
+    vec![
+        Call::Blank { job, j: 0, segment: segment.clone() },
+        Call::Blank { job, j: 1, segment: segment.clone() },
+        Call::Blank { job: job_of(&TELLING, Phase::Blanking), j: 1, segment: segment.clone() },
+        Call::Blank { job: NO_JOB, j: 0, segment: segment.clone() },
+        Call::Blank { job: small_job(Phase::Level(1)), j: 0, segment: segment.clone() },
+        Call::Blank { job, j: 2, segment },
+        Call::Blank { job, j: 0, segment: vec![] },
+        Call::Blank { job, j: 0, segment: vec![1, 2] },
+        Call::Blank { job: ready(blanking), j: 0, segment: vec![0x5a] },
+    ]
+}
+
+// A job of Level 4 with something in every field.
+fn telling_job() -> Job {
+    let mut job = job_of(&TELLING, Phase::Level(4));
+    job.passed[..2].copy_from_slice(&[1, 2]);
+    job.waiting[..2].copy_from_slice(&[3, 18]);
+    job.counts[..5].copy_from_slice(&[1, 2, 3, 4, 5]);
+    job
+}
+
+// The first three offsets of each log are of the segment.
+fn telling_logs() -> Vec<u32> {
+    (0..TELLING_LOGS as u32).map(|word| if word % 20 < 3 { word % 20 } else { 100 + word }).collect()
+}
+
+fn expand_calls() -> Vec<Call> {
+    let expand = |job, j, bytes: &[u8], words: usize| {
+        let logs = (0..words as u32).collect();
+        Call::Expand { job, j, segment: bytes.to_vec(), logs }
+    };
+    let (job, small) = (telling_job(), small_job(Phase::Level(1)));
+    vec![
+        // Entries 0 are those of level 3; the child of one waits for a place.
+        expand(job, 0, &[0xc3], TELLING_LOGS),
+        expand(job, 0, &[0x00], TELLING_LOGS),
+        expand(job, 1, &[0x0f], TELLING_LOGS),
+        expand(small, 0, &[0xfc], SMALL_LOGS),
+        expand(NO_JOB, 0, &[0xfc], SMALL_LOGS),
+        expand(small_job(Phase::Blanking), 0, &[0xfc], SMALL_LOGS),
+        expand(small, 2, &[0xfc], SMALL_LOGS),
+        expand(small, 0, &[0xfc, 0xff], SMALL_LOGS),
+        expand(small, 0, &[], SMALL_LOGS),
+        expand(small, 0, &[0xfc], SMALL_LOGS - 1),
+        expand(small, 0, &[0xfc], SMALL_LOGS + 1),
+        expand(ready(small), 0, &[0xfc], SMALL_LOGS),
+    ]
+}
+
+fn settle_calls() -> Vec<Call> {
+    let settle = |job, j, bytes: &[u8], logs| Call::Settle { job, j, segment: bytes.to_vec(), logs };
+    let (job, small) = (telling_job(), small_job(Phase::Level(1)));
+    vec![
+        settle(job, 0, &[0xff], telling_logs()),
+        settle(job, 1, &[0xff], telling_logs()),
+        settle(small, 0, &[0xfc], vec![0; SMALL_LOGS]),
+        settle(NO_JOB, 0, &[0xfc], vec![0; SMALL_LOGS]),
+        settle(small_job(Phase::Blanking), 0, &[0xfc], vec![0; SMALL_LOGS]),
+        settle(small, 2, &[0xfc], vec![0; SMALL_LOGS]),
+        settle(small, 0, &[0xfc, 0xff], vec![0; SMALL_LOGS]),
+        settle(small, 0, &[], vec![0; SMALL_LOGS]),
+        settle(small, 0, &[0xfc], vec![0; SMALL_LOGS - 1]),
+        settle(small, 0, &[0xfc], vec![0; SMALL_LOGS + 1]),
+    ]
+}
+
+fn look_calls() -> Vec<Call> {
+    let job = telling_job();
+    let phases = [Phase::Blanking, Phase::Finished(7)].map(|phase| look(Job { phase, ..job }, 1));
+    let short = Call::Look { job, j: 0, logs: vec![0; TELLING_LOGS - 1] };
+    let long = Call::Look { job, j: 0, logs: vec![0; TELLING_LOGS + 1] };
+    phases.into_iter().chain([look(job, 0), look(job, 1), look(NO_JOB, 0), look(job, 2), short, long]).collect()
+}
+
+fn close_calls() -> Vec<Call> {
+    let close = |job| Call::Close { job };
+    let level = |d, count| ready(with_count(d as usize, count, Phase::Level(d)));
+    let one_waits = |phase| Job { waiting: with_waiting(1, 1).waiting, ..ready(small_job(phase)) };
+    vec![
+        close(ready(small_job(Phase::Blanking))),
+        close(level(3, 5)),
+        close(level(3, 0)),
+        close(NO_JOB),
+        close(ready(small_job(Phase::Finished(3)))),
+        close(with_passed(0, 4)),
+        close(with_passed(1, 2)),
+        close(one_waits(Phase::Level(2))),
+        close(one_waits(Phase::Blanking)),
+        close(level(31, 1)),
+    ]
+}
+
+fn table_calls() -> Vec<Call> {
+    let read = |kind, n, table: &[u8], index| Call::ReadEntry { kind, n, table: Rc::new(table.to_vec()), index };
+    let plan = |kind, n, wanted: [i8; 3], given: [i8; 3]| {
+        let (wanted, given) = (stack3(wanted), stack3(given));
+        Call::Plan { kind, n, wanted, given, table: Rc::new(TABLE3.into()), list: vec![0xee; 30] }
+    };
+    let mut calls: Vec<Call> = (0..6).map(|index| read(PLAIN, 3, &TABLE3, index)).collect();
+    calls.extend([
+        read(COATED, 2, &TABLE3, 6),
+        read(2, 3, &TABLE3, 1),
+        read(PLAIN, 0, &TABLE3, 1),
+        read(PLAIN, 3, &TABLE3[..1], 1),
+        read(PLAIN, 3, &[0x90, 0xf6, 0xff], 1),
+        read(PLAIN, 3, &TABLE3, 6),
+        plan(PLAIN, 3, [1, 2, 3], [1, 2, 3]),
+        plan(PLAIN, 3, [1, 2, 3], [3, 1, 2]),
+        plan(PLAIN, 3, [1, 2, 3], [1, 3, 2]),
+        plan(2, 3, [1, 2, 3], [3, 1, 2]),
+        plan(PLAIN, 0, [1, 2, 3], [3, 1, 2]),
+        plan(PLAIN, 3, [1, 1, 3], [3, 1, 2]),
+        plan(PLAIN, 3, [1, 2, 3], [1, 1, 3]),
+        // 10 for the table and for the list.
+        plan3(&TABLE3[..1], [3, 1, 2], 30),
+        plan3(&[0x90, 0xf6, 0xff], [3, 1, 2], 30),
+        plan3(&TABLE3, [3, 1, 2], 29),
+        // 15: the given stack is unseen; the wanted entry is not 0, for another stack and for itself; no turn leads nearer.
+        plan3(&[0x90, 0xff], [3, 1, 2], 30),
+        plan3(&[0x91, 0xf6], [3, 1, 2], 30),
+        plan3(&[0x91, 0xf6], [1, 2, 3], 30),
+        plan3(&[0xfc, 0xf6], [3, 1, 2], 30),
+    ]);
+    calls
+}
+
+// ---- Past the first mebibyte
+
+// Plain 11 as one segment of 9,979,200 bytes, its wanted stack the last one.
+pub fn beyond_a_mebibyte() -> Vec<Call> {
+    let wanted = std::array::from_fn(|place| 11 - place as i8);
+    let fields = Fields { kind: PLAIN, n: 11, wanted, size: 39_916_800, room: 16 };
+    let Fields { kind, n, size, .. } = fields;
+    let bytes = paper::bytes_of(u64::from(size));
+    let level = |passed: u32, waiting: u32| {
+        let mut job = job_of(&fields, Phase::Level(1));
+        (job.passed[0], job.waiting[0]) = (passed, waiting);
+        job
+    };
+    let edge = 4 << 20;
+    let mut offsets = vec![0, edge - 1, edge, edge + 5, size / 2, size - 1];
+    offsets.resize(16, 0);
+    // The last forty stacks are to be expanded; small turns stay near the end, large ones lead far away.
+    let mut segment = vec![0xff; bytes];
+    segment[bytes - 10..].fill(0);
+    let mut table = vec![0xff; bytes];
+    let road = walked(&mut Rng::new(1), &fields, 12, &mut table);
+    let table = Rc::new(table);
+    let entries =
+        road.iter().map(|stack| Call::ReadEntry { kind, n, table: table.clone(), index: paper::index(kind, n, stack) });
+    let plans = [road[12], road[5]].map(|given| Call::Plan {
+        kind,
+        n,
+        wanted,
+        given,
+        table: table.clone(),
+        list: vec![0xee; 30],
+    });
+    let job = job_of(&fields, Phase::Blanking);
+    [
+        Call::Blank { job, j: 0, segment: vec![0x24; bytes] },
+        Call::Settle { job: level(0, 6), j: 0, segment: vec![0xff; bytes], logs: offsets.clone() },
+        Call::Expand { job: level(size - 40, 0), j: 0, segment, logs: offsets },
+    ]
+    .into_iter()
+    .chain(entries)
+    .chain(plans)
+    .collect()
+}
+
+// All of them, the largest last.
+pub fn calls() -> Vec<Call> {
+    let limits = LIMITS.iter().rev().flat_map(|limit| (limit.calls)());
+    operations().into_iter().chain(limits).chain(beyond_a_mebibyte()).collect()
+}
