@@ -10,7 +10,7 @@ use Rattle.search.specs.Close.{closeOf}
 use Rattle.search.specs.Drive.{firstOpen, firstPending, nextCall, advanced, held, laid}
 use Rattle.search.specs.Entries.{bytesFor}
 use Rattle.search.specs.JobState.{isBlanking, isCoherent, segmentCountOf, stackCountOf}
-use Rattle.search.specs.Promise.{rightBytes, rightWords}
+use Rattle.search.specs.Promise.{rightLengths}
 use Rattle.search.specs.declared.Answer.{Answer}
 use Rattle.search.specs.declared.Job.{Job}
 use Rattle.search.proofs.CutLaws.{joined-cut}
@@ -20,7 +20,7 @@ use Rattle.build.proofs.Parts.{sizes}
 
 module _ (job : Job) (table log : List ℕ) where
   abbrev Calls : Type 0
-  Calls = Call (rightBytes (job .kind) (job .n) (job .size)) (rightWords (job .kind) (job .n) (job .size) (job .room))
+  Calls = Call (rightLengths (job .kind) (job .n) (job .size) (job .room))
 
   -- what the chosen call leaves
   chosen : (call : Calls) → nextCall job ≡ call → laid (outcome (held job table log) call .world) ≡ laid (advanced (held job table log))
@@ -51,7 +51,7 @@ module _ (job : Job) (table log : List ℕ) where
         ∙ chosen (doExpand (firstOpen job) own own) (next-expand job blanked h l)
 
   module _ (coherent : isCoherent job ≡ true) (long : length table ≡ bytesFor (stackCountOf job)) (answer : Answer) (closes : answer ≡ closeOf job) where
-    closed : nextCall {bytes = rightBytes (job .kind) (job .n) (job .size)} {words = rightWords (job .kind) (job .n) (job .size) (job .room)} job ≡ doClose
+    closed : nextCall {right = rightLengths (job .kind) (job .n) (job .size) (job .room)} job ≡ doClose
         → (table, log, answer .job) ≡ laid (advanced (held job table log))
     unfolding laid outcome held
     closed e =

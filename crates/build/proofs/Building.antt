@@ -11,6 +11,7 @@ use Rattle.search.specs.Begin.{begun, beginOf}
 use Rattle.search.specs.Build.{World}
 use Rattle.search.specs.Drive.{held, laid, buildRefusal, built, buildOf}
 use Rattle.search.specs.JobState.{beginRefusal, isFinished}
+use Rattle.stacks.specs.Stack.{stackPlaces}
 use Rattle.search.specs.Promise.{rightWords}
 use Rattle.search.specs.Segments.{joined}
 use Rattle.search.specs.declared.Answer.{Answer}
@@ -20,12 +21,12 @@ use Rattle.search.proofs.Terms.{termsWith}
 use Rattle.search.proofs.WholeTable.{Accepts, Driving, driving-begins, driving-ends}
 
 -- a Begin of zeros answers a job of zeros, refused or not
-pub begin-zeros : beginOf 0 0 (replicate 12 (pos 0)) 0 0 .job ≡ begun 0 0 (replicate 12 (pos 0)) 0 0
+pub begin-zeros : beginOf 0 0 (replicate stackPlaces (pos 0)) 0 0 .job ≡ begun 0 0 (replicate stackPlaces (pos 0)) 0 0
 unfolding beginOf
-begin-zeros = go (eqb (beginRefusal 0 0 (replicate 12 (pos 0)) 0 0) 0)
+begin-zeros = go (eqb (beginRefusal 0 0 (replicate stackPlaces (pos 0)) 0 0) 0)
   where
     none : Job
-    none = begun 0 0 (replicate 12 (pos 0)) 0 0
+    none = begun 0 0 (replicate stackPlaces (pos 0)) 0 0
 
     go : (t : Bool) → cond t none none ≡ none
     go true = refl
@@ -36,13 +37,13 @@ module _ (kind n : ℕ) (wanted : List ℤ) (S C : ℕ) (table₀ log₀ : List 
   abbrev answered : Bool → ℕ → World → List ℕ × List ℕ × Answer
   answered t r end =
       cond t (joined (end .segments), end .log, record { refusal = 0; job = end .job })
-      (table₀, log₀, record { refusal = r; job = begun 0 0 (replicate 12 (pos 0)) 0 0 })
+      (table₀, log₀, record { refusal = r; job = begun 0 0 (replicate stackPlaces (pos 0)) 0 0 })
 
   -- the job that an accepted Begin answers
   pub begin-accepted : Accepts kind n wanted S C (length table₀) (length log₀) → beginOf kind n wanted S C .job ≡ begun kind n wanted S C
   unfolding beginOf
   begin-accepted accepts =
-      ap (λ (r : ℕ). cond (eqb r 0) (begun kind n wanted S C) (begun 0 0 (replicate 12 (pos 0)) 0 0)) (given-begin (termsWith kind n wanted S C) (accepts .given))
+      ap (λ (r : ℕ). cond (eqb r 0) (begun kind n wanted S C) (begun 0 0 (replicate stackPlaces (pos 0)) 0 0)) (given-begin (termsWith kind n wanted S C) (accepts .given))
 
   pub build-begins : (job : Job) → job ≡ begun kind n wanted S C → Accepts kind n wanted S C (length table₀) (length log₀)
       → Driving kind n (job .wanted) S C table₀ log₀ job table₀ log₀
@@ -67,7 +68,7 @@ module _ (kind n : ℕ) (wanted : List ℤ) (S C : ℕ) (table₀ log₀ : List 
     log-kept = driving .invariant .shaped .log-length ∙ sym (accepts .words-fit)
 
   module _ (r : ℕ) (e : r ≡ buildRefusal kind n wanted S C (length table₀) (length log₀)) where
-    pub build-refused : (r ≡ 0 → ⊥) → (job : Job) → job ≡ begun 0 0 (replicate 12 (pos 0)) 0 0
+    pub build-refused : (r ≡ 0 → ⊥) → (job : Job) → job ≡ begun 0 0 (replicate stackPlaces (pos 0)) 0 0
         → (table₀, log₀, record { refusal = r; job = job }) ≡ buildOf kind n wanted S C table₀ log₀
     unfolding buildOf
     build-refused h job q =

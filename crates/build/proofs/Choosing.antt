@@ -1,9 +1,16 @@
--- A loop that looks for the first segment that passes a test.
-use mathlib.Core.Path.{_≡_}
+-- A loop that looks for the first segment that passes a test, and the two that the driver has.
+use mathlib.Core.Path.{_≡_, ap, _∙_}
 use mathlib.Core.Bool.{Bool, true, false}
 use Prim.Native.Nat.{ℕ, _+_, _≤_, _<_}
 use native.Mathlib.Omega.{arith}
 use borrow.Author.Count.{below-more}
+use lib.Dec.{ltb}
+use lib.ListN.{getD}
+use Rattle.stacks.specs.Stack.{stackCount}
+use Rattle.search.specs.Drive.{isOpen, isPending, firstOpen, firstPending}
+use Rattle.search.specs.JobState.{stackCountOf, segmentCountOf, stackCountAt, passedOf, waitingOf}
+use Rattle.search.specs.Segments.{segmentCount, stackCountIn}
+use Rattle.search.specs.declared.Job.{Job}
 use Rattle.expand.proofs.Lowest.{first-is}
 use Rattle.base.specs.Words.{firstFrom}
 
@@ -24,3 +31,17 @@ module _ (p : ℕ → Bool) (n : ℕ) where
 
   pub seek-ends : (j : ℕ) → n ≤ j → Seeks p n j → j ≡ firstFrom p 0 n
   seek-ends j h s = first-is p n j (s .within) (s .none) (λ l. absurd (omega arith))
+
+-- the driver's two searches, by what the code goes by
+module _ (job : Job) (segments : ℕ) (e : segments ≡ segmentCount (stackCount (job .kind) (job .n)) (job .size)) where
+  pub open-is : (count r : ℕ) → count ≡ stackCount (job .kind) (job .n)
+      → r ≡ firstFrom (λ j. ltb (getD (job .passed) j 0) (stackCountIn count (job .size) j)) 0 segments → r ≡ firstOpen job
+  unfolding firstOpen isOpen passedOf stackCountAt segmentCountOf stackCountOf
+  open-is count r c f =
+      f
+      ∙ ap (λ (m : ℕ). firstFrom (λ j. ltb (getD (job .passed) j 0) (stackCountIn m (job .size) j)) 0 segments) c
+      ∙ ap (firstFrom (isOpen job) 0) e
+
+  pub pending-is : (r : ℕ) → r ≡ firstFrom (λ t. ltb 0 (getD (job .waiting) t 0)) 0 segments → r ≡ firstPending job
+  unfolding firstPending isPending waitingOf segmentCountOf stackCountOf
+  pending-is r f = f ∙ ap (firstFrom (isPending job) 0) e

@@ -7,12 +7,14 @@ use native.Mathlib.Nat.{mul-le-mul}
 use native.Mathlib.Omega.{arith}
 use borrow.Rule.Slice.PartMut.{midOf, putMid, post-is}
 use lib.ListN.{length, take, drop}
+use Rattle.stacks.specs.Stack.{stackCount}
 use Rattle.search.specs.Entries.{bytesFor}
 use Rattle.search.specs.JobState.{stackCountOf, segmentCountOf, stackCountAt, isCoherent}
 use Rattle.search.specs.declared.Answer.{Answer}
 use Rattle.search.specs.declared.Expanded.{Expanded}
 use Rattle.search.specs.declared.Job.{Job}
 use Rattle.search.specs.Expand.{expandOf}
+use Rattle.search.specs.Segments.{segmentLimit, mostSize, stackCountIn}
 use Rattle.search.proofs.Coherence.{begin-given, coherent-facts}
 use Rattle.search.proofs.CutLaws.{segment-within, cut-at, joined-replaced}
 use Rattle.search.proofs.SegmentLaws.{SegmentSizeFacts, segment-size-facts}
@@ -24,33 +26,34 @@ sizes job coherent =
     segment-size-facts (stackCountOf job) (job .size)
     (begin-given (job .kind) (job .n) (job .wanted) (job .size) (job .room) (coherent-facts job coherent .begins) .segments)
 
+-- as many segments of as many bytes as there may be: the table is below 2^30
+pub start-small : (size j : ℕ) → size ≤ mostSize → j ≤ segmentLimit → j * (size / 4) ≤ segmentLimit * 16777216
+start-small size j most few = mul-le-mul few (let b : size / 4 ≤ 16777216 = omega arith in b)
+
 module _ (job : Job) (j : ℕ) (coherent : isCoherent job ≡ true) (inside : j < segmentCountOf job) where
-  -- at most 64 segments of 2^24 bytes
-  pub start-small : j * (job .size / 4) ≤ 1073741824
+  -- what the part's start and end ask for
+  pub part-small : (job .size ≤ mostSize) × (j ≤ segmentLimit)
   unfolding segmentCountOf
-  start-small =
-      let a : j ≤ 64 = omega (arith, sizes job coherent .few) in
-      let b : job .size / 4 ≤ 16777216 = omega (arith, sizes job coherent .most) in
-      omega (arith, mul-le-mul a b)
+  part-small = (sizes job coherent .most, omega (arith, sizes job coherent .few))
 
   module _ (start end : ℕ) (table : List ℕ) (long : length table ≡ bytesFor (stackCountOf job)) (starts : start ≡ j * (job .size / 4))
-      (ends : end ≡ j * (job .size / 4) + bytesFor (stackCountAt job j)) where
+      (ends : end ≡ j * (job .size / 4) + bytesFor (stackCountIn (stackCount (job .kind) (job .n)) (job .size) j)) where
     some : 0 < job .size
     some = omega (arith, sizes job coherent .least)
 
     pub part-within : end ≤ length table
-    unfolding segmentCountOf stackCountAt
+    unfolding segmentCountOf stackCountAt stackCountOf
     part-within = omega (arith, segment-within (stackCountOf job) (job .size) some (sizes job coherent .four) j inside)
 
     part-is : midOf start (end - start) table ≡ partOf job j table
-    unfolding partOf segmentCountOf stackCountAt
+    unfolding partOf segmentCountOf stackCountAt stackCountOf
     part-is =
         ap (λ (k : ℕ). take k (drop start table)) (let e : end - start ≡ bytesFor (stackCountAt job j) = omega arith in e)
         ∙ ap (λ (a : ℕ). take (bytesFor (stackCountAt job j)) (drop a table)) starts
         ∙ sym (cut-at (stackCountOf job) (job .size) some (sizes job coherent .four) table j inside)
 
     put-is : (new : List ℕ) → putMid start (end - start) table new ≡ withPart job j table new
-    unfolding withPart segmentCountOf stackCountAt
+    unfolding withPart segmentCountOf stackCountAt stackCountOf
     put-is new =
         ap (λ (l : List ℕ). take start table ++ (new ++ l)) (post-is start end table (omega arith))
         ∙ ap (λ (a : ℕ). take a table ++ (new ++ drop end table)) starts

@@ -8,8 +8,9 @@ ghost use Rattle.search.specs.JobState.{isCoherent, stackCountOf};
 use crate::choose;
 use crate::part;
 use calls::close;
-use job::coherence;
+use job::geometry;
 use job::phase;
+use perm::kind;
 use search::Job;
 
 // In Blanking a segment is blanked; in a level a log is settled, or else a segment expanded; with nothing left the phase is closed.
@@ -17,8 +18,10 @@ pub(crate) fn advance(job: Job, table: &mut [u8], log: &mut [u32]) -> Job
     requires { ⌜ (isCoherent job ≡ true) × (length (now table) ≡ bytesFor (stackCountOf job)) ⌝ }
     ensures { λ r. ⌜ (now (table .exit), now (log .exit), r) ≡ laid (advanced (held job (now (table .entry)) (now (log .entry)))) ⌝ }
 {
-    let segments = coherence::segment_count_of(job);
-    let first = choose::first_open(job);
+    let segments = geometry::segment_count_of(job.kind, job.n, job.size);
+    let count = kind::stack_count(job.kind, job.n);
+    let passed = job.passed;
+    let first = choose::first_open(count, job.size, segments, passed);
     let phase = job.phase;
     if phase::is_blanking(phase) {
         if first < segments {
@@ -27,7 +30,8 @@ pub(crate) fn advance(job: Job, table: &mut [u8], log: &mut [u32]) -> Job
         let opened = close::close(job);
         return opened.job;
     }
-    let pending = choose::first_pending(job);
+    let waiting = job.waiting;
+    let pending = choose::first_pending(segments, waiting);
     if pending < segments {
         return part::settle_part(job, pending, table, log);
     }

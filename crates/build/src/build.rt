@@ -10,12 +10,13 @@ use job::phase;
 use perm::kind;
 use search::Answer;
 use search::Job;
+use stacks::PLACES;
 use twobit::segment;
 
 fn build_refusal(
     kind: u8,
     n: u8,
-    wanted: [i8; 12],
+    wanted: [i8; PLACES],
     size: u32,
     room: u32,
     bytes: usize,
@@ -39,7 +40,7 @@ fn build_refusal(
 }
 
 // The job that Begin answers: a new one, or one of zeros where it refuses.
-fn begun_job(kind: u8, n: u8, wanted: [i8; 12], size: u32, room: u32) -> Job
+fn begun_job(kind: u8, n: u8, wanted: [i8; PLACES], size: u32, room: u32) -> Job
     ensures { λ r. ⌜ r ≡ (beginOf kind n wanted size room) .job ⌝ }
 {
     let begun = begin::begin(kind, n, wanted, size, room);
@@ -57,7 +58,7 @@ fn has_finished(job: Job) -> bool
 pub fn build_table(
     kind: u8,
     n: u8,
-    wanted: [i8; 12],
+    wanted: [i8; PLACES],
     size: u32,
     room: u32,
     table: &mut [u8],
@@ -67,7 +68,7 @@ pub fn build_table(
 {
     let refusal = build_refusal(kind, n, wanted, size, room, table.len(), log.len());
     if refusal != 0 {
-        let none = begun_job(0, 0, [0i8; 12], 0, 0);
+        let none = begun_job(0, 0, [0i8; PLACES], 0, 0);
         return Answer { refusal, job: none };
     }
     let mut job = begun_job(kind, n, wanted, size, room);

@@ -1,21 +1,21 @@
 // What the driver's choice goes by: the first segment that still has something to do, and the count of segments where none has.
-ghost use mathlib.Core.Bool.{true};
 ghost use mathlib.Core.Path.{_≡_};
-ghost use Rattle.search.specs.Drive.{firstOpen, firstPending};
-ghost use Rattle.search.specs.JobState.{isCoherent};
-use job::coherence;
-use search::Job;
+ghost use Prim.Native.Nat.{_≤_};
+ghost use lib.Dec.{ltb};
+ghost use lib.ListN.{getD};
+ghost use Rattle.base.specs.Words.{firstFrom};
+ghost use Rattle.search.specs.Segments.{segmentLimit, stackCountIn};
+use search::SEGMENT_LIMIT;
+use twobit::segment;
 
 // The first with stacks that are not passed.
-pub(crate) fn first_open(job: Job) -> u32
-    requires { ⌜ isCoherent job ≡ true ⌝ }
-    ensures { λ r. ⌜ r ≡ firstOpen job ⌝ }
+pub(crate) fn first_open(count: u32, size: u32, segments: u32, passed: [u32; SEGMENT_LIMIT]) -> u32
+    requires { ⌜ segments ≤ segmentLimit ⌝ }
+    ensures { λ r. ⌜ r ≡ firstFrom (λ j. ltb (getD passed j 0) (stackCountIn count size j)) 0 segments ⌝ }
 {
-    let segments = coherence::segment_count_of(job);
-    let passed = job.passed;
     let mut j: u32 = 0;
     while j < segments {
-        if passed[j as usize] < coherence::stack_count_at(job, j) {
+        if passed[j as usize] < segment::stack_count_in(count, size, j) {
             return j;
         }
         j += 1;
@@ -24,12 +24,10 @@ pub(crate) fn first_open(job: Job) -> u32
 }
 
 // The first with entries waiting.
-pub(crate) fn first_pending(job: Job) -> u32
-    requires { ⌜ isCoherent job ≡ true ⌝ }
-    ensures { λ r. ⌜ r ≡ firstPending job ⌝ }
+pub(crate) fn first_pending(segments: u32, waiting: [u32; SEGMENT_LIMIT]) -> u32
+    requires { ⌜ segments ≤ segmentLimit ⌝ }
+    ensures { λ r. ⌜ r ≡ firstFrom (λ t. ltb 0 (getD waiting t 0)) 0 segments ⌝ }
 {
-    let segments = coherence::segment_count_of(job);
-    let waiting = job.waiting;
     let mut t: u32 = 0;
     while t < segments {
         if waiting[t as usize] != 0 {

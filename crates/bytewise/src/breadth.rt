@@ -2,6 +2,7 @@
 ghost use Prim.Native.Nat.{_≤_};
 ghost use lib.ListN.{length};
 use crate::stack;
+use search::COUNT_PLACES;
 
 // 1 where the stack at index i was unseen and is now marked, else 0.
 fn reach(bytes: &mut [u8], i: usize, mark: u8) -> u64
@@ -77,15 +78,18 @@ fn clear(bytes: &mut [u8]) {
     }
 }
 
+// The last level that has a count.
+const LAST: usize = COUNT_PLACES - 1;
+
 // Fills the bytes from the stack at index goal, and answers how many stacks each level has.
-pub fn search(kind: u8, n: usize, bytes: &mut [u8], goal: usize) -> [u64; 32]
+pub fn search(kind: u8, n: usize, bytes: &mut [u8], goal: usize) -> [u64; COUNT_PLACES]
     requires { ⌜ (n ≤ 12) × (length (now bytes) ≤ 65536) ⌝ }
 {
     clear(bytes);
-    let mut counts = [0u64; 32];
+    let mut counts = [0u64; COUNT_PLACES];
     counts[0] = reach(bytes, goal, 0);
     let mut d: usize = 0;
-    while d < 31 {
+    while d < LAST {
         let next = level(kind, n, bytes, d as u8);
         d += 1;
         counts[d] = next;

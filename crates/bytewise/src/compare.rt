@@ -2,6 +2,8 @@
 ghost use Prim.Native.Nat.{_≤_};
 ghost use lib.ListN.{length};
 use crate::stack;
+use search::COUNT_PLACES;
+use search::PLAN_LIMIT;
 
 // 1 where the stack at index i has another entry than its d turns modulo 3, else 0.
 fn entry_differs(kind: u8, n: u8, table: &[u8], i: u32, d: u8) -> u64
@@ -35,10 +37,10 @@ fn count_differs(a: u64, b: u64) -> u64
     if a == b { 0 } else { 1 }
 }
 
-pub fn counts(a: [u64; 32], b: [u64; 32]) -> u64 {
+pub fn counts(a: [u64; COUNT_PLACES], b: [u64; COUNT_PLACES]) -> u64 {
     let mut differ: u64 = 0;
     let mut d: usize = 0;
-    while d < 32 {
+    while d < COUNT_PLACES {
         differ += count_differs(a[d], b[d]);
         d += 1;
     }
@@ -70,7 +72,7 @@ fn plan_differs(kind: u8, n: u8, goal: usize, table: &[u8], i: usize, d: u8) -> 
     let given = stack::unrank(kind, panes, i);
     let to = stack::places(wanted);
     let from = stack::places(given);
-    let mut list = [0u8; 30];
+    let mut list = [0u8; PLAN_LIMIT];
     let planned = plan::plan::plan(kind, n, to, from, table, &mut list);
     if planned.refusal != 0 {
         return 1;

@@ -6,6 +6,7 @@ mod breadth;
 mod compare;
 mod stack;
 
+use search::COUNT_PLACES;
 use trial::build;
 use trial::print;
 
@@ -13,7 +14,7 @@ fn print_differences(
     kind: u8,
     n: u8,
     goal: usize,
-    counts: [u64; 32],
+    counts: [u64; COUNT_PLACES],
     table: &[u8],
     bytes: &mut [u8],
 )
@@ -29,7 +30,14 @@ fn print_differences(
 }
 
 // The comparison on as much of the table and of the bytes as the stacks take.
-fn compare_in(kind: u8, n: u8, goal: usize, counts: [u64; 32], table: &[u8], bytes: &mut [u8])
+fn compare_in(
+    kind: u8,
+    n: u8,
+    goal: usize,
+    counts: [u64; COUNT_PLACES],
+    table: &[u8],
+    bytes: &mut [u8],
+)
     requires { ⌜ n ≤ 12 ⌝ }
 {
     let stacks = stack::total(kind, n as usize);

@@ -1,4 +1,4 @@
--- The phase, counts and job after a Close, by the definitions.
+-- The counts and the job after a Close, by the definitions.
 use mathlib.Core.Path.{_≡_, refl}
 use mathlib.Core.Bool.{cond}
 use mathlib.Core.List.{List}
@@ -6,18 +6,18 @@ use Prim.Native.Nat.{ℕ}
 use lib.ListN.{set, replicate}
 use Rattle.search.specs.Close.{nextPhase, nextCounts, closed}
 use Rattle.search.specs.JobState.{isBlanking, progressed}
+use Rattle.search.specs.Segments.{segmentLimit}
 use Rattle.search.specs.declared.Job.{Job}
 use Rattle.search.specs.declared.Phase.{Phase}
 use Rattle.search.specs.declared.Phase.the-variants.{Blanking, Level, Finished}
 
-module _ (job : Job) where
-  pub counts-is : (p : Phase) → nextCounts job p ≡ cond (isBlanking p) (set (job .counts) 0 1) (job .counts)
-  unfolding nextCounts isBlanking
-  counts-is Blanking = refl
-  counts-is (Level d) = refl
-  counts-is (Finished d) = refl
+pub counts-is : (counts : List ℕ) (p : Phase) → nextCounts counts p ≡ cond (isBlanking p) (set counts 0 1) counts
+unfolding nextCounts isBlanking
+counts-is counts Blanking = refl
+counts-is counts (Level d) = refl
+counts-is counts (Finished d) = refl
 
-  pub closed-is : (phase : Phase) (counts : List ℕ) → phase ≡ nextPhase job (job .phase) → counts ≡ nextCounts job (job .phase)
-      → progressed job phase (replicate 64 0) (job .waiting) counts ≡ closed job
-  unfolding closed
-  closed-is phase counts e f = rw (e, f)
+pub closed-is : (job : Job) (phase : Phase) (counts : List ℕ) → phase ≡ nextPhase (job .counts) (job .phase) → counts ≡ nextCounts (job .counts) (job .phase)
+    → progressed job phase (replicate segmentLimit 0) (job .waiting) counts ≡ closed job
+unfolding closed
+closed-is job phase counts e f = rw (e, f)

@@ -1,2 +1,2 @@
--- What a helper of Settle leaves, as one value.
-pub mod Marked
+-- What the helpers of the calls ask of what they are given, and what they leave of it.
+pub mod Lent

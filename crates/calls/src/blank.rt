@@ -2,39 +2,30 @@
 ghost use mathlib.Core.Bool.{true};
 ghost use mathlib.Core.Path.{_≡_};
 ghost use Prim.Native.Nat.{_<_};
-ghost use lib.ListN.{length, set};
-ghost use Rattle.search.specs.Blank.{blankRefusal, blanked, blankOf};
-ghost use Rattle.search.specs.Entries.{bytesFor};
+ghost use lib.ListN.{set};
+ghost use Rattle.calls.specs.Lent.{BlankFits, blankedBy};
+ghost use Rattle.search.specs.Blank.{blankRefusal, blankOf};
 ghost use Rattle.search.specs.JobState.{isCoherent, segmentCountOf, stackCountAt, progressed};
-use job::coherence;
+use job::geometry;
 use job::phase;
+use job::refusals;
 use perm::numbering;
 use search::Answer;
 use search::Job;
+use stacks::PLACES;
 use twobit::entry;
-use twobit::segment;
 
 fn blank_refusal(job: Job, j: u32, bytes: usize) -> u8
     ensures { λ r. ⌜ r ≡ blankRefusal job j bytes ⌝ }
 {
-    if !coherence::is_coherent(job) {
-        return 7;
-    }
     let phase = job.phase;
     let in_blanking = phase::is_blanking(phase);
-    let segments = coherence::segment_count_of(job);
-    let stacks = coherence::stack_count_at(job, j);
-    let length = segment::bytes_for(stacks) as usize;
+    let refusal = refusals::segment_refusal(job, in_blanking, j, bytes);
+    if refusal != 0 {
+        return refusal;
+    }
+    let stacks = geometry::stack_count_at(job.kind, job.n, job.size, j);
     let passed = job.passed;
-    if !in_blanking {
-        return 8;
-    }
-    if segments <= j {
-        return 9;
-    }
-    if bytes != length {
-        return 10;
-    }
     if stacks <= passed[j as usize] {
         return 11;
     }
@@ -42,14 +33,12 @@ fn blank_refusal(job: Job, j: u32, bytes: usize) -> u8
 }
 
 // All entries become 3, and that of the wanted stack, if here, 0.
-fn blank_entries(job: Job, j: u32, segment: &mut [u8])
-    requires { ⌜ (isCoherent job ≡ true) × (length (now segment) ≡ bytesFor (stackCountAt job j)) ⌝ }
-    ensures { λ _. ⌜ now (segment .exit) ≡ blanked job j ⌝ }
+fn blank_entries(kind: u8, n: u8, wanted: [i8; PLACES], size: u32, j: u32, segment: &mut [u8])
+    requires { ⌜ BlankFits kind n wanted size j (now segment) ⌝ }
+    ensures { λ _. ⌜ now (segment .exit) ≡ blankedBy kind n wanted size j ⌝ }
 {
     entry::blank_bytes(segment);
-    let wanted = job.wanted;
-    let goal = numbering::rank(job.kind, job.n, wanted);
-    let size = job.size;
+    let goal = numbering::rank(kind, n, wanted);
     if goal / size != j {
         return;
     }
@@ -61,7 +50,7 @@ fn pass_all(job: Job, j: u32) -> Job
     requires { ⌜ (isCoherent job ≡ true) × (j < segmentCountOf job) ⌝ }
     ensures { λ r. ⌜ r ≡ progressed job (job .phase) (set (job .passed) j (stackCountAt job j)) (job .waiting) (job .counts) ⌝ }
 {
-    let m = coherence::stack_count_at(job, j);
+    let m = geometry::stack_count_at(job.kind, job.n, job.size, j);
     let mut next = job;
     next.passed[j as usize] = m;
     next
@@ -75,7 +64,8 @@ pub fn blank(job: Job, j: u32, segment: &mut [u8]) -> Answer
     if refusal != 0 {
         return Answer { refusal, job };
     }
-    blank_entries(job, j, segment);
+    let wanted = job.wanted;
+    blank_entries(job.kind, job.n, wanted, job.size, j, segment);
     let next = pass_all(job, j);
     Answer {
         refusal: 0,

@@ -1,18 +1,24 @@
 // Close: from one phase to the next.
-ghost use mathlib.Core.Bool.{true, _&&_, cond};
+ghost use mathlib.Core.Bool.{true, false, _&&_, cond};
 ghost use mathlib.Core.Path.{_≡_};
 ghost use Prim.Native.Nat.{_+_, _-_, _≤_};
 ghost use lib.Dec.{eqb};
-ghost use Rattle.search.specs.Close.{isReady, isPastLast, closeRefusal, nextPhase, nextCounts, closed, closeOf};
-ghost use Rattle.search.specs.JobState.{isCoherent};
-ghost use Rattle.search.specs.Segments.{stackCountIn};
+ghost use lib.ListN.{getD};
+ghost use Rattle.calls.specs.Lent.{readyBy, pastLast};
+ghost use Rattle.stacks.specs.Stack.{isPaneCount, stackCount};
+ghost use Rattle.search.specs.Close.{isPastLast, closeRefusal, nextPhase, nextCounts, closed, closeOf};
+ghost use Rattle.search.specs.JobState.{lastLevel, levelOf, phaseFits, isCoherent};
+ghost use Rattle.search.specs.Segments.{stackCountIn, isSegmentSize};
 ghost use Rattle.search.specs.declared.Phase.the-variants.{Level, Finished};
 use job::coherence;
 use job::phase;
 use perm::kind;
 use search::Answer;
+use search::COUNT_PLACES;
 use search::Job;
+use search::LAST_LEVEL;
 use search::Phase;
+use search::SEGMENT_LIMIT;
 use twobit::segment;
 
 // Segment j has all its stacks passed and no entry waiting.
@@ -26,15 +32,18 @@ fn is_done(count: u32, size: u32, j: u32, passed: u32, waiting: u32) -> bool
 }
 
 // Each segment is done.
-fn is_ready(job: Job) -> bool
-    requires { ⌜ isCoherent job ≡ true ⌝ }
-    ensures { λ r. ⌜ r ≡ isReady job ⌝ }
+fn is_ready(
+    kind: u8,
+    n: u8,
+    size: u32,
+    passed: [u32; SEGMENT_LIMIT],
+    waiting: [u32; SEGMENT_LIMIT],
+) -> bool
+    requires { ⌜ (isPaneCount kind n ≡ true) × (isSegmentSize (stackCount kind n) size ≡ true) ⌝ }
+    ensures { λ r. ⌜ r ≡ readyBy (stackCount kind n) size passed waiting ⌝ }
 {
-    let size = job.size;
-    let count = kind::stack_count(job.kind, job.n);
+    let count = kind::stack_count(kind, n);
     let segments = segment::segment_count(count, size);
-    let passed = job.passed;
-    let waiting = job.waiting;
     let mut j: u32 = 0;
     while j < segments {
         if !is_done(count, size, j, passed[j as usize], waiting[j as usize]) {
@@ -46,15 +55,13 @@ fn is_ready(job: Job) -> bool
 }
 
 // The last level is searched, and brought stacks: no level can follow it.
-fn is_past_last(job: Job) -> bool
-    ensures { λ r. ⌜ r ≡ isPastLast job ⌝ }
+fn is_past_last(phase: Phase, counts: [u64; COUNT_PLACES]) -> bool
+    ensures { λ r. ⌜ r ≡ pastLast (levelOf phase) (getD counts lastLevel 0) ⌝ }
 {
-    let phase = job.phase;
-    if phase::level_of(phase) != 31 {
+    if phase::level_of(phase) != LAST_LEVEL {
         return false;
     }
-    let counts = job.counts;
-    counts[31] != 0
+    counts[LAST_LEVEL as usize] != 0
 }
 
 fn close_refusal(job: Job) -> u8
@@ -67,18 +74,21 @@ fn close_refusal(job: Job) -> u8
     if phase::is_finished(phase) {
         return 8;
     }
-    if !is_ready(job) {
+    let passed = job.passed;
+    let waiting = job.waiting;
+    if !is_ready(job.kind, job.n, job.size, passed, waiting) {
         return 13;
     }
-    if is_past_last(job) {
+    let counts = job.counts;
+    if is_past_last(phase, counts) {
         return 14;
     }
     0
 }
 
-// After level d, which brought count new stacks: none ends the search.
+// After level d, which brought count new stacks: none ends the search. The last level has none after it, so that d + 1 fits a byte.
 fn after_level(d: u8, count: u64) -> Phase
-    requires { ⌜ (1 ≤ d) × (d ≤ 31) ⌝ }
+    requires { ⌜ (1 ≤ d) × (d ≤ lastLevel) × (pastLast d count ≡ false) ⌝ }
     ensures { λ r. ⌜ r ≡ cond (eqb count 0) (Finished (d - 1)) (Level (d + 1)) ⌝ }
 {
     if count == 0 {
@@ -87,12 +97,10 @@ fn after_level(d: u8, count: u64) -> Phase
     Phase::Level(d + 1)
 }
 
-fn next_phase(job: Job) -> Phase
-    requires { ⌜ isCoherent job ≡ true ⌝ }
-    ensures { λ r. ⌜ r ≡ nextPhase job (job .phase) ⌝ }
+fn next_phase(phase: Phase, counts: [u64; COUNT_PLACES]) -> Phase
+    requires { ⌜ (phaseFits phase ≡ true) × (pastLast (levelOf phase) (getD counts lastLevel 0) ≡ false) ⌝ }
+    ensures { λ r. ⌜ r ≡ nextPhase counts phase ⌝ }
 {
-    let counts = job.counts;
-    let phase = job.phase;
     match phase {
         Phase::Blanking => Phase::Level(1),
         Phase::Level(d) => after_level(d, counts[d as usize]),
@@ -101,26 +109,27 @@ fn next_phase(job: Job) -> Phase
 }
 
 // When Blanking closes, the wanted stack is counted.
-fn next_counts(job: Job) -> [u64; 32]
-    ensures { λ r. ⌜ r ≡ nextCounts job (job .phase) ⌝ }
+fn next_counts(phase: Phase, counts: [u64; COUNT_PLACES]) -> [u64; COUNT_PLACES]
+    ensures { λ r. ⌜ r ≡ nextCounts counts phase ⌝ }
 {
-    let mut counts = job.counts;
-    let phase = job.phase;
+    let mut next = counts;
     if phase::is_blanking(phase) {
-        counts[0] = 1;
-        return counts;
+        next[0] = 1;
+        return next;
     }
-    counts
+    next
 }
 
 fn closed_job(job: Job) -> Job
-    requires { ⌜ isCoherent job ≡ true ⌝ }
+    requires { ⌜ (isCoherent job ≡ true) × (isPastLast job ≡ false) ⌝ }
     ensures { λ r. ⌜ r ≡ closed job ⌝ }
 {
     let wanted = job.wanted;
     let waiting = job.waiting;
-    let phase = next_phase(job);
-    let counts = next_counts(job);
+    let old = job.phase;
+    let counted = job.counts;
+    let phase = next_phase(old, counted);
+    let counts = next_counts(old, counted);
     Job {
         kind: job.kind,
         n: job.n,
@@ -128,7 +137,7 @@ fn closed_job(job: Job) -> Job
         size: job.size,
         room: job.room,
         phase,
-        passed: [0u32; 64],
+        passed: [0u32; SEGMENT_LIMIT],
         waiting,
         counts,
     }

@@ -1,39 +1,35 @@
 // Look at a log.
-ghost use mathlib.Core.Bool.{true};
 ghost use mathlib.Core.Path.{_≡_};
-ghost use Prim.Native.Nat.{_<_};
+ghost use Prim.Native.Nat.{_+_, _*_, _≤_};
 ghost use lib.ListN.{length};
-ghost use Rattle.search.specs.JobState.{isCoherent, segmentCountOf, logLength};
 ghost use Rattle.search.specs.Look.{lookRefusal, lookOf};
-ghost use Rattle.search.specs.Logs.{pending};
-use job::coherence;
+ghost use Rattle.search.specs.Logs.{logPart};
+ghost use Rattle.search.specs.Segments.{segmentLimit, mostRoom};
+use job::geometry;
+use job::refusals;
 use search::Job;
 
 fn look_refusal(job: Job, j: u32, words: usize) -> u8
     ensures { λ r. ⌜ r ≡ lookRefusal job j words ⌝ }
 {
-    if !coherence::is_coherent(job) {
-        return 7;
+    let refusal = refusals::call_refusal(job, true, j);
+    if refusal != 0 {
+        return refusal;
     }
-    let segments = coherence::segment_count_of(job);
-    let area = coherence::log_length(job);
-    if segments <= j {
-        return 9;
-    }
+    let area = geometry::log_length(job.kind, job.n, job.size, job.room);
     if words != area {
         return 10;
     }
     0
 }
 
-// The waiting part of segment j's log: a part of the log area itself, from j × C on.
-pub(crate) fn waiting_part<'a>(job: Job, j: u32, log: &'a [u32]) -> &'a [u32]
-    requires { ⌜ (isCoherent job ≡ true) × (j < segmentCountOf job) × (length (now log) ≡ logLength job) ⌝ }
-    ensures { λ r. ⌜ now r ≡ pending job j (now (log .entry)) ⌝ }
+// What waits in segment j's log: a part of the log area itself, from j × C on.
+pub(crate) fn waiting_part<'a>(room: u32, j: u32, waiting: u32, log: &'a [u32]) -> &'a [u32]
+    requires { ⌜ (j * room + waiting ≤ length (now log)) × (length (now log) ≤ segmentLimit * mostRoom) ⌝ }
+    ensures { λ r. ⌜ now r ≡ logPart room j waiting (now (log .entry)) ⌝ }
 {
-    let waiting = job.waiting;
-    let start = (j as usize) * (job.room as usize);
-    let end = start + (waiting[j as usize] as usize);
+    let start = (j as usize) * (room as usize);
+    let end = start + (waiting as usize);
     &log[start..end]
 }
 
@@ -46,5 +42,6 @@ pub fn look<'a, 'b>(job: Job, j: u32, log: &'a [u32], number: &'b mut u8) -> &'a
     if refusal != 0 {
         return &log[..0];
     }
-    waiting_part(job, j, log)
+    let waiting = job.waiting;
+    waiting_part(job.room, j, waiting[j as usize], log)
 }

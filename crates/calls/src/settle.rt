@@ -1,21 +1,26 @@
 // Settle a segment: apply its log.
 ghost use mathlib.Core.Bool.{true};
+ghost use mathlib.Core.List.{[]};
 ghost use mathlib.Core.Path.{_≡_};
-ghost use Prim.Native.Nat.{_+_, _/_, _^_, _<_};
+ghost use Prim.Native.Nat.{_<_};
 ghost use lib.Dec.{ltb};
-ghost use lib.ListN.{length, set};
+ghost use lib.ListN.{set};
 ghost use Rattle.base.specs.Words.{all};
-ghost use Rattle.calls.specs.Marked.{marksOf, OffsetsFit};
-ghost use Rattle.search.specs.JobState.{isCoherent, levelOf, segmentCountOf, progressed};
+ghost use Rattle.calls.specs.Lent.{OffsetsFit};
+ghost use Rattle.search.specs.JobState.{isCoherent, segmentCountOf};
+ghost use Rattle.search.specs.Logs.{indexesOf};
+ghost use Rattle.search.specs.Marks.{markAll, markedJob};
 ghost use Rattle.search.specs.Settle.{settleRefusal, settleOf};
-ghost use Rattle.search.specs.Marks.{markOne, markAll};
+ghost use Rattle.twobit.specs.Mark.{marksOf};
 use crate::look;
-use job::coherence;
-use job::level;
+use job::geometry;
 use job::phase;
+use job::refusals;
 use search::Answer;
 use search::Job;
 use twobit::entry;
+use twobit::marking;
+use twobit::marking::Found;
 
 fn offsets_fit(offsets: &[u32], stacks: u32) -> bool
     ensures { λ r. ⌜ r ≡ all (λ i. ltb i stacks) (now (offsets .entry)) ⌝ }
@@ -33,52 +38,54 @@ fn offsets_fit(offsets: &[u32], stacks: u32) -> bool
 fn settle_refusal(job: Job, j: u32, bytes: usize, log: &[u32]) -> u8
     ensures { λ r. ⌜ r ≡ settleRefusal job j bytes (now (log .entry)) ⌝ }
 {
-    let refusal = level::level_refusal(job, j, bytes, log.len());
+    let refusal = refusals::level_refusal(job, j, bytes, log.len());
     if refusal != 0 {
         return refusal;
     }
-    let stacks = coherence::stack_count_at(job, j);
-    if !offsets_fit(look::waiting_part(job, j, log), stacks) {
+    let stacks = geometry::stack_count_at(job.kind, job.n, job.size, j);
+    let waiting = job.waiting;
+    if !offsets_fit(
+        look::waiting_part(job.room, j, waiting[j as usize], log),
+        stacks,
+    ) {
         return 12;
     }
     0
 }
 
-// An unseen entry i becomes label, and the count comes back with one more.
-fn mark_one(segment: &mut [u8], i: u32, label: u8, count: u64) -> u64
-    requires { ⌜ (label < 3) × (i / 4 < length (now segment)) × (count + 1 < 2 ^ 64) ⌝ }
-    ensures { λ r. ⌜ marksOf (now (segment .exit)) r ≡ markOne label i (marksOf (now (segment .entry)) count) ⌝ }
+// Each unseen stack of segment j at one of the offsets, in order, gets the label and is counted.
+fn mark_all(
+    segment: &mut [u8],
+    size: u32,
+    j: u32,
+    offsets: &[u32],
+    label: u8,
+    from_found: Found,
+) -> Found
+    requires { ⌜ OffsetsFit size j label (now offsets) «from_found» (now segment) ⌝ }
+    ensures { λ r. ⌜ marksOf (now (segment .exit)) r ≡ markAll size label (indexesOf size j (now (offsets .entry))) (marksOf (now (segment .entry)) «from_found») ⌝ }
 {
-    if entry::mark(segment, i, label) {
-        return count + 1;
-    }
-    count
-}
-
-// Each unseen entry at one of the offsets, in order, becomes label; the count comes back with one more for each.
-fn mark_all(segment: &mut [u8], offsets: &[u32], label: u8, counted: u64) -> u64
-    requires { ⌜ OffsetsFit label (now offsets) counted (now segment) ⌝ }
-    ensures { λ r. ⌜ marksOf (now (segment .exit)) r ≡ markAll label (now (offsets .entry)) (marksOf (now (segment .entry)) counted) ⌝ }
-{
-    let mut count = counted;
+    let base = j * size;
+    let mut found = from_found;
     let mut i: usize = 0;
     while i < offsets.len() {
-        count = mark_one(segment, offsets[i], label, count);
+        let offset = offsets[i];
+        found = marking::mark_stack(segment, base + offset, offset, label, found);
         i += 1;
     }
-    count
+    found
 }
 
-// The job with no entry waiting for segment j, and another count of its level.
-fn emptied(job: Job, j: u32, count: u64) -> Job
+// The job with no entry waiting for segment j, and with what its level has found.
+fn emptied(job: Job, j: u32, found: Found) -> Job
     requires { ⌜ (isCoherent job ≡ true) × (j < segmentCountOf job) ⌝ }
-    ensures { λ r. ⌜ r ≡ progressed job (job .phase) (job .passed) (set (job .waiting) j 0) (set (job .counts) (levelOf (job .phase)) count) ⌝ }
+    ensures { λ r. ⌜ r ≡ markedJob job (job .passed) (set (job .waiting) j 0) (marksOf [] found) ⌝ }
 {
     let phase = job.phase;
     let level = phase::level_of(phase);
     let mut next = job;
     next.waiting[j as usize] = 0;
-    next.counts[level as usize] = count;
+    next.counts[level as usize] = found.count;
     next
 }
 
@@ -93,10 +100,13 @@ pub fn settle(job: Job, j: u32, segment: &mut [u8], log: &[u32]) -> Answer
     let phase = job.phase;
     let level = phase::level_of(phase);
     let counts = job.counts;
+    let waiting = job.waiting;
     let label = entry::next_entry((level - 1) % 3);
-    let offsets = look::waiting_part(job, j, log);
-    let count = mark_all(segment, offsets, label, counts[level as usize]);
-    let next = emptied(job, j, count);
+    let offsets = look::waiting_part(job.room, j, waiting[j as usize], log);
+    let count = counts[level as usize];
+    let found = Found { count };
+    let marked = mark_all(segment, job.size, j, offsets, label, found);
+    let next = emptied(job, j, marked);
     Answer {
         refusal: 0,
         job: next,

@@ -1,14 +1,15 @@
 // The published diameters of the pancake graphs (source document 000, Table 1), each by a whole build in segments.
 use job::phase;
+use search::COUNT_PLACES;
 use search::Job;
 use trial::build;
 use trial::print;
 
 // How many stacks were counted, all levels together.
-fn total(counts: [u64; 32]) -> u64 {
+fn total(counts: [u64; COUNT_PLACES]) -> u64 {
     let mut sum: u64 = 0;
     let mut d: usize = 0;
-    while d < 32 {
+    while d < COUNT_PLACES {
         sum = std::num::wrapping_add_u64(sum, counts[d]);
         d += 1;
     }

@@ -1,5 +1,6 @@
 // The level counts of whole builds.
 use job::phase;
+use search::COUNT_PLACES;
 use search::Job;
 use trial::build;
 use trial::print;
@@ -10,7 +11,7 @@ fn print_counts(job: Job) {
     let counts = job.counts;
     print::word(b" counts");
     let mut d: usize = 0;
-    while d < 32 {
+    while d < COUNT_PLACES {
         if d <= deepest {
             print::number(counts[d]);
         }

@@ -1,5 +1,6 @@
 // Index of a stack, Stack at an index and Turn at their limits.
 use perm::operations;
+use stacks::PLACES;
 use trial::build;
 use trial::print;
 
@@ -11,7 +12,7 @@ fn index_of_ordered(kind: u8, n: u8) {
     print::end();
 }
 
-fn index_of(kind: u8, n: u8, stack: [i8; 12], text: &[u8]) {
+fn index_of(kind: u8, n: u8, stack: [i8; PLACES], text: &[u8]) {
     let indexed = operations::index_of_stack(kind, n, stack);
     print::kind_and_n(kind, n);
     print::word(text);

@@ -12,19 +12,21 @@ use borrow.Author.Tests.{lt-ltb, le-ltb}
 use Rattle.base.specs.Words.{unless, firstFrom}
 use Rattle.base.proofs.Tests.{lt-or-ge}
 use Rattle.job.proofs.Rows.{level-refuses, level-goes-on}
+use Rattle.stacks.specs.Stack.{stackCount}
 use Rattle.stacks.specs.Turn.{turnsOf}
 use Rattle.search.specs.Entries.{entryAt, nextEntry}
 use Rattle.search.specs.Expand.{Expansion, isParent, expandRefusal, childrenOf, placeChild, placeAll, passOne, waitFor, expandStack, expandNext, expandRun, expansion, expandedJob, expandOf}
-use Rattle.search.specs.JobState.{isCoherent, levelOf, stackCountOf, segmentCountOf, stackCountAt, logLength, passedOf, waitingOf, countOf}
-use Rattle.search.specs.Segments.{segmentLimit}
-use Rattle.search.specs.Level.{levelRefusal}
+use Rattle.search.specs.JobState.{isCoherent, levelOf, stackCountOf, segmentCountOf, stackCountAt, logLength, movesOf, passedOf, waitingOf, countOf}
+use Rattle.search.specs.Refusals.{levelRefusal}
+use Rattle.search.specs.Segments.{segmentLimit, segmentCount, stackCountIn}
 use Rattle.search.specs.Logs.{lacksRoom}
 use Rattle.search.specs.declared.Expanded.{Expanded}
 use Rattle.search.specs.declared.Job.{Job}
 use Rattle.search.proofs.Accepted.{LevelFacts, expand-facts, expand-accepted}
 use Rattle.search.proofs.Coherence.{begin-given, coherent-facts}
 use Rattle.search.proofs.EntryLaws.{next-level}
-use Rattle.expand.specs.Scan.{ScanFits, RunFits, Runs, running, reachedWith, scanJob, scanOf}
+use Rattle.twobit.specs.declared.marking.Found.{Found}
+use Rattle.expand.specs.Scan.{ScanFits, RunFits, Runs, running, reachedWith, scanJob, scanFor, scanOf}
 use Rattle.expand.specs.declared.run.Reached.{Reached}
 use Rattle.expand.specs.declared.scan.Scan.{Scan}
 
@@ -39,49 +41,53 @@ module _ (job : Job) (j bytes logs : ℕ) {r : ℕ} (e : r ≡ levelRefusal job 
   unfolding expandRefusal
   refusal-level = level-refuses job j bytes logs rest r e
 
-  module _ {m : ℕ} (all : m ≡ stackCountAt job j) (none : r ≡ 0) where
+  module _ {m : ℕ} (all : m ≡ stackCountIn (stackCount (job .kind) (job .n)) (job .size) j) (none : r ≡ 0) where
     pub refusal-passed : m ≤ passedOf job j → 11 ≡ expandRefusal job j bytes logs
-    unfolding expandRefusal
+    unfolding expandRefusal stackCountAt stackCountOf
     refusal-passed l =
         ap (λ (t : Bool). unless t 11 0) (sym (le-ltb (passedOf job j) (stackCountAt job j) (omega arith)))
         ∙ level-goes-on job j bytes logs rest r e none
 
     pub refusal-none : passedOf job j < m → 0 ≡ expandRefusal job j bytes logs
-    unfolding expandRefusal
+    unfolding expandRefusal stackCountAt stackCountOf
     refusal-none l =
         ap (λ (t : Bool). unless t 11 0) (sym (lt-ltb (passedOf job j) (stackCountAt job j) (omega arith)))
         ∙ level-goes-on job j bytes logs rest r e none
 
 -- ---- the scan, as the code fills it
-pub scan-is : (job : Job) (j : ℕ) {segments turns level mark : ℕ} → segments ≡ segmentCountOf job → turns ≡ length (turnsOf (job .kind) (job .n))
-    → level ≡ levelOf (job .phase) → 1 ≤ level → mark ≡ nextEntry ((level - 1) % 3)
+pub scan-is : (kind n S C level j : ℕ) {segments turns mark : ℕ} → segments ≡ segmentCount (stackCount kind n) S → turns ≡ length (turnsOf kind n)
+    → 1 ≤ level → mark ≡ nextEntry ((level - 1) % 3)
     → _≡_ {A = Scan} (record {
-      kind = job .kind;
-      n = job .n;
-      size = job .size;
-      room = job .room;
+      kind = kind;
+      n = n;
+      size = S;
+      room = C;
       segments = segments;
       turns = turns;
       j = j;
       level = level;
       from = (level - 1) % 3;
       mark = mark;
-    }) (scanOf job j)
-unfolding scanOf
-scan-is job j {segments} {turns} {level} {mark} a b d some e = rw (a, b, e ∙ next-level level some, d)
+    }) (scanFor kind n S C level j)
+unfolding scanFor
+scan-is kind n S C level j a b some e = rw (a, b, e ∙ next-level level some)
+
+-- what a level of the job has found
+abbrev foundAt : Job → ℕ → Found
+foundAt job level = record { count = getD (job .counts) level 0 }
 
 -- ---- a run over a scan is a run over its job
 
 module _ (job : Job) (j : ℕ) where
   place-same : (children : List ℕ) (e : Expansion) → placeAll (scanJob (scanOf job j)) j children e ≡ placeAll job j children e
-  unfolding placeAll placeChild scanJob scanOf levelOf
+  unfolding placeAll placeChild scanJob scanFor levelOf
   place-same [] e = refl
   place-same (c ∷ children) e = place-same children (placeChild job j c e)
 
   next-same : (e : Expansion) → expandNext (scanJob (scanOf job j)) j e ≡ expandNext job j e
-  unfolding isParent expandNext expandStack passOne waitFor scanJob scanOf levelOf segmentCountOf stackCountOf
+  unfolding isParent expandNext expandStack passOne waitFor scanJob scanFor levelOf segmentCountOf stackCountOf
   next-same e =
-      let children = childrenOf (job .kind) (job .n) (j * job .size + e .at) in
+      let children = childrenOf (job .kind) (job .n) (movesOf job) (j * job .size + e .at) in
       let t = firstFrom (lacksRoom (job .size) (job .room) j (e .logs .waiting) children) 0 (segmentCountOf job) in
       ap
       (λ (x : Expansion). cond (e .waits) e
@@ -102,7 +108,7 @@ module _ (job : Job) (j : ℕ) where
   answer x = (x .marks .segment, x .logs .log, record { refusal = 0; waits = x .waits; on = x .on; job = expandedJob job j x })
 
   scan-fits : isCoherent job ≡ true → j < segmentCountOf job → ScanFits (scanOf job j)
-  unfolding scanJob scanOf segmentCountOf stackCountOf levelOf
+  unfolding scanJob scanFor segmentCountOf stackCountOf levelOf
   scan-fits coherent inside =
       let given = begin-given (job .kind) (job .n) (job .wanted) (job .size) (job .room) (coherent-facts job coherent .begins) in
       record {
@@ -116,15 +122,15 @@ module _ (job : Job) (j : ℕ) where
         mark-is = refl;
       }
 
-  waiting-most : isCoherent job ≡ true → length (job .waiting) ≡ 64 → (t : ℕ) → getD (job .waiting) t 0 ≤ job .room
-  unfolding segmentLimit waitingOf
-  waiting-most coherent long t = go (lt-or-ge t 64)
+  waiting-most : isCoherent job ≡ true → length (job .waiting) ≡ segmentLimit → (t : ℕ) → getD (job .waiting) t 0 ≤ job .room
+  unfolding waitingOf
+  waiting-most coherent long t = go (lt-or-ge t segmentLimit)
     where
       at-most : (b : Bool) → cond b (job .room) 0 ≤ job .room
       at-most true = omega arith
       at-most false = omega arith
 
-      go : (t < 64) ⊎ (64 ≤ t) → getD (job .waiting) t 0 ≤ job .room
+      go : (t < segmentLimit) ⊎ (segmentLimit ≤ t) → getD (job .waiting) t 0 ≤ job .room
       go (inl h) = omega (arith, coherent-facts job coherent .waiting-fits t h, at-most (ltb t (segmentCountOf job)))
       go (inr h) =
           let past : length (job .waiting) ≤ t = omega arith in
@@ -134,32 +140,34 @@ module _ (job : Job) (j : ℕ) where
     pub call-facts : LevelFacts job j (length segment) (length log)
     call-facts = expand-facts job j (length segment) (length log) accepted .0
 
-    module _ {scan : Scan} {stacks : ℕ} (is : scan ≡ scanOf job j) (all : stacks ≡ stackCountAt job j) where
+    -- the level, the scan and m as the code has them
+    module _ {scan : Scan} {level stacks : ℕ} (on-level : level ≡ levelOf (job .phase))
+        (is : scan ≡ scanFor (job .kind) (job .n) (job .size) (job .room) level j)
+        (all : stacks ≡ stackCountIn (stackCount (job .kind) (job .n)) (job .size) j) where
       -- what a run over the segment asks
-      pub run-given : length (job .waiting) ≡ 64
-          → RunFits scan (getD (job .passed) j 0) stacks (getD (job .counts) (scan .level) 0) segment log (job .waiting)
-      unfolding scanJob scanOf stackCountAt stackCountOf segmentCountOf logLength levelOf passedOf countOf
+      pub run-given : length (job .waiting) ≡ segmentLimit → RunFits scan (getD (job .passed) j 0) stacks (foundAt job level) segment log (job .waiting)
+      unfolding scanJob scanFor stackCountAt stackCountOf segmentCountOf logLength levelOf passedOf countOf
       run-given long =
           let f = call-facts in
-          rw (is, all)
+          rw (is, all, on-level)
           (record {
-            fit = scan-fits (f .coherent) (f .inside);
-            lent = record { bytes = f .long; places = f .wide; logs = long; most = waiting-most (f .coherent) long };
+            fit = scan-fits (f .called .coherent) (f .called .inside);
+            lent = record { bytes = f .long; places = f .wide; logs = long; most = waiting-most (f .called .coherent) long };
             all = refl;
             within = le-of-lt (expand-facts job j (length segment) (length log) accepted .1);
-            few = coherent-facts job (f .coherent) .counts-fit (levelOf (job .phase));
+            few = coherent-facts job (f .called .coherent) .counts-fit (levelOf (job .phase));
           })
 
       -- the call as the run begins
       abbrev before : ℕ → Expansion
-      before = running segment (getD (job .counts) (scan .level) 0) log (job .waiting)
+      before = running segment (foundAt job level) log (job .waiting)
 
       run-is : expandRun (scanJob scan) (scan .j) (stacks - getD (job .passed) j 0) (before (getD (job .passed) j 0)) ≡ expansion job j segment log
-      unfolding scanOf expansion passedOf countOf
+      unfolding scanFor expansion stackCountAt stackCountOf passedOf countOf
       run-is =
-          rw (is, all)
+          rw (is, all, on-level)
           (run-same (stackCountAt job j - passedOf job j)
-          (running segment (countOf job (levelOf (job .phase))) log (job .waiting) (passedOf job j)))
+          (running segment (foundAt job (levelOf (job .phase))) log (job .waiting) (passedOf job j)))
 
       -- the answer, from how far the run came and what it leaves
       pub answer-is : (reached : Reached) {segment′ log′ waiting′ : List ℕ} {next : Job}

@@ -1,19 +1,20 @@
 -- What a scan that fits says of its numbers.
 use Prim.Native.Nat.{_^_, _<_, _≤_}
 use native.Mathlib.Omega.{arith}
-use Rattle.stacks.proofs.KindLaws.{panes-twelve, count-fits}
-use Rattle.stacks.proofs.TurnLaws.{turns-count}
+use Rattle.stacks.proofs.KindLaws.{count-fits}
 use Rattle.search.specs.JobState.{stackCountOf}
+use Rattle.search.specs.Segments.{segmentLimit, mostSize, mostRoom}
 use Rattle.search.proofs.SegmentLaws.{SegmentSizeFacts, LogRoomFacts, segment-size-facts, log-room-facts}
-use Rattle.expand.specs.Scan.{ScanFits, scanJob}
+use Rattle.search.proofs.Turning.{all-turns}
+use Rattle.expand.specs.Scan.{mostMoves, ScanFits, scanJob}
 use Rattle.expand.specs.declared.scan.Scan.{Scan}
 
 pub record ScanFacts (scan : Scan) : Type 0 where
   pub some : 0 < scan .size
-  pub panes-most : scan .size ≤ 67108864
-  pub few : scan .segments ≤ 64
-  pub room-most : scan .room ≤ 1048576
-  pub turns-few : scan .turns ≤ 12
+  pub panes-most : scan .size ≤ mostSize
+  pub few : scan .segments ≤ segmentLimit
+  pub room-most : scan .room ≤ mostRoom
+  pub turns-few : scan .turns ≤ mostMoves
   pub count-fits : stackCountOf (scanJob scan) < 2 ^ 32
 
 pub scan-facts : (scan : Scan) → ScanFits scan → ScanFacts scan
@@ -26,6 +27,6 @@ scan-facts scan fit =
       panes-most = sizes .most;
       few = omega arith;
       room-most = rooms .most;
-      turns-few = omega (arith, turns-count (scan .kind) (scan .n), panes-twelve (scan .kind) (scan .n) (fit .is-pane-count));
+      turns-few = omega (arith, all-turns (scan .kind) (scan .n) (fit .is-pane-count) .few);
       count-fits = count-fits (scan .kind) (scan .n) (fit .is-pane-count);
     }

@@ -1,7 +1,7 @@
 -- A child placed, and then all: what the code's steps are to the definition, and that what is lent keeps its lengths and its room.
 use mathlib.Core.Path.{_≡_, refl, sym, ap, _∙_, subst}
 use mathlib.Core.Logic.{_⊎_, inl, inr}
-use mathlib.Core.Bool.{Bool, false, cond}
+use mathlib.Core.Bool.{false}
 use mathlib.Core.List.{List, [], _∷_}
 use Prim.Native.Nat.{ℕ, _+_, _-_, _*_, _/_, _%_, _<_, _≤_}
 use native.Mathlib.Nat.{suc-mul, mul-le-mul-right, mul-le-mul}
@@ -11,31 +11,31 @@ use borrow.Rule.Slice.PartMut.{midOf, putMid, set-mid-at}
 use lib.ListN.{length, getD, set, take, drop, length-set, length-take, length-drop, drop-of-length-le}
 use lib.Seq.{getD-set-same, getD-set-other, set-out, getD-take, drop-cons}
 use Rattle.base.proofs.Tests.{lt-or-ge, eq-or-ne}
-use Rattle.search.specs.Entries.{entryAt}
 use Rattle.search.specs.Expand.{Expansion, placeChild, placeAll}
 use Rattle.search.specs.JobState.{levelOf, stackCountOf, stackCountAt}
-use Rattle.search.specs.Segments.{stackCountIn}
+use Rattle.search.specs.Segments.{segmentLimit, mostRoom, stackCountIn}
 use Rattle.search.specs.Marks.{Marks, markOne}
 use Rattle.search.specs.Logs.{logOne, fallingIn}
 use Rattle.search.proofs.EntryLaws.{byte-inside}
 use Rattle.search.proofs.ExpandCases.{falling-here, falling-elsewhere, falling-le, place-here, place-elsewhere}
-use Rattle.search.proofs.MarkLaws.{mark-unseen, mark-seen, mark-length}
+use Rattle.search.proofs.MarkLaws.{mark-length}
 use Rattle.search.proofs.SegmentLaws.{stack-segment, stack-offset}
-use Rattle.twobit.specs.Mark.{Marked}
-use Rattle.twobit.proofs.Marking.{mark-one}
-use Rattle.expand.specs.Scan.{LentFits, HasRoom, ChildFits, ChildrenFit, PlacesChild, PlacesAll, running, scanJob}
+use Rattle.twobit.specs.Mark.{marksOf, MarkFits}
+use Rattle.twobit.specs.declared.marking.Found.{Found}
+use Rattle.twobit.proofs.LeafMarks.{count-le, mark-level}
+use Rattle.expand.specs.Scan.{mostMoves, LentFits, HasRoom, ChildFits, ChildrenFit, PlacesChild, PlacesAll, running, scanJob}
 use Rattle.expand.specs.declared.scan.Scan.{Scan}
 use Rattle.expand.proofs.Fitting.{ScanFacts, scan-facts}
 
 -- where a child's log and its next place stand, and that the numbers are small
 pub record LogPlace (scan : Scan) (child : ℕ) (log waiting : List ℕ) : Type 0 where
-  pub listed : child / scan .size < 64
-  pub start-small : child / scan .size * scan .room ≤ 67108864
+  pub listed : child / scan .size < segmentLimit
+  pub start-small : child / scan .size * scan .room ≤ segmentLimit * mostRoom
   pub start-within : child / scan .size * scan .room ≤ length log
   pub free : getD waiting (child / scan .size) 0 < scan .room
   pub place-within : getD waiting (child / scan .size) 0 < length log - child / scan .size * scan .room
 
-module _ {scan : Scan} {child count : ℕ} {segment log waiting : List ℕ} (g : ChildFits scan child count segment log waiting) where
+module _ {scan : Scan} {child : ℕ} {found : Found} {segment log waiting : List ℕ} (g : ChildFits scan child found segment log waiting) where
   facts : ScanFacts scan
   facts = scan-facts scan (g .fit)
 
@@ -43,12 +43,20 @@ module _ {scan : Scan} {child count : ℕ} {segment log waiting : List ℕ} (g :
   child-segment = rw (g .fit .segments-are) (stack-segment (stackCountOf (scanJob scan)) (scan .size) (facts .some) child (g .below))
 
   -- a child of this segment has its entry in the segment's bytes
-  pub child-byte : child / scan .size ≡ scan .j → child % scan .size / 4 < length segment
+  child-byte : child / scan .size ≡ scan .j → child % scan .size / 4 < length segment
   unfolding stackCountOf stackCountAt scanJob
   child-byte e =
       rw (g .lent .bytes, ← e)
       (byte-inside (child % scan .size) (stackCountIn (stackCountOf (scanJob scan)) (scan .size) (child / scan .size))
       (stack-offset (stackCountOf (scanJob scan)) (scan .size) (facts .some) child (g .below)))
+
+  pub child-marks : child / scan .size ≡ scan .j → MarkFits segment (child % scan .size) (scan .mark) found
+  child-marks e =
+      record {
+        below = omega (arith, g .fit .mark-is);
+        inside = child-byte e;
+        few = omega (arith, g .few);
+      }
 
   pub log-place : (child / scan .size ≡ scan .j → ⊥) → LogPlace scan child log waiting
   log-place ne =
@@ -59,23 +67,21 @@ module _ {scan : Scan} {child count : ℕ} {segment log waiting : List ℕ} (g :
       let free : getD waiting t 0 < scan .room = omega (arith, g .room t ne) in
       record {
         listed = omega (arith, child-segment, facts);
-        start-small = omega (arith, mul-le-mul {n₂ = 64} {m₂ = 1048576} (let l : t ≤ 64 = omega (arith, child-segment, facts) in l) (facts .room-most));
+        start-small = omega (arith, mul-le-mul {n₂ = segmentLimit} {m₂ = mostRoom} (let l : t ≤ segmentLimit = omega (arith, child-segment, facts) in l) (facts .room-most));
         start-within = omega (arith, g .lent .places);
         free = free;
         place-within = omega (arith, g .lent .places);
       }
 
-  -- the leaf that marks, with one more where it says so
-  pub placed-here : {after : List ℕ} {fresh : Bool} {counted : ℕ} → child / scan .size ≡ scan .j
-      → Marked segment (child % scan .size) (scan .mark) after fresh → counted ≡ cond fresh (count + 1) count
-      → PlacesChild scan child (running segment count log waiting) (running after counted log waiting)
+  -- the leaf that marks and counts
+  pub placed-here : {after : List ℕ} {next : Found} → child / scan .size ≡ scan .j
+      → marksOf after next ≡ markOne (scan .size) (scan .mark) child (marksOf segment found)
+      → PlacesChild scan child (running segment found log waiting) (running after next log waiting)
   unfolding scanJob levelOf
-  placed-here {after} {fresh} e m c at =
-      rw c
-      (sym
-      (place-here (scanJob scan) (scan .j) child (running segment count log waiting at) e
-      ∙ ap (λ (marks : Marks). record { at = at; waits = false; on = 0; marks = marks; logs = record { log = log; waiting = waiting } })
-      (mark-one (scan .level) (child % scan .size) count segment after fresh (rw (← g .fit .mark-is) m))))
+  placed-here e m at =
+      ap (λ (marks : Marks). record { at = at; waits = false; on = 0; marks = marks; logs = record { log = log; waiting = waiting } })
+      (m ∙ rw (g .fit .mark-is) (mark-level (scan .size) (scan .level) child (marksOf segment found)))
+      ∙ sym (place-here (scanJob scan) (scan .j) child (running segment found log waiting at) e)
 
   -- a place of the log's own stretch, and one more waits
   pub placed-elsewhere : {after : List ℕ} (ne : child / scan .size ≡ scan .j → ⊥)
@@ -83,8 +89,8 @@ module _ {scan : Scan} {child count : ℕ} {segment log waiting : List ℕ} (g :
       let start = t * scan .room in
       let k = length log - start in
       after ≡ set (midOf start k log) (getD waiting t 0) (child % scan .size)
-      → PlacesChild scan child (running segment count log waiting)
-      (running segment count (putMid start k log after) (set waiting t (getD waiting t 0 + 1))))
+      → PlacesChild scan child (running segment found log waiting)
+      (running segment found (putMid start k log after) (set waiting t (getD waiting t 0 + 1))))
   unfolding scanJob logOne
   placed-elsewhere ne e at =
       let t = child / scan .size in
@@ -92,10 +98,10 @@ module _ {scan : Scan} {child count : ℕ} {segment log waiting : List ℕ} (g :
       let k = length log - start in
       let w = getD waiting t 0 in
       let p = log-place ne in
-      ap (λ (xs : List ℕ). running segment count xs (set waiting t (w + 1)) at)
+      ap (λ (xs : List ℕ). running segment found xs (set waiting t (w + 1)) at)
       (ap (putMid start k log) e
       ∙ set-mid-at start k w log (child % scan .size) (simp (length-take, length-drop) (omega arith)))
-      ∙ sym (place-elsewhere (scanJob scan) (scan .j) child (running segment count log waiting at) ne)
+      ∙ sym (place-elsewhere (scanJob scan) (scan .j) child (running segment found log waiting at) ne)
 
 set-most : (xs : List ℕ) (i v : ℕ) → getD xs i 0 ≤ v → getD (set xs i v) i 0 ≤ v
 set-most xs i v h = go (lt-or-ge i (length xs))
@@ -144,7 +150,7 @@ module _ (scan : Scan) (child : ℕ) (rest : List ℕ) (e : Expansion) (lent : F
       go (inl here) =
           subst Leaves (sym (place-here (scanJob scan) (scan .j) child e here)) (
             record {
-              bytes = mark-length (scan .level) (child % scan .size) (e .marks) ∙ lent .bytes;
+              bytes = mark-length (scan .size) (scan .level) child (e .marks) ∙ lent .bytes;
               places = lent .places;
               logs = lent .logs;
               most = lent .most;
@@ -167,19 +173,9 @@ pub place-count : (scan : Scan) (child : ℕ) (e : Expansion) → placeChild (sc
 unfolding scanJob levelOf
 place-count scan child e = go (eq-or-ne (child / scan .size) (scan .j))
   where
-    d : ℕ
-    d = scan .level
-
-    i : ℕ
-    i = child % scan .size
-
-    mark : (entryAt (e .marks .segment) i ≡ 3) ⊎ (entryAt (e .marks .segment) i ≡ 3 → ⊥) → markOne d i (e .marks) .count ≤ e .marks .count + 1
-    mark (inl h) = rw (mark-unseen d i (e .marks) h) (omega arith)
-    mark (inr h) = rw (mark-seen d i (e .marks) h) (omega arith)
-
     go : (child / scan .size ≡ scan .j) ⊎ (child / scan .size ≡ scan .j → ⊥)
         → placeChild (scanJob scan) (scan .j) child e .marks .count ≤ e .marks .count + 1
-    go (inl h) = rw (place-here (scanJob scan) (scan .j) child e h) (mark (eq-or-ne (entryAt (e .marks .segment) i) 3))
+    go (inl h) = rw (place-here (scanJob scan) (scan .j) child e h) (count-le (scan .size) (scan .level) child (e .marks))
     go (inr h) = rw (place-elsewhere (scanJob scan) (scan .j) child e h) (omega arith)
 
 module _ (scan : Scan) where
@@ -204,21 +200,21 @@ abbrev pub childrenIn : Scan → List ℕ → List ℕ
 childrenIn scan array = take (scan .turns) array
 
 -- a call that has placed the first i children, from what it was given
-pub record PlacedTo (scan : Scan) (array : List ℕ) (segment₀ : List ℕ) (count₀ : ℕ) (log₀ waiting₀ : List ℕ) (segment : List ℕ) (count : ℕ)
+pub record PlacedTo (scan : Scan) (array : List ℕ) (segment₀ : List ℕ) (found₀ : Found) (log₀ waiting₀ : List ℕ) (segment : List ℕ) (found : Found)
     (log waiting : List ℕ) (i : ℕ) : Type 0 where
-  pub given : ChildrenFit scan array count₀ segment₀ log₀ waiting₀
+  pub given : ChildrenFit scan array found₀ segment₀ log₀ waiting₀
   pub long : scan .turns ≤ length array
   pub within : i ≤ scan .turns
   pub fits : LentFits scan segment log waiting
   pub room : HasRoom scan waiting (drop i (childrenIn scan array))
-  pub counted : count ≤ count₀ + i
-  pub placed : (at : ℕ) → placeAll (scanJob scan) (scan .j) (childrenIn scan array) (running segment₀ count₀ log₀ waiting₀ at)
-      ≡ placeAll (scanJob scan) (scan .j) (drop i (childrenIn scan array)) (running segment count log waiting at)
+  pub counted : found .count ≤ found₀ .count + i
+  pub placed : (at : ℕ) → placeAll (scanJob scan) (scan .j) (childrenIn scan array) (running segment₀ found₀ log₀ waiting₀ at)
+      ≡ placeAll (scanJob scan) (scan .j) (drop i (childrenIn scan array)) (running segment found log waiting at)
 
-module _ {scan : Scan} {array : List ℕ} {segment₀ : List ℕ} {count₀ : ℕ} {log₀ waiting₀ : List ℕ} where
-  pub placed-none : ChildrenFit scan array count₀ segment₀ log₀ waiting₀ → length array ≡ 12
-      → PlacedTo scan array segment₀ count₀ log₀ waiting₀ segment₀ count₀ log₀ waiting₀ 0
-  placed-none given twelve =
+module _ {scan : Scan} {array : List ℕ} {segment₀ : List ℕ} {found₀ : Found} {log₀ waiting₀ : List ℕ} where
+  pub placed-none : ChildrenFit scan array found₀ segment₀ log₀ waiting₀ → length array ≡ mostMoves
+      → PlacedTo scan array segment₀ found₀ log₀ waiting₀ segment₀ found₀ log₀ waiting₀ 0
+  placed-none given all =
       record {
         given = given;
         long = omega (arith, scan-facts scan (given .fit));
@@ -229,16 +225,16 @@ module _ {scan : Scan} {array : List ℕ} {segment₀ : List ℕ} {count₀ : �
         placed = λ at. refl;
       }
 
-  module _ {segment : List ℕ} {count : ℕ} {log waiting : List ℕ} {i : ℕ}
-      (p : PlacedTo scan array segment₀ count₀ log₀ waiting₀ segment count log waiting i) where
+  module _ {segment : List ℕ} {found : Found} {log waiting : List ℕ} {i : ℕ}
+      (p : PlacedTo scan array segment₀ found₀ log₀ waiting₀ segment found log waiting i) where
     pub placed-end : scan .turns ≤ i
-        → PlacesAll scan array (running segment₀ count₀ log₀ waiting₀) (running segment count log waiting)
+        → PlacesAll scan array (running segment₀ found₀ log₀ waiting₀) (running segment found log waiting)
     unfolding placeAll
     placed-end h at =
         let all : length (childrenIn scan array) ≤ i = omega (arith, length-take (scan .turns) array) in
         sym
         (p .placed at
-        ∙ ap (λ (xs : List ℕ). placeAll (scanJob scan) (scan .j) xs (running segment count log waiting at))
+        ∙ ap (λ (xs : List ℕ). placeAll (scanJob scan) (scan .j) xs (running segment found log waiting at))
         (drop-of-length-le (childrenIn scan array) all))
 
     module _ (inside : i < scan .turns) where
@@ -266,7 +262,7 @@ module _ {scan : Scan} {array : List ℕ} {segment₀ : List ℕ} {count₀ : �
           go (inr e) =
               omega (arith, falling-elsewhere (scan .size) t (getD array i 0) [] e, falling-le (scan .size) t [], room-left t ne)
 
-      pub placed-child : ChildFits scan (getD array i 0) count segment log waiting
+      pub placed-child : ChildFits scan (getD array i 0) found segment log waiting
       placed-child =
           record {
             fit = p .given .fit;
@@ -276,12 +272,12 @@ module _ {scan : Scan} {array : List ℕ} {segment₀ : List ℕ} {count₀ : �
             few = omega (arith, p .counted, p .given .few, scan-facts scan (p .given .fit));
           }
 
-      pub placed-more : {segment′ : List ℕ} {count′ : ℕ} {log′ waiting′ : List ℕ}
-          → PlacesChild scan (getD array i 0) (running segment count log waiting) (running segment′ count′ log′ waiting′)
-          → PlacedTo scan array segment₀ count₀ log₀ waiting₀ segment′ count′ log′ waiting′ (i + 1)
+      pub placed-more : {segment′ : List ℕ} {found′ : Found} {log′ waiting′ : List ℕ}
+          → PlacesChild scan (getD array i 0) (running segment found log waiting) (running segment′ found′ log′ waiting′)
+          → PlacedTo scan array segment₀ found₀ log₀ waiting₀ segment′ found′ log′ waiting′ (i + 1)
       unfolding placeAll
       placed-more step =
-          let before = running segment count log waiting 0 in
+          let before = running segment found log waiting 0 in
           let rest = drop (i + 1) (childrenIn scan array) in
           let next = place-fits scan (getD array i 0) rest before (p .fits) room-left in
           record {
@@ -297,6 +293,6 @@ module _ {scan : Scan} {array : List ℕ} {segment₀ : List ℕ} {count₀ : �
               ap (λ (e : Expansion). e .marks .count) (step 0),
             );
             placed = λ at. p .placed at
-                ∙ ap (λ (xs : List ℕ). placeAll (scanJob scan) (scan .j) xs (running segment count log waiting at)) left
+                ∙ ap (λ (xs : List ℕ). placeAll (scanJob scan) (scan .j) xs (running segment found log waiting at)) left
                 ∙ ap (placeAll (scanJob scan) (scan .j) rest) (sym (step at));
           }

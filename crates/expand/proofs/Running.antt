@@ -13,6 +13,7 @@ use Rattle.base.proofs.Lists.{replicate-zero}
 use Rattle.base.proofs.Tests.{lt-or-ge}
 use Rattle.base.specs.Words.{firstFrom}
 use Rattle.stacks.specs.Stack.{stackCount}
+use Rattle.stacks.specs.Turn.{turnsOf}
 use Rattle.stacks.proofs.KindLaws.{count-pos}
 use Rattle.search.specs.Entries.{entryAt}
 use Rattle.search.specs.Expand.{Expansion, isParent, childrenOf, placeAll, passOne, waitFor, expandStack, expandNext, expandRun}
@@ -22,16 +23,24 @@ use Rattle.search.proofs.Children.{children-length, children-inside}
 use Rattle.search.proofs.EntryLaws.{byte-inside}
 use Rattle.search.proofs.ExpandCases.{first-before, room-enough}
 use Rattle.search.proofs.SegmentLaws.{segment-stack, segment-starts, stack-segment, stackCountIn-le}
-use Rattle.expand.specs.Scan.{ScanFits, LentFits, HasRoom, WaitingFits, ChildrenFit, RunFits, PlacesAll, Runs, running, reachedWith, scanJob}
+use Rattle.search.proofs.Turning.{all-turns}
+use Rattle.twobit.specs.declared.marking.Found.{Found}
+use Rattle.expand.specs.Scan.{mostMoves, ScanFits, LentFits, HasRoom, WaitingFits, ChildrenFit, RunFits, PlacesAll, Runs, running, reachedWith, scanJob}
 use Rattle.expand.specs.declared.run.Reached.{Reached}
 use Rattle.expand.specs.declared.scan.Scan.{Scan}
 use Rattle.expand.proofs.Fitting.{ScanFacts, scan-facts}
 use Rattle.expand.proofs.Lowest.{falling-place}
 use Rattle.expand.proofs.Placing.{Fits, all-fits, all-count}
 
--- the children of the stack at place `at` of this segment
+-- the moves of a scan, the children that they make of the stack at an index, and of the stack at place `at` of this segment
+abbrev moves : Scan → List ℕ
+moves scan = turnsOf (scan .kind) (scan .n)
+
+abbrev childrenBy : Scan → ℕ → List ℕ
+childrenBy scan v = childrenOf (scan .kind) (scan .n) (moves scan) v
+
 abbrev childrenAt : Scan → ℕ → List ℕ
-childrenAt scan at = childrenOf (scan .kind) (scan .n) (scan .j * scan .size + at)
+childrenAt scan at = childrenBy scan (scan .j * scan .size + at)
 
 module _ (scan : Scan) (fit : ScanFits scan) where
   facts : ScanFacts scan
@@ -49,30 +58,36 @@ module _ (scan : Scan) (fit : ScanFits scan) where
   unfolding stackCountAt scanJob
   stack-inside at h = segment-stack (stackCountOf (scanJob scan)) (scan .size) (facts .some) (scan .j) at h
 
-  -- ---- the children of the stack at index v, as the array of twelve has them
-  module _ (v : ℕ) (array : List ℕ)
-      (filled : array ≡ childrenOf (scan .kind) (scan .n) v ++ replicate (12 - length (childrenOf (scan .kind) (scan .n) v)) 0) where
-    pub array-children : take (scan .turns) array ≡ childrenOf (scan .kind) (scan .n) v
+  -- children are stacks
+  listed-inside : (v : ℕ) → v < stackCountOf (scanJob scan) → (i : ℕ) → i < length (childrenBy scan v)
+      → getD (childrenBy scan v) i 0 < stackCountOf (scanJob scan)
+  unfolding stackCountOf scanJob
+  listed-inside v h =
+      children-inside (scan .kind) (scan .n) (moves scan) v (fit .is-pane-count) (all-turns (scan .kind) (scan .n) (fit .is-pane-count)) h
+
+  -- ---- the children of the stack at index v, as the array has them
+  module _ (v : ℕ) (array : List ℕ) (filled : array ≡ childrenBy scan v ++ replicate (mostMoves - length (moves scan)) 0) where
+    pub array-children : take (scan .turns) array ≡ childrenBy scan v
     array-children =
         ap (take (scan .turns)) filled
-        ∙ take-at (childrenOf (scan .kind) (scan .n) v) (replicate (12 - length (childrenOf (scan .kind) (scan .n) v)) 0) (scan .turns)
-        (children-length (scan .kind) (scan .n) v ∙ sym (fit .turns-are))
+        ∙ take-at (childrenBy scan v) (replicate (mostMoves - length (moves scan)) 0) (scan .turns)
+        (children-length (scan .kind) (scan .n) (moves scan) v ∙ sym (fit .turns-are))
 
     pub array-below : v < stackCountOf (scanJob scan) → (i : ℕ) → getD array i 0 < stackCountOf (scanJob scan)
     unfolding stackCountOf scanJob
     array-below h i = rw filled (go (lt-or-ge i (length cs)))
       where
         cs : List ℕ
-        cs = childrenOf (scan .kind) (scan .n) v
+        cs = childrenBy scan v
 
         zeros : List ℕ
-        zeros = replicate (12 - length cs) 0
+        zeros = replicate (mostMoves - length (moves scan)) 0
 
         none : (k : ℕ) → getD zeros k 0 ≡ 0
-        none k = replicate-zero (12 - length cs) k
+        none k = replicate-zero (mostMoves - length (moves scan)) k
 
         go : (i < length cs) ⊎ (length cs ≤ i) → getD (cs ++ zeros) i 0 < stackCount (scan .kind) (scan .n)
-        go (inl l) = rw (List·getD-append cs zeros 0 i l) (children-inside (scan .kind) (scan .n) v (fit .is-pane-count) h i l)
+        go (inl l) = rw (List·getD-append cs zeros 0 i l) (listed-inside v h i l)
         go (inr l) =
             let at : i ≡ length cs + (i - length cs) = omega arith in
             rw (at, getD-append-add cs zeros (i - length cs) 0, none (i - length cs)) (count-pos (scan .kind) (scan .n))
@@ -102,17 +117,17 @@ module _ (scan : Scan) (fit : ScanFits scan) where
       go (inr h) (inr l) = omega (arith, most t)
 
   -- ---- one stack
-  module _ (at : ℕ) (segment : List ℕ) (count : ℕ) (log waiting : List ℕ) where
+  module _ (at : ℕ) (segment : List ℕ) (found : Found) (log waiting : List ℕ) where
     pub next-skips : (entryAt segment at ≡ scan .from → ⊥)
-        → expandNext (scanJob scan) (scan .j) (running segment count log waiting at) ≡ running segment count log waiting (suc at)
+        → expandNext (scanJob scan) (scan .j) (running segment found log waiting at) ≡ running segment found log waiting (suc at)
     unfolding isParent expandNext passOne scanJob levelOf
     next-skips ne = rw (ne-eqb (entryAt segment at) ((scan .level - 1) % 3) (λ e. ne (e ∙ sym (fit .from-is))))
 
     module _ (due : entryAt segment at ≡ scan .from) (full : ℕ)
         (lowest : full ≡ firstFrom (lacksRoom (scan .size) (scan .room) (scan .j) waiting (childrenAt scan at)) 0 (scan .segments)) where
       pub next-waits : full < scan .segments
-          → expandNext (scanJob scan) (scan .j) (running segment count log waiting at)
-          ≡ reachedWith (record { at = at; waits = true; on = full; count = count }) segment log waiting
+          → expandNext (scanJob scan) (scan .j) (running segment found log waiting at)
+          ≡ reachedWith (record { at = at; waits = true; on = full; found = found }) segment log waiting
       unfolding isParent expandNext expandStack waitFor scanJob levelOf
       next-waits h =
           rw (
@@ -122,12 +137,12 @@ module _ (scan : Scan) (fit : ScanFits scan) where
             lt-ltb full (scan .segments) h,
           )
 
-      pub next-places : (segment′ : List ℕ) (count′ : ℕ) (log′ waiting′ : List ℕ) → scan .segments ≤ full
-          → running segment′ count′ log′ waiting′ at
-          ≡ placeAll (scanJob scan) (scan .j) (childrenAt scan at) (running segment count log waiting at)
-          → expandNext (scanJob scan) (scan .j) (running segment count log waiting at) ≡ running segment′ count′ log′ waiting′ (suc at)
+      pub next-places : (segment′ : List ℕ) (found′ : Found) (log′ waiting′ : List ℕ) → scan .segments ≤ full
+          → running segment′ found′ log′ waiting′ at
+          ≡ placeAll (scanJob scan) (scan .j) (childrenAt scan at) (running segment found log waiting at)
+          → expandNext (scanJob scan) (scan .j) (running segment found log waiting at) ≡ running segment′ found′ log′ waiting′ (suc at)
       unfolding isParent expandNext expandStack passOne scanJob levelOf
-      next-places segment′ count′ log′ waiting′ h e =
+      next-places segment′ found′ log′ waiting′ h e =
           rw (
             eq-eqb (entryAt segment at) ((scan .level - 1) % 3) (due ∙ fit .from-is),
             segment-count-of,
@@ -148,40 +163,40 @@ module _ (scan : Scan) (fit : ScanFits scan) where
 -- ---- the run
 
 -- a call that has come to stack `at`, from what it was given
-pub record RunTo (scan : Scan) (first stacks : ℕ) (segment₀ : List ℕ) (count₀ : ℕ) (log₀ waiting₀ : List ℕ) (segment : List ℕ) (count : ℕ)
+pub record RunTo (scan : Scan) (first stacks : ℕ) (segment₀ : List ℕ) (found₀ : Found) (log₀ waiting₀ : List ℕ) (segment : List ℕ) (found : Found)
     (log waiting : List ℕ) (at : ℕ) : Type 0 where
-  pub given : RunFits scan first stacks count₀ segment₀ log₀ waiting₀
+  pub given : RunFits scan first stacks found₀ segment₀ log₀ waiting₀
   pub within : at ≤ stacks
   pub fits : LentFits scan segment log waiting
-  pub counted : count ≤ countLimit + 12 * at
-  pub run : expandRun (scanJob scan) (scan .j) (stacks - first) (running segment₀ count₀ log₀ waiting₀ first)
-      ≡ expandRun (scanJob scan) (scan .j) (stacks - at) (running segment count log waiting at)
+  pub counted : found .count ≤ countLimit + mostMoves * at
+  pub run : expandRun (scanJob scan) (scan .j) (stacks - first) (running segment₀ found₀ log₀ waiting₀ first)
+      ≡ expandRun (scanJob scan) (scan .j) (stacks - at) (running segment found log waiting at)
 
-module _ {scan : Scan} {first stacks : ℕ} {segment₀ : List ℕ} {count₀ : ℕ} {log₀ waiting₀ : List ℕ} where
-  pub run-none : RunFits scan first stacks count₀ segment₀ log₀ waiting₀
-      → RunTo scan first stacks segment₀ count₀ log₀ waiting₀ segment₀ count₀ log₀ waiting₀ first
+module _ {scan : Scan} {first stacks : ℕ} {segment₀ : List ℕ} {found₀ : Found} {log₀ waiting₀ : List ℕ} where
+  pub run-none : RunFits scan first stacks found₀ segment₀ log₀ waiting₀
+      → RunTo scan first stacks segment₀ found₀ log₀ waiting₀ segment₀ found₀ log₀ waiting₀ first
   run-none given = record { given = given; within = given .within; fits = given .lent; counted = omega (arith, given .few); run = refl }
 
-  module _ {segment : List ℕ} {count : ℕ} {log waiting : List ℕ} {at : ℕ}
-      (r : RunTo scan first stacks segment₀ count₀ log₀ waiting₀ segment count log waiting at) where
-    pub run-end : stacks ≤ at → Runs scan first stacks (running segment₀ count₀ log₀ waiting₀) (running segment count log waiting at)
+  module _ {segment : List ℕ} {found : Found} {log waiting : List ℕ} {at : ℕ}
+      (r : RunTo scan first stacks segment₀ found₀ log₀ waiting₀ segment found log waiting at) where
+    pub run-end : stacks ≤ at → Runs scan first stacks (running segment₀ found₀ log₀ waiting₀) (running segment found log waiting at)
     unfolding expandRun
     run-end h =
         sym
         (r .run
-        ∙ ap (λ (n : ℕ). expandRun (scanJob scan) (scan .j) n (running segment count log waiting at))
+        ∙ ap (λ (n : ℕ). expandRun (scanJob scan) (scan .j) n (running segment found log waiting at))
         (let e : stacks - at ≡ 0 = omega arith in e))
 
     -- there are few enough stacks that the count stays far below its type's end
-    few : count ≤ 2 ^ 61
+    few : found .count ≤ 2 ^ 61
     unfolding countLimit stackCountAt scanJob
     few =
         let facts : ScanFacts scan = scan-facts scan (r .given .fit) in
         omega (arith, r .counted, r .within, r .given .all, stackCountIn-le (stackCountOf (scanJob scan)) (scan .size) (facts .some) (scan .j))
 
     -- the same values by other names
-    pub run-same : {segment′ : List ℕ} {count′ : ℕ} {log′ waiting′ : List ℕ} → segment′ ≡ segment → log′ ≡ log → waiting′ ≡ waiting
-        → count′ ≡ count → RunTo scan first stacks segment₀ count₀ log₀ waiting₀ segment′ count′ log′ waiting′ at
+    pub run-same : {segment′ : List ℕ} {found′ : Found} {log′ waiting′ : List ℕ} → segment′ ≡ segment → log′ ≡ log → waiting′ ≡ waiting
+        → found′ ≡ found → RunTo scan first stacks segment₀ found₀ log₀ waiting₀ segment′ found′ log′ waiting′ at
     run-same a b c d = rw (a, b, c, d) r
 
     module _ (more : at < stacks) where
@@ -195,17 +210,17 @@ module _ {scan : Scan} {first stacks : ℕ} {segment₀ : List ℕ} {count₀ : 
       unfolding stackCountOf scanJob
       run-inside = inside
 
-      run-next : expandRun (scanJob scan) (scan .j) (stacks - first) (running segment₀ count₀ log₀ waiting₀ first)
-          ≡ expandRun (scanJob scan) (scan .j) (stacks - suc at) (expandNext (scanJob scan) (scan .j) (running segment count log waiting at))
+      run-next : expandRun (scanJob scan) (scan .j) (stacks - first) (running segment₀ found₀ log₀ waiting₀ first)
+          ≡ expandRun (scanJob scan) (scan .j) (stacks - suc at) (expandNext (scanJob scan) (scan .j) (running segment found log waiting at))
       unfolding expandRun
       run-next =
           r .run
-          ∙ ap (λ (n : ℕ). expandRun (scanJob scan) (scan .j) n (running segment count log waiting at))
+          ∙ ap (λ (n : ℕ). expandRun (scanJob scan) (scan .j) n (running segment found log waiting at))
           (let e : stacks - at ≡ suc (stacks - suc at) = omega arith in e)
 
-      run-more : {segment′ : List ℕ} {count′ : ℕ} {log′ waiting′ : List ℕ} → LentFits scan segment′ log′ waiting′ → count′ ≤ count + 12
-          → expandNext (scanJob scan) (scan .j) (running segment count log waiting at) ≡ running segment′ count′ log′ waiting′ (suc at)
-          → RunTo scan first stacks segment₀ count₀ log₀ waiting₀ segment′ count′ log′ waiting′ (at + 1)
+      run-more : {segment′ : List ℕ} {found′ : Found} {log′ waiting′ : List ℕ} → LentFits scan segment′ log′ waiting′ → found′ .count ≤ found .count + mostMoves
+          → expandNext (scanJob scan) (scan .j) (running segment found log waiting at) ≡ running segment′ found′ log′ waiting′ (suc at)
+          → RunTo scan first stacks segment₀ found₀ log₀ waiting₀ segment′ found′ log′ waiting′ (at + 1)
       run-more fits counted step =
           record {
             given = r .given;
@@ -216,8 +231,8 @@ module _ {scan : Scan} {first stacks : ℕ} {segment₀ : List ℕ} {count₀ : 
           }
 
       run-waits : (reached : Reached) → reached .waits ≡ true
-          → expandNext (scanJob scan) (scan .j) (running segment count log waiting at) ≡ reachedWith reached segment log waiting
-          → Runs scan first stacks (running segment₀ count₀ log₀ waiting₀) (reachedWith reached segment log waiting)
+          → expandNext (scanJob scan) (scan .j) (running segment found log waiting at) ≡ reachedWith reached segment log waiting
+          → Runs scan first stacks (running segment₀ found₀ log₀ waiting₀) (reachedWith reached segment log waiting)
       run-waits reached waits step =
           sym
           (run-next
@@ -226,7 +241,7 @@ module _ {scan : Scan} {first stacks : ℕ} {segment₀ : List ℕ} {count₀ : 
 
       -- a stack that is due, with its children in an array and the lowest segment that lacks room for them
       module _ {array : List ℕ} {full : ℕ} (due : entryAt segment at ≡ scan .from)
-          (filled : array ≡ childrenAt scan at ++ replicate (12 - length (childrenAt scan at)) 0)
+          (filled : array ≡ childrenAt scan at ++ replicate (mostMoves - length (moves scan)) 0)
           (lowest : full ≡ firstFrom (lacksRoom (scan .size) (scan .room) (scan .j) waiting (take (scan .turns) array)) 0 (scan .segments)) where
         children : take (scan .turns) array ≡ childrenAt scan at
         children = array-children scan (r .given .fit) (scan .j * scan .size + at) array filled
@@ -236,22 +251,21 @@ module _ {scan : Scan} {first stacks : ℕ} {segment₀ : List ℕ} {count₀ : 
             lowest ∙ ap (λ (cs : List ℕ). firstFrom (lacksRoom (scan .size) (scan .room) (scan .j) waiting cs) 0 (scan .segments)) children
 
         pub run-blocked : full < scan .segments
-            → Runs scan first stacks (running segment₀ count₀ log₀ waiting₀)
-            (reachedWith (record { at = at; waits = true; on = full; count = count }) segment log waiting)
+            → Runs scan first stacks (running segment₀ found₀ log₀ waiting₀)
+            (reachedWith (record { at = at; waits = true; on = full; found = found }) segment log waiting)
         run-blocked h =
-            run-waits (record { at = at; waits = true; on = full; count = count }) refl
-            (next-waits scan (r .given .fit) at segment count log waiting due full lowest-children h)
+            run-waits (record { at = at; waits = true; on = full; found = found }) refl
+            (next-waits scan (r .given .fit) at segment found log waiting due full lowest-children h)
 
         module _ (enough : scan .segments ≤ full) where
           room : HasRoom scan waiting (take (scan .turns) array)
-          unfolding stackCountOf scanJob
           room =
               rw children
               (room-found scan (r .given .fit) waiting (childrenAt scan at) (r .fits .most)
-              (children-inside (scan .kind) (scan .n) (scan .j * scan .size + at) (r .given .fit .is-pane-count) inside)
+              (listed-inside scan (r .given .fit) (scan .j * scan .size + at) inside)
               (rw (← lowest-children) enough))
 
-          pub run-children : ChildrenFit scan array count segment log waiting
+          pub run-children : ChildrenFit scan array found segment log waiting
           run-children =
               record {
                 fit = r .given .fit;
@@ -261,11 +275,11 @@ module _ {scan : Scan} {first stacks : ℕ} {segment₀ : List ℕ} {count₀ : 
                 few = few;
               }
 
-          pub run-placed : {segment′ : List ℕ} {count′ : ℕ} {log′ waiting′ : List ℕ}
-              → PlacesAll scan array (running segment count log waiting) (running segment′ count′ log′ waiting′)
-              → RunTo scan first stacks segment₀ count₀ log₀ waiting₀ segment′ count′ log′ waiting′ (at + 1)
-          run-placed {segment′} {count′} {log′} {waiting′} step =
-              let before = running segment count log waiting at in
+          pub run-placed : {segment′ : List ℕ} {found′ : Found} {log′ waiting′ : List ℕ}
+              → PlacesAll scan array (running segment found log waiting) (running segment′ found′ log′ waiting′)
+              → RunTo scan first stacks segment₀ found₀ log₀ waiting₀ segment′ found′ log′ waiting′ (at + 1)
+          run-placed {segment′} {found′} {log′} {waiting′} step =
+              let before = running segment found log waiting at in
               run-more
               (subst (Fits scan) (sym (step at)) (all-fits scan (take (scan .turns) array) before (r .fits) room))
               (omega (
@@ -275,10 +289,10 @@ module _ {scan : Scan} {first stacks : ℕ} {segment₀ : List ℕ} {count₀ : 
                 length-take (scan .turns) array,
                 scan-facts scan (r .given .fit),
               ))
-              (next-places scan (r .given .fit) at segment count log waiting due full lowest-children segment′ count′ log′ waiting′ enough
+              (next-places scan (r .given .fit) at segment found log waiting due full lowest-children segment′ found′ log′ waiting′ enough
               (step at ∙ ap (λ (cs : List ℕ). placeAll (scanJob scan) (scan .j) cs before) children))
 
       pub run-skipped : (entryAt segment at ≡ scan .from → ⊥)
-          → RunTo scan first stacks segment₀ count₀ log₀ waiting₀ segment count log waiting (at + 1)
+          → RunTo scan first stacks segment₀ found₀ log₀ waiting₀ segment found log waiting (at + 1)
       run-skipped ne =
-          run-more (r .fits) (omega arith) (next-skips scan (r .given .fit) at segment count log waiting ne)
+          run-more (r .fits) (omega arith) (next-skips scan (r .given .fit) at segment found log waiting ne)

@@ -1,8 +1,9 @@
 -- One call of Expand as its functions speak of it.
---   scanOf       what a call on segment j of a job copies
+--   mostMoves    as many children as a stack can have: no more than it has places
+--   scanFor      what a call on segment j copies, from the job's kind, n, S and C and the level; scanOf of the job
 --   scanJob      the job that a scan stands for
 --   ScanFits     what holds of a scan
---   running      a call that does not wait, from what it is lent and the count, at a stack
+--   running      a call that does not wait, from what it is lent and what was found, at a stack
 --   LentFits     what holds of what is lent
 --   HasRoom      the logs have places for children
 --   ChildFits, ChildrenFit, RunFits   what placing one child, placing all and a run ask
@@ -13,33 +14,40 @@ use mathlib.Core.Bool.{true, false}
 use mathlib.Core.List.{List, [], _∷_}
 use Prim.Native.Nat.{ℕ, _+_, _-_, _*_, _%_, _^_, _<_, _≤_}
 use lib.ListN.{length, getD, take}
-use Rattle.stacks.specs.Stack.{isPaneCount}
+use Rattle.stacks.specs.Stack.{stackPlaces, isPaneCount, stackCount}
 use Rattle.stacks.specs.Turn.{turnsOf}
 use Rattle.search.specs.Entries.{bytesFor}
 use Rattle.search.specs.Expand.{Expansion, placeChild, placeAll, expandRun}
-use Rattle.search.specs.JobState.{countLimit, levelOf, stackCountOf, segmentCountOf, stackCountAt}
-use Rattle.search.specs.Segments.{segmentCount, isSegmentSize, isLogRoom}
+use Rattle.search.specs.JobState.{countLimit, levelOf, stackCountOf, stackCountAt}
+use Rattle.search.specs.Segments.{segmentLimit, segmentCount, isSegmentSize, isLogRoom}
 use Rattle.search.specs.Logs.{fallingIn}
 use Rattle.search.specs.declared.Job.{Job}
 use Rattle.search.specs.declared.Phase.the-variants.{Level}
+use Rattle.twobit.specs.Mark.{marksOf}
+use Rattle.twobit.specs.declared.marking.Found.{Found}
 use Rattle.expand.specs.declared.run.Reached.{Reached}
 use Rattle.expand.specs.declared.scan.Scan.{Scan}
 
-unfoldable pub scanOf : Job → ℕ → Scan
-scanOf job j =
-    let d = levelOf (job .phase) in
+abbrev pub mostMoves : ℕ
+mostMoves = stackPlaces
+
+unfoldable pub scanFor : ℕ → ℕ → ℕ → ℕ → ℕ → ℕ → Scan
+scanFor kind n S C d j =
     record {
-      kind = job .kind;
-      n = job .n;
-      size = job .size;
-      room = job .room;
-      segments = segmentCountOf job;
-      turns = length (turnsOf (job .kind) (job .n));
+      kind = kind;
+      n = n;
+      size = S;
+      room = C;
+      segments = segmentCount (stackCount kind n) S;
+      turns = length (turnsOf kind n);
       j = j;
       level = d;
       from = (d - 1) % 3;
       mark = d % 3;
     }
+
+abbrev pub scanOf : Job → ℕ → Scan
+scanOf job j = scanFor (job .kind) (job .n) (job .size) (job .room) (levelOf (job .phase)) j
 
 -- its other fields do not matter
 unfoldable pub scanJob : Scan → Job
@@ -66,13 +74,13 @@ pub record ScanFits (scan : Scan) : Type 0 where
   pub from-is : scan .from ≡ (scan .level - 1) % 3
   pub mark-is : scan .mark ≡ scan .level % 3
 
-abbrev pub running : List ℕ → ℕ → List ℕ → List ℕ → ℕ → Expansion
-running segment count log waiting at =
+abbrev pub running : List ℕ → Found → List ℕ → List ℕ → ℕ → Expansion
+running segment found log waiting at =
     record {
       at = at;
       waits = false;
       on = 0;
-      marks = record { segment = segment; count = count };
+      marks = marksOf segment found;
       logs = record { log = log; waiting = waiting };
     }
 
@@ -88,32 +96,32 @@ HasRoom scan waiting children = (t : ℕ) → (t ≡ scan .j → ⊥) → getD w
 pub record LentFits (scan : Scan) (segment log waiting : List ℕ) : Type 0 where
   pub bytes : length segment ≡ bytesFor (stackCountAt (scanJob scan) (scan .j))
   pub places : length log ≡ scan .segments * scan .room
-  pub logs : length waiting ≡ 64
+  pub logs : length waiting ≡ segmentLimit
   pub most : WaitingFits scan waiting
 
 -- what the functions ask. The counts are bounded far below their type's end: each child adds at most one
 
-pub record ChildFits (scan : Scan) (child count : ℕ) (segment log waiting : List ℕ) : Type 0 where
+pub record ChildFits (scan : Scan) (child : ℕ) (found : Found) (segment log waiting : List ℕ) : Type 0 where
   pub fit : ScanFits scan
   pub lent : LentFits scan segment log waiting
   pub below : child < stackCountOf (scanJob scan)
   pub room : HasRoom scan waiting (child ∷ [])
-  pub few : count ≤ 2 ^ 62
+  pub few : found .count ≤ 2 ^ 62
 
 -- the children are the first of an array
-pub record ChildrenFit (scan : Scan) (array : List ℕ) (count : ℕ) (segment log waiting : List ℕ) : Type 0 where
+pub record ChildrenFit (scan : Scan) (array : List ℕ) (found : Found) (segment log waiting : List ℕ) : Type 0 where
   pub fit : ScanFits scan
   pub lent : LentFits scan segment log waiting
   pub below : (i : ℕ) → getD array i 0 < stackCountOf (scanJob scan)
   pub room : HasRoom scan waiting (take (scan .turns) array)
-  pub few : count ≤ 2 ^ 61
+  pub few : found .count ≤ 2 ^ 61
 
-pub record RunFits (scan : Scan) (first stacks count : ℕ) (segment log waiting : List ℕ) : Type 0 where
+pub record RunFits (scan : Scan) (first stacks : ℕ) (found : Found) (segment log waiting : List ℕ) : Type 0 where
   pub fit : ScanFits scan
   pub lent : LentFits scan segment log waiting
   pub all : stacks ≡ stackCountAt (scanJob scan) (scan .j)
   pub within : first ≤ stacks
-  pub few : count ≤ countLimit
+  pub few : found .count ≤ countLimit
 
 abbrev pub reachedWith : Reached → List ℕ → List ℕ → List ℕ → Expansion
 reachedWith reached segment log waiting =
@@ -121,7 +129,7 @@ reachedWith reached segment log waiting =
       at = reached .at;
       waits = reached .waits;
       on = reached .on;
-      marks = record { segment = segment; count = reached .count };
+      marks = marksOf segment (reached .found);
       logs = record { log = log; waiting = waiting };
     }
 

@@ -3,49 +3,51 @@
 ghost use mathlib.Core.Bool.{true};
 ghost use mathlib.Core.List.{[]};
 ghost use mathlib.Core.Path.{_≡_};
-ghost use Prim.Native.Nat.{_<_};
+ghost use Prim.Native.Nat.{_<_, _≤_};
 ghost use Rattle.search.specs.Expand.{expandRefusal, expandedJob, expandOf};
-ghost use Rattle.search.specs.JobState.{isCoherent, isLevel, segmentCountOf};
-ghost use Rattle.expand.specs.Scan.{scanOf, reachedWith};
+ghost use Rattle.search.specs.JobState.{isCoherent, segmentCountOf};
+ghost use Rattle.search.specs.Segments.{isSegmentSize};
+ghost use Rattle.stacks.specs.Stack.{isPaneCount, stackCount};
+ghost use Rattle.expand.specs.Scan.{scanFor, reachedWith};
 use crate::children;
 use crate::run;
 use crate::run::Reached;
 use crate::scan::Scan;
-use job::coherence;
-use job::level;
+use job::geometry;
 use job::phase;
+use job::refusals;
 use search::Expanded;
 use search::Job;
+use search::SEGMENT_LIMIT;
 use twobit::entry;
+use twobit::marking::Found;
 
 fn expand_refusal(job: Job, j: u32, bytes: usize, words: usize) -> u8
     ensures { λ r. ⌜ r ≡ expandRefusal job j bytes words ⌝ }
 {
-    let refusal = level::level_refusal(job, j, bytes, words);
+    let refusal = refusals::level_refusal(job, j, bytes, words);
     if refusal != 0 {
         return refusal;
     }
     let passed = job.passed;
-    if coherence::stack_count_at(job, j) <= passed[j as usize] {
+    if geometry::stack_count_at(job.kind, job.n, job.size, j) <= passed[j as usize] {
         return 11;
     }
     0
 }
 
-fn scan_of(job: Job, j: u32) -> Scan
-    requires { ⌜ (isCoherent job ≡ true) × (isLevel (job .phase) ≡ true) ⌝ }
-    ensures { λ r. ⌜ r ≡ scanOf job j ⌝ }
+fn scan_of(kind: u8, n: u8, size: u32, room: u32, level: u8, j: u32) -> Scan
+    requires { ⌜ (isPaneCount kind n ≡ true) × (isSegmentSize (stackCount kind n) size ≡ true) × (1 ≤ level) ⌝ }
+    ensures { λ r. ⌜ r ≡ scanFor kind n size room level j ⌝ }
 {
-    let phase = job.phase;
-    let level = phase::level_of(phase);
     let from = (level - 1) % 3;
     Scan {
-        kind: job.kind,
-        n: job.n,
-        size: job.size,
-        room: job.room,
-        segments: coherence::segment_count_of(job),
-        turns: children::turn_count(job.kind, job.n),
+        kind,
+        n,
+        size,
+        room,
+        segments: geometry::segment_count_of(kind, n, size),
+        turns: children::turn_count(kind, n),
         j,
         level,
         from,
@@ -54,7 +56,7 @@ fn scan_of(job: Job, j: u32) -> Scan
 }
 
 // The job as a run over segment j leaves it; what the run left in the segment and the log area does not matter.
-fn expanded_job(job: Job, j: u32, reached: Reached, waiting: [u32; 64]) -> Job
+fn expanded_job(job: Job, j: u32, reached: Reached, waiting: [u32; SEGMENT_LIMIT]) -> Job
     requires { ⌜ (isCoherent job ≡ true) × (j < segmentCountOf job) ⌝ }
     ensures { λ r. ⌜ r ≡ expandedJob job j (reachedWith reached [] [] waiting) ⌝ }
 {
@@ -63,7 +65,7 @@ fn expanded_job(job: Job, j: u32, reached: Reached, waiting: [u32; 64]) -> Job
     let mut next = job;
     next.waiting = waiting;
     next.passed[j as usize] = reached.at;
-    next.counts[level as usize] = reached.count;
+    next.counts[level as usize] = reached.found.count;
     next
 }
 
@@ -80,17 +82,20 @@ pub fn expand(job: Job, j: u32, segment: &mut [u8], log: &mut [u32]) -> Expanded
             job,
         };
     }
-    let scan = scan_of(job, j);
-    let stacks = coherence::stack_count_at(job, j);
+    let phase = job.phase;
+    let level = phase::level_of(phase);
+    let scan = scan_of(job.kind, job.n, job.size, job.room, level, j);
+    let stacks = geometry::stack_count_at(job.kind, job.n, job.size, j);
     let passed = job.passed;
     let counts = job.counts;
-    let level = scan.level;
+    let count = counts[level as usize];
+    let found = Found { count };
     let mut waiting = job.waiting;
     let reached = run::expand_run(
         scan,
         passed[j as usize],
         stacks,
-        counts[level as usize],
+        found,
         segment,
         log,
         &mut waiting,

@@ -6,8 +6,10 @@ ghost use lib.Dec.{ltb, eqb};
 ghost use lib.ListN.{length, set, take};
 ghost use Rattle.base.specs.Words.{firstFrom};
 ghost use Rattle.search.specs.Logs.{fallingIn, lacksRoom};
-ghost use Rattle.expand.specs.Scan.{ScanFits, WaitingFits};
+ghost use Rattle.expand.specs.Scan.{mostMoves, ScanFits, WaitingFits};
+use crate::MOST_MOVES;
 use crate::scan::Scan;
+use search::SEGMENT_LIMIT;
 
 // An offset becomes the entry at a place of a log. The log is lent from its own start on.
 pub(crate) fn append(stretch: &mut [u32], at: usize, offset: u32)
@@ -18,8 +20,8 @@ pub(crate) fn append(stretch: &mut [u32], at: usize, offset: u32)
 }
 
 // How many of the children fall in segment t.
-fn falling_in(size: u32, children: [u32; 12], turns: u32, t: u32) -> u32
-    requires { ⌜ (0 < size) × (turns ≤ 12) ⌝ }
+fn falling_in(size: u32, children: [u32; MOST_MOVES], turns: u32, t: u32) -> u32
+    requires { ⌜ (0 < size) × (turns ≤ mostMoves) ⌝ }
     ensures { λ r. ⌜ r ≡ fallingIn size t (take turns children) ⌝ }
 {
     let mut falling: u32 = 0;
@@ -34,7 +36,7 @@ fn falling_in(size: u32, children: [u32; 12], turns: u32, t: u32) -> u32
 }
 
 // Whether more children fall in segment t than its log has free places. Where it has a place for each child, none need be counted.
-fn lacks_room(scan: Scan, children: [u32; 12], free: u32, t: u32) -> bool
+fn lacks_room(scan: Scan, children: [u32; MOST_MOVES], free: u32, t: u32) -> bool
     requires { ⌜ ScanFits scan ⌝ }
     ensures { λ r. ⌜ r ≡ (not (eqb t (scan .j)) && ltb free (fallingIn (scan .size) t (take (scan .turns) children))) ⌝ }
 {
@@ -49,7 +51,11 @@ fn lacks_room(scan: Scan, children: [u32; 12], free: u32, t: u32) -> bool
 
 // The lowest segment that lacks room for the children, and the count of segments where none does. Only a segment in which a child falls
 // can lack room.
-pub(crate) fn full_segment(scan: Scan, children: [u32; 12], waiting: &[u32; 64]) -> u32
+pub(crate) fn full_segment(
+    scan: Scan,
+    children: [u32; MOST_MOVES],
+    waiting: &[u32; SEGMENT_LIMIT],
+) -> u32
     requires { ⌜ ScanFits scan × WaitingFits scan (now waiting) ⌝ }
     ensures { λ r. ⌜ r ≡ firstFrom (lacksRoom (scan .size) (scan .room) (scan .j) (now (waiting .entry)) (take (scan .turns) children)) 0 (scan .segments) ⌝ }
 {

@@ -4,14 +4,16 @@ use crate::children;
 use crate::logs;
 use crate::place;
 use crate::scan::Scan;
+use search::SEGMENT_LIMIT;
 use twobit::entry;
+use twobit::marking::Found;
 
-// How far a call came: the first stack not passed, whether it waits before it and for which segment, and the level's count.
+// How far a call came: the first stack not passed, whether it waits before it and for which segment, and what the level has found.
 pub(crate) struct Reached {
     pub at: u32,
     pub waits: bool,
     pub on: u32,
-    pub count: u64,
+    pub found: Found,
 }
 
 // From the first stack not passed to the last, or to the first whose children lack room.
@@ -19,19 +21,19 @@ pub(crate) fn expand_run(
     scan: Scan,
     first: u32,
     stacks: u32,
-    from_count: u64,
+    found: Found,
     segment: &mut [u8],
     log: &mut [u32],
-    waiting: &mut [u32; 64],
+    waiting: &mut [u32; SEGMENT_LIMIT],
 ) -> Reached
-    requires { ⌜ RunFits scan first stacks «from_count» (now segment) (now log) (now waiting) ⌝ }
+    requires { ⌜ RunFits scan first stacks found (now segment) (now log) (now waiting) ⌝ }
     ensures { λ r. ⌜ Runs scan first stacks
-        (running (now (segment .entry)) «from_count» (now (log .entry)) (now (waiting .entry)))
+        (running (now (segment .entry)) found (now (log .entry)) (now (waiting .entry)))
         (reachedWith r (now (segment .exit)) (now (log .exit)) (now (waiting .exit))) ⌝ }
 {
     let base = scan.j * scan.size;
     let segments = scan.segments;
-    let mut count = from_count;
+    let mut found = found;
     let mut at = first;
     while at < stacks {
         if entry::get_entry(segment, at) == scan.from {
@@ -42,10 +44,10 @@ pub(crate) fn expand_run(
                     at,
                     waits: true,
                     on: full,
-                    count,
+                    found,
                 };
             }
-            count = place::place_all(scan, children, count, segment, log, waiting);
+            found = place::place_all(scan, children, found, segment, log, waiting);
         }
         at += 1;
     }
@@ -53,6 +55,6 @@ pub(crate) fn expand_run(
         at,
         waits: false,
         on: 0,
-        count,
+        found,
     }
 }

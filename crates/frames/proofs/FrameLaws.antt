@@ -15,6 +15,7 @@ use borrow.Author.Tests.{le-leb, lt-leb, leb-true, eq-eqb, ne-eqb, eqb-true}
 use Rattle.base.specs.Words.{all}
 use Rattle.base.proofs.Lists.{map-append}
 use Rattle.base.proofs.Tests.{and-left, and-right}
+use Rattle.stacks.specs.Stack.{stackPlaces}
 use Rattle.stacks.proofs.CoatLaws.{pane-number}
 use Rattle.perm.proofs.Signed.{mag-abs, place-back}
 use Rattle.frames.specs.Frame.{frameLimit, frameBytes, isFrame, paneOf, placesOf}
@@ -33,22 +34,22 @@ pane-kept b z e = place-back z (omega (arith, mag-abs z, ap natAbs e, pane-numbe
 
 -- the places when p panes are placed
 unfoldable pub placedTo : List ℕ → ℕ → List ℤ
-placedTo bs p = map paneOf (take p bs) ++ replicate (12 - p) (pos 0)
+placedTo bs p = map paneOf (take p bs) ++ replicate (stackPlaces - p) (pos 0)
 
-pub placed-none : (bs : List ℕ) → replicate 12 (pos 0) ≡ placedTo bs 0
+pub placed-none : (bs : List ℕ) → replicate stackPlaces (pos 0) ≡ placedTo bs 0
 unfolding placedTo
 placed-none bs = refl
 
-pub placed-more : (bs : List ℕ) (p : ℕ) (places : List ℤ) (z : ℤ) → p < length bs → p < 12 → places ≡ placedTo bs p → z ≡ paneOf (getD bs p 0)
+pub placed-more : (bs : List ℕ) (p : ℕ) (places : List ℤ) (z : ℤ) → p < length bs → p < stackPlaces → places ≡ placedTo bs p → z ≡ paneOf (getD bs p 0)
     → set places p z ≡ placedTo bs (p + 1)
 unfolding placedTo
 placed-more bs p places z h l e q =
     let long : length (map paneOf (take p bs)) ≡ p = length-map (take p bs) paneOf ∙ length-take-le p bs (omega arith) in
-    let zeros : replicate (12 - p) (pos 0) ≡ pos 0 ∷ replicate (12 - suc p) (pos 0) =
-    ap (λ (k : ℕ). replicate k (pos 0)) (let k : 12 - p ≡ suc (12 - suc p) = omega arith in k) in
+    let zeros : replicate (stackPlaces - p) (pos 0) ≡ pos 0 ∷ replicate (stackPlaces - suc p) (pos 0) =
+    ap (λ (k : ℕ). replicate k (pos 0)) (let k : stackPlaces - p ≡ suc (stackPlaces - suc p) = omega arith in k) in
     rw (e, zeros, add-one p, take-suc bs p 0 h, map-append paneOf (take p bs) (getD bs p 0 ∷ []), ← q)
-    (set-at (map paneOf (take p bs)) (pos 0) (replicate (12 - suc p) (pos 0)) z p long
-    ∙ sym (append-snoc (map paneOf (take p bs)) z (replicate (12 - suc p) (pos 0))))
+    (set-at (map paneOf (take p bs)) (pos 0) (replicate (stackPlaces - suc p) (pos 0)) z p long
+    ∙ sym (append-snoc (map paneOf (take p bs)) z (replicate (stackPlaces - suc p) (pos 0))))
 
 pub placed-all : (bs : List ℕ) (p : ℕ) (places : List ℤ) → p ≡ length bs → places ≡ placedTo bs p → places ≡ placesOf bs
 unfolding placedTo placesOf

@@ -13,7 +13,7 @@ use borrow.Author.Tests.{le-leb, lt-leb, leb-true, eq-eqb, ne-eqb, eqb-true}
 use Rattle.base.specs.Words.{unless}
 use Rattle.base.proofs.Tests.{unless-zero}
 use Rattle.stacks.specs.Operations.{kindRefusal, stacked}
-use Rattle.stacks.specs.Stack.{isKind, isPaneCount, isStack, stackCount}
+use Rattle.stacks.specs.Stack.{stackPlaces, isKind, isPaneCount, isStack, stackCount}
 use Rattle.stacks.proofs.Panes.{stack-facts}
 use Rattle.stacks.proofs.KindLaws.{panes-twelve}
 use Rattle.search.specs.Segments.{isSegmentSize}
@@ -164,7 +164,7 @@ module _ (line : Line) (w : length (line .chars) ≡ frameLimit) (h : firstRefus
   panes-is = byte-is 1 (omega arith)
 
   module _ (n : ℕ) (e : n ≡ getD all-bytes 1 0) where
-    pub panes-fit : n ≤ 12
+    pub panes-fit : n ≤ stackPlaces
     panes-fit =
         rw (e, panes-is)
         (panes-twelve (kindIn (bytesOf (textOf line))) (panesIn (bytesOf (textOf line))) (first-passes (textOf line) h .in-range))
@@ -183,7 +183,7 @@ module _ (line : Line) (w : length (line .chars) ≡ frameLimit) (h : firstRefus
         ∙ ap₂ sizeIn (e ∙ panes-is) (sym (frame-bytes line w (first-passes (textOf line) h .frame)))
 
 module _ (q r : ℕ) (e : r ≡ q) (bs : List ℕ) where
-  pub no-first : (r ≡ 0 → ⊥) → _≡_ {A = First} (record { refusal = r; kind = 0; n = 0; wanted = replicate 12 (pos 0); size = 0 }) (firstWith q bs)
+  pub no-first : (r ≡ 0 → ⊥) → _≡_ {A = First} (record { refusal = r; kind = 0; n = 0; wanted = replicate stackPlaces (pos 0); size = 0 }) (firstWith q bs)
   no-first h = rw (← e, ne-eqb r 0 h)
 
   pub a-first : (k m : ℕ) (s : List ℤ) (z : ℕ) → r ≡ 0 → k ≡ kindIn bs → m ≡ panesIn bs → s ≡ wantedIn (panesIn bs) bs → z ≡ sizeIn (panesIn bs) bs
@@ -196,11 +196,11 @@ pub later-none : (kind n : ℕ) (cs : List ℕ) → isFrame cs ≡ false → 16 
 unfolding laterRefusal
 later-none kind n cs h = rw h
 
-places-length : (bs : List ℕ) → length (placesOf bs) ≡ length bs + (12 - length bs)
+places-length : (bs : List ℕ) → length (placesOf bs) ≡ length bs + (stackPlaces - length bs)
 unfolding placesOf
 places-length bs =
-    length-append (map paneOf bs) (replicate (12 - length bs) (pos 0))
-    ∙ ap₂ (λ (a b : ℕ). a + b) (length-map bs paneOf) (length-replicate (12 - length bs) (pos 0))
+    length-append (map paneOf bs) (replicate (stackPlaces - length bs) (pos 0))
+    ∙ ap₂ (λ (a b : ℕ). a + b) (length-map bs paneOf) (length-replicate (stackPlaces - length bs) (pos 0))
 
 module _ (kind n : ℕ) (line : Line) (w : length (line .chars) ≡ frameLimit) (f : isFrame (textOf line) ≡ true) where
   pub later-length-wrong : (line .length / 2 ≡ n → ⊥) → 16 ≡ laterRefusal kind n (textOf line)
@@ -208,12 +208,12 @@ module _ (kind n : ℕ) (line : Line) (w : length (line .chars) ≡ frameLimit) 
   later-length-wrong h = rw (f, bytes-length line w f, ne-eqb (line .length / 2) n h)
 
   module _ (e : line .length / 2 ≡ n) where
-    pub later-many : 12 < n → 3 ≡ laterRefusal kind n (textOf line)
+    pub later-many : stackPlaces < n → 3 ≡ laterRefusal kind n (textOf line)
     unfolding laterRefusal isStack
     later-many h =
         let bs = bytesOf (textOf line) in
         let long = bytes-length line w f in
-        rw (f, long, eq-eqb (line .length / 2) n e, ne-eqb (length (placesOf bs)) 12 (omega (arith, places-length bs)))
+        rw (f, long, eq-eqb (line .length / 2) n e, ne-eqb (length (placesOf bs)) stackPlaces (omega (arith, places-length bs)))
 
     -- the bytes of all the panes
     pub later-bytes : take n (drop 0 (bytesOf (line .chars))) ≡ bytesOf (textOf line)
@@ -226,7 +226,7 @@ module _ (kind n : ℕ) (line : Line) (w : length (line .chars) ≡ frameLimit) 
         rw (f, bytes-length line w f, eq-eqb (line .length / 2) n e, p, ap placesOf later-bytes)
 
 -- what an accepted later frame has
-pub later-passes : (kind n : ℕ) (cs : List ℕ) → laterRefusal kind n cs ≡ 0 → (isFrame cs ≡ true) × (length (bytesOf cs) ≡ n) × (n ≤ 12)
+pub later-passes : (kind n : ℕ) (cs : List ℕ) → laterRefusal kind n cs ≡ 0 → (isFrame cs ≡ true) × (length (bytesOf cs) ≡ n) × (n ≤ stackPlaces)
 unfolding laterRefusal
 later-passes kind n cs h =
     let bs = bytesOf cs in

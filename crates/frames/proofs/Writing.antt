@@ -8,6 +8,7 @@ use native.Mathlib.Omega.{arith}
 use native.Mathlib.Nat.{add-zero, zero-add}
 use lib.ListN.{length, getD, set, take, drop, length-append, length-take, take-append-drop}
 use lib.Seq.{take-suc, take-all, take-length, drop-cons, length-take-le, drop-drop, take-append-seam, drop-append-add, set-append-seam, append-snoc}
+use Rattle.search.specs.JobState.{countPlaces}
 use Rattle.frames.specs.Hex.{digitChar, hexOf, lineOf, fourBytes}
 use Rattle.frames.specs.Output.{levelLine, levelsFrom, levelLines}
 use Rattle.frames.specs.Written.{over, Put, Wrote}
@@ -165,7 +166,7 @@ levels-all counts deepest level l (inl h) =
 levels-all counts deepest level l (inr h) =
     ap (levelsFrom 0) (take-all level counts h ∙ sym (take-all (suc deepest) counts (omega arith)))
 
--- 32 levels of eleven characters
-pub levels-most : (counts : List ℕ) (deepest : ℕ) → length counts ≡ 32 → length (levelLines deepest counts) ≤ 352
+-- all levels that there are counts of
+pub levels-most : (counts : List ℕ) (deepest : ℕ) → length counts ≡ countPlaces → length (levelLines deepest counts) ≤ 11 * countPlaces
 unfolding levelLines
 levels-most counts deepest w = omega (arith, levels-length 0 (take (suc deepest) counts), length-take (suc deepest) counts)

@@ -1,9 +1,9 @@
 -- Frames (document 01, "The report"): what a line of characters asks for, and its refusals in document 01's order.
 --   isFrame cs          at most 64 characters, pairs of digits
 --   paneOf b            the pane that a byte says: its number, with 80 hexadecimal added for coat down; 80 itself is no pane
---   placesOf bs         the twelve places of the panes from the top
+--   placesOf bs         the places of the panes from the top
 --   firstOf cs          the first frame: its refusal, or its kind, n, wanted stack and S; zeros stand beside a refusal
---   laterOf kind n cs   a later frame: its refusal, or the stack to plan; twelve zeros stand beside a refusal
+--   laterOf kind n cs   a later frame: its refusal, or the stack to plan; zeros stand beside a refusal
 -- There is no first frame where there is no line: that is the refusal of an empty one.
 use mathlib.Core.Bool.{Bool, _&&_, cond}
 use mathlib.Core.List.{List, _++_, map}
@@ -14,7 +14,7 @@ use lib.ListN.{length, getD, take, drop, replicate}
 use Rattle.base.specs.Words.{unless}
 use Rattle.stacks.specs.Index.{paneWith}
 use Rattle.stacks.specs.Operations.{kindRefusal, stacked}
-use Rattle.stacks.specs.Stack.{isStack, stackCount}
+use Rattle.stacks.specs.Stack.{stackPlaces, isStack, stackCount}
 use Rattle.stacks.specs.declared.Stacked.{Stacked}
 use Rattle.search.specs.Segments.{isSegmentSize}
 use Rattle.frames.specs.Hex.{isPairs, bytesOf, numberOf}
@@ -43,7 +43,7 @@ unfoldable pub paneOf : ℕ → ℤ
 paneOf b = paneWith (b % 128) (b / 128)
 
 unfoldable pub placesOf : List ℕ → List ℤ
-placesOf bs = map paneOf bs ++ replicate (12 - length bs) (pos 0)
+placesOf bs = map paneOf bs ++ replicate (stackPlaces - length bs) (pos 0)
 
 -- the fields of the first frame's bytes: kind, n, n panes, S
 unfoldable pub kindIn : List ℕ → ℕ
@@ -79,7 +79,7 @@ firstWith r bs =
       refusal = r;
       kind = cond (eqb r 0) (kindIn bs) 0;
       n = cond (eqb r 0) (panesIn bs) 0;
-      wanted = cond (eqb r 0) (wantedIn (panesIn bs) bs) (replicate 12 (pos 0));
+      wanted = cond (eqb r 0) (wantedIn (panesIn bs) bs) (replicate stackPlaces (pos 0));
       size = cond (eqb r 0) (sizeIn (panesIn bs) bs) 0;
     }
 

@@ -3,7 +3,7 @@ ghost use mathlib.Core.Bool.{true};
 ghost use mathlib.Core.Path.{_≡_};
 ghost use Prim.Native.Nat.{_+_, _≤_};
 ghost use lib.ListN.{take, drop};
-ghost use Rattle.stacks.specs.Stack.{isPaneCount};
+ghost use Rattle.stacks.specs.Stack.{stackPlaces, isPaneCount};
 ghost use Rattle.frames.specs.Frame.{frameBytes, isFrame, paneOf, placesOf, fieldsRefusal, firstRefusal, firstOf, laterRefusal, laterOf};
 ghost use Rattle.frames.specs.Hex.{bytesOf};
 ghost use Rattle.frames.specs.Kept.{textOf};
@@ -16,6 +16,7 @@ use crate::hex;
 use perm::kind;
 use perm::operations;
 use perm::valid;
+use stacks::PLACES;
 use stacks::Stacked;
 use twobit::segment;
 
@@ -42,13 +43,13 @@ pub(crate) fn pane_of(byte: u8) -> i8
     if byte < 128 { up } else { -up }
 }
 
-// The twelve places of the n panes that the bytes from byte i on say.
-pub(crate) fn places_at(chars: [u8; FRAME_LIMIT], i: usize, n: u8) -> [i8; 12]
-    requires { ⌜ (n ≤ 12) × (i + n ≤ frameBytes) ⌝ }
+// The places of the n panes that the bytes from byte i on say.
+pub(crate) fn places_at(chars: [u8; FRAME_LIMIT], i: usize, n: u8) -> [i8; PLACES]
+    requires { ⌜ (n ≤ stackPlaces) × (i + n ≤ frameBytes) ⌝ }
     ensures { λ r. ⌜ r ≡ placesOf (take n (drop i (bytesOf chars))) ⌝ }
 {
     let top = n as usize;
-    let mut places = [0i8; 12];
+    let mut places = [0i8; PLACES];
     let mut p: usize = 0;
     while p < top {
         places[p] = pane_of(hex::byte_at(chars, i + p));
@@ -108,7 +109,7 @@ pub fn first_frame(line: Line) -> First
 {
     let refusal = first_refusal(line);
     if refusal != 0 {
-        let none = [0i8; 12];
+        let none = [0i8; PLACES];
         return First {
             refusal,
             kind: 0,
@@ -131,7 +132,7 @@ pub fn first_frame(line: Line) -> First
     }
 }
 
-// A later frame's refusal, 0 for none. With more than twelve panes there is no stack.
+// A later frame's refusal, 0 for none. With more panes than places there is no stack.
 pub(crate) fn later_refusal(kind: u8, n: u8, line: Line) -> u8
     ensures { λ r. ⌜ r ≡ laterRefusal kind n (textOf line) ⌝ }
 {
@@ -143,7 +144,7 @@ pub(crate) fn later_refusal(kind: u8, n: u8, line: Line) -> u8
     if count != panes {
         return 16;
     }
-    if n > 12 {
+    if n as usize > PLACES {
         return 3;
     }
     let chars = line.chars;
@@ -160,7 +161,7 @@ pub fn later_frame(kind: u8, n: u8, line: Line) -> Stacked
 {
     let refusal = later_refusal(kind, n, line);
     if refusal != 0 {
-        let none = [0i8; 12];
+        let none = [0i8; PLACES];
         return Stacked {
             refusal,
             stack: none,

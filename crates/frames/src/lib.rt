@@ -4,6 +4,8 @@ mod hex;
 pub mod lines;
 pub mod output;
 
+use stacks::PLACES;
+
 // The characters of a frame.
 pub(crate) const FRAME_LIMIT: usize = 64;
 
@@ -19,7 +21,7 @@ pub const REPORT_ROOM: u32 = 16;
 // The bytes of the table of the most stacks.
 pub const TABLE_LIMIT: usize = 11520;
 
-// The room that a lent text has: 32 levels of 11 characters, ff and the deepest take 357.
+// The room that a lent text has: 11 characters for each place of the counts, ff and the deepest take 357.
 pub const TEXT_LIMIT: usize = 512;
 
 // A line in the making: its first FRAME_LIMIT characters, and its length, which stops at OVERLONG.
@@ -33,6 +35,6 @@ pub struct First {
     pub refusal: u8,
     pub kind: u8,
     pub n: u8,
-    pub wanted: [i8; 12],
+    pub wanted: [i8; PLACES],
     pub size: u32,
 }

@@ -8,6 +8,8 @@ ghost use Prim.Native.Nat.{_+_, _*_, _<_, min};
 ghost use lib.ListN.{length, take};
 use crate::TEXT_LIMIT;
 use crate::hex;
+use search::COUNT_PLACES;
+use search::PLAN_LIMIT;
 
 // The digits of a line's bytes and its end, from place at on. The answer is the place after them.
 pub(crate) fn put_line(out: &mut [u8], at: usize, bytes: &[u8]) -> usize
@@ -35,13 +37,18 @@ pub(crate) fn put_level(out: &mut [u8], at: usize, level: u8, count: u64) -> usi
 }
 
 // Levels 0 to the deepest, each with its count. The answer is how long they are.
-pub(crate) fn write_levels(out: &mut [u8; TEXT_LIMIT], counts: [u64; 32], deepest: u8) -> usize
+pub(crate) fn write_levels(
+    out: &mut [u8; TEXT_LIMIT],
+    counts: [u64; COUNT_PLACES],
+    deepest: u8,
+) -> usize
     ensures { λ r. ⌜ Wrote (levelLines deepest counts) (now (out .entry)) (now (out .exit)) r ⌝ }
 {
+    let last = deepest as usize;
     let mut at: usize = 0;
-    let mut level: u8 = 0;
-    while level <= deepest && level < 32 {
-        at = put_level(out, at, level, counts[level as usize]);
+    let mut level: usize = 0;
+    while level <= last && level < COUNT_PLACES {
+        at = put_level(out, at, level as u8, counts[level]);
         level += 1;
     }
     at
@@ -56,7 +63,7 @@ pub(crate) fn write_line(out: &mut [u8], bytes: &[u8]) -> usize
 }
 
 // The levels, and after them ff and the deepest: what a finished build found. The answer is how long it is.
-pub fn write_head(out: &mut [u8; TEXT_LIMIT], counts: [u64; 32], deepest: u8) -> usize
+pub fn write_head(out: &mut [u8; TEXT_LIMIT], counts: [u64; COUNT_PLACES], deepest: u8) -> usize
     ensures { λ r. ⌜ Wrote (levelLines deepest counts ++ deepestLine deepest) (now (out .entry)) (now (out .exit)) r ⌝ }
 {
     let at = write_levels(out, counts, deepest);
@@ -89,10 +96,10 @@ pub(crate) fn least(wanted: usize, length: usize) -> usize
     if wanted < length { wanted } else { length }
 }
 
-// A plan: the first count of the turns, all 30 where count is more.
-pub fn write_plan(out: &mut [u8; TEXT_LIMIT], turns: [u8; 30], count: u32) -> usize
+// A plan: the first count of the turns, all that there are where count is more.
+pub fn write_plan(out: &mut [u8; TEXT_LIMIT], turns: [u8; PLAN_LIMIT], count: u32) -> usize
     ensures { λ r. ⌜ Wrote (planLine (take count turns)) (now (out .entry)) (now (out .exit)) r ⌝ }
 {
-    let most = least(count as usize, 30);
+    let most = least(count as usize, PLAN_LIMIT);
     write_turns(out, &turns[..most])
 }

@@ -2,10 +2,11 @@
 use mathlib.Core.Path.{_≡_, refl, sym, ap, subst}
 use mathlib.Core.Logic.{_⊎_, inl, inr}
 use mathlib.Core.Bool.{Bool, true, false, _||_, false≢true}
-use mathlib.Core.List.{List, _∷_}
+use mathlib.Core.List.{List, [], _∷_}
 use Prim.Native.Nat.{ℕ, zero, suc, _+_, _<_, _≤_}
 use native.Mathlib.Omega.{arith}
 use lib.Dec.{eqb}
+use lib.ListN.{length, getD}
 use borrow.Author.Tests.{eqb-true, eq-eqb}
 use Rattle.base.specs.Words.{from}
 use Rattle.base.proofs.Tests.{eq-or-ne}
@@ -31,6 +32,22 @@ isMove-rest m ms k h = go (eqb k m)
     go : (t : Bool) → (t || isMove ms k) ≡ true
     go true = refl
     go false = h
+
+-- a move stands at some place of the list, and what stands there is a move
+pub move-listed : (ms : List ℕ) (k : ℕ) → isMove ms k ≡ true → (i : ℕ) × (i < length ms) × (getD ms i 0 ≡ k)
+unfolding isMove
+move-listed [] k h = absurd (false≢true h)
+move-listed (m ∷ ms) k h = go (λ i. move-listed ms k i) (isMove-cases m ms k h)
+  where
+    go : (isMove ms k ≡ true → (i : ℕ) × (i < length ms) × (getD ms i 0 ≡ k)) → (k ≡ m) ⊎ (isMove ms k ≡ true)
+        → (i : ℕ) × (i < suc (length ms)) × (getD (m ∷ ms) i 0 ≡ k)
+    go rest (inl e) = (0, omega arith, sym e)
+    go rest (inr i) = let r = rest i in (suc (r .0), omega (arith, r .1), r .2)
+
+pub listed-move : (ms : List ℕ) (i : ℕ) → i < length ms → isMove ms (getD ms i 0) ≡ true
+listed-move [] i h = absurd (omega arith)
+listed-move (m ∷ ms) zero h = isMove-first m ms
+listed-move (m ∷ ms) (suc i) h = isMove-rest m ms (getD ms i 0) (listed-move ms i (omega arith))
 
 -- the moves a, a + 1, .., n of them
 pub isMove-from : (a n k : ℕ) → isMove (from a n) k ≡ true → (a ≤ k) × (k < a + n)

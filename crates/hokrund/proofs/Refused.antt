@@ -77,4 +77,4 @@ module _ (kind n : ℕ) (wanted : HokrundStack) where
       → planCall kind n wanted given table list .0 ≡ list
   unfolding planCall plannedOf planOf
   plan-keeps given table list =
-      kept (λ (o : List ℕ × Planned). o .1 .refusal) (λ (o : List ℕ × Planned). o .0 ≡ list) (eqb (planRefusal kind n (wanted .places) (given .places) table (length list)) 0) _ _ refl (λ accepted h. absurd (h refl))
+      kept (λ (o : List ℕ × Planned). o .1 .refusal) (λ (o : List ℕ × Planned). o .0 ≡ list) (eqb (planRefusal kind n (wanted .places) (given .places) table (length list) 0) 0) _ _ refl (λ accepted h. absurd (h refl))

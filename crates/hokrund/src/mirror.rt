@@ -3,12 +3,15 @@ ghost use mathlib.Core.Path.{_≡_};
 ghost use Rattle.hokrund.specs.Mirror.{phaseNumber, phaseOf, hasPhase, jobOf, mirrorOf, answerOf};
 use job::phase;
 use search::Answer;
+use search::COUNT_PLACES;
 use search::Job;
 use search::Phase;
+use search::SEGMENT_LIMIT;
+use stacks::PLACES;
 
 #[repr(C)]
 pub struct HokrundStack {
-    pub places: [i8; 12],
+    pub places: [i8; PLACES],
 }
 
 // search's Job, its phase as two numbers: 0 Blanking with level 0, 1 Level, 2 Finished.
@@ -21,9 +24,9 @@ pub struct HokrundJob {
     pub wanted: HokrundStack,
     pub size: u32,
     pub room: u32,
-    pub passed: [u32; 64],
-    pub waiting: [u32; 64],
-    pub counts: [u64; 32],
+    pub passed: [u32; SEGMENT_LIMIT],
+    pub waiting: [u32; SEGMENT_LIMIT],
+    pub counts: [u64; COUNT_PLACES],
 }
 
 #[repr(C)]

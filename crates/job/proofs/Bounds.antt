@@ -7,9 +7,9 @@ use native.Mathlib.Omega.{arith}
 use borrow.Author.Tests.{lt-ltb, ltb-true, leb-true}
 use lib.Dec.{leb}
 use Rattle.base.proofs.Tests.{and-left, and-right, never}
-use Rattle.stacks.specs.Stack.{isPaneCount, isStack}
+use Rattle.stacks.specs.Stack.{isPaneCount, isStack, stackCount}
 use Rattle.search.specs.JobState.{lastLevel, beginRefusal, isLevel, levelOf, phaseFits, stackCountOf, segmentCountOf, logLength, waitingOf, isCoherent}
-use Rattle.search.specs.Segments.{segmentLimit}
+use Rattle.search.specs.Segments.{segmentLimit, mostSize, mostRoom, isSegmentSize, isLogRoom}
 use Rattle.search.specs.declared.Job.{Job}
 use Rattle.search.specs.declared.Phase.{Phase}
 use Rattle.search.specs.declared.Phase.the-variants.{Blanking, Level, Finished}
@@ -18,11 +18,13 @@ use Rattle.search.proofs.SegmentLaws.{segment-size-facts, log-room-facts}
 
 pub record Bounds (job : Job) : Type 0 where
   pub is-pane-count : isPaneCount (job .kind) (job .n) ≡ true
+  pub is-size : isSegmentSize (stackCount (job .kind) (job .n)) (job .size) ≡ true
+  pub is-room : isLogRoom (job .room) ≡ true
   pub is-stack : isStack (job .kind) (job .n) (job .wanted) ≡ true
   pub some : 0 < job .size
-  pub small : job .size ≤ 67108864
-  pub few : segmentCountOf job ≤ 64
-  pub narrow : job .room ≤ 1048576
+  pub small : job .size ≤ mostSize
+  pub few : segmentCountOf job ≤ segmentLimit
+  pub narrow : job .room ≤ mostRoom
 
 module _ (job : Job) where
   pub begun-bounds : beginRefusal (job .kind) (job .n) (job .wanted) (job .size) (job .room) ≡ 0 → Bounds job
@@ -32,6 +34,8 @@ module _ (job : Job) where
       let s = segment-size-facts (stackCountOf job) (job .size) (g .segments) in
       record {
         is-pane-count = g .in-range;
+        is-size = g .segments;
+        is-room = g .room;
         is-stack = g .stack;
         some = omega (arith, s .least);
         small = s .most;
@@ -42,22 +46,27 @@ module _ (job : Job) where
   pub coherent-bounds : isCoherent job ≡ true → Bounds job
   coherent-bounds h = begun-bounds (coherent-facts job h .begins)
 
+  -- what the geometry asks for
+  pub coherent-sizes : isCoherent job ≡ true
+      → (isPaneCount (job .kind) (job .n) ≡ true) × (isSegmentSize (stackCount (job .kind) (job .n)) (job .size) ≡ true)
+  coherent-sizes h = let b = coherent-bounds h in (b .is-pane-count, b .is-size)
+
 -- ---- the level
 
-level-le : (p : Phase) → phaseFits p ≡ true → levelOf p ≤ 31
-unfolding phaseFits levelOf lastLevel
+level-le : (p : Phase) → phaseFits p ≡ true → levelOf p ≤ lastLevel
+unfolding phaseFits levelOf
 level-le Blanking h = omega arith
-level-le (Level d) h = leb-true d 31 (and-right (leb 1 d) (leb d 31) h)
-level-le (Finished d) h = omega (arith, ltb-true d 31 h)
+level-le (Level d) h = leb-true d lastLevel (and-right (leb 1 d) (leb d lastLevel) h)
+level-le (Finished d) h = omega (arith, ltb-true d lastLevel h)
 
 level-pos : (p : Phase) → phaseFits p ≡ true → isLevel p ≡ true → 1 ≤ levelOf p
-unfolding phaseFits levelOf isLevel lastLevel
+unfolding phaseFits levelOf isLevel
 level-pos Blanking h k = never k refl
-level-pos (Level d) h k = leb-true 1 d (and-left (leb 1 d) (leb d 31) h)
+level-pos (Level d) h k = leb-true 1 d (and-left (leb 1 d) (leb d lastLevel) h)
 level-pos (Finished d) h k = never k refl
 
 module _ (job : Job) (coherent : isCoherent job ≡ true) where
-  pub level-most : levelOf (job .phase) ≤ 31
+  pub level-most : levelOf (job .phase) ≤ lastLevel
   level-most = level-le (job .phase) (coherent-facts job coherent .phase-fits)
 
   pub level-least : isLevel (job .phase) ≡ true → 1 ≤ levelOf (job .phase)
@@ -65,18 +74,17 @@ module _ (job : Job) (coherent : isCoherent job ≡ true) where
 
   -- ---- the log area, of at most 64 logs of 2^20 places
 
-  pub area-small : logLength job ≤ 67108864
+  pub area-small : logLength job ≤ segmentLimit * mostRoom
   unfolding logLength
   area-small =
       let b = coherent-bounds job coherent in
       omega (arith, mul-le-mul (b .few) (b .narrow))
 
   module _ (j : ℕ) (inside : j < segmentCountOf job) where
-    pub segment-below : j < 64
+    pub segment-below : j < segmentLimit
     segment-below = omega (arith, coherent-bounds job coherent .few)
 
     pub waiting-le : waitingOf job j ≤ job .room
-    unfolding segmentLimit
     waiting-le =
         subst (λ (t : Bool). waitingOf job j ≤ cond t (job .room) 0) (lt-ltb j (segmentCountOf job) inside)
         (coherent-facts job coherent .waiting-fits j segment-below)

@@ -3,11 +3,14 @@ ghost use mathlib.Core.Path.{_≡_};
 ghost use Rattle.search.specs.Begin.{begun, beginOf};
 use crate::coherence;
 use search::Answer;
+use search::COUNT_PLACES;
 use search::Job;
 use search::Phase;
+use search::SEGMENT_LIMIT;
+use stacks::PLACES;
 
 // A job in Blanking with nothing passed, waiting or counted.
-fn new_job(kind: u8, n: u8, wanted: [i8; 12], size: u32, room: u32) -> Job
+fn new_job(kind: u8, n: u8, wanted: [i8; PLACES], size: u32, room: u32) -> Job
     ensures { λ r. ⌜ r ≡ begun kind n wanted size room ⌝ }
 {
     Job {
@@ -17,19 +20,19 @@ fn new_job(kind: u8, n: u8, wanted: [i8; 12], size: u32, room: u32) -> Job
         size,
         room,
         phase: Phase::Blanking,
-        passed: [0u32; 64],
-        waiting: [0u32; 64],
-        counts: [0u64; 32],
+        passed: [0u32; SEGMENT_LIMIT],
+        waiting: [0u32; SEGMENT_LIMIT],
+        counts: [0u64; COUNT_PLACES],
     }
 }
 
 // Begin.
-pub fn begin(kind: u8, n: u8, wanted: [i8; 12], size: u32, room: u32) -> Answer
+pub fn begin(kind: u8, n: u8, wanted: [i8; PLACES], size: u32, room: u32) -> Answer
     ensures { λ r. ⌜ r ≡ beginOf kind n wanted size room ⌝ }
 {
     let refusal = coherence::begin_refusal(kind, n, wanted, size, room);
     if refusal != 0 {
-        let none = new_job(0, 0, [0i8; 12], 0, 0);
+        let none = new_job(0, 0, [0i8; PLACES], 0, 0);
         return Answer { refusal, job: none };
     }
     let job = new_job(kind, n, wanted, size, room);

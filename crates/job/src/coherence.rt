@@ -1,19 +1,24 @@
-// Whether a job is coherent, decided by Begin's own refusals and by its numbers; and the geometry of a job that is.
+// Whether a job is coherent, decided by Begin's own refusals and by its numbers.
 ghost use mathlib.Core.Bool.{true, _&&_, cond};
 ghost use mathlib.Core.Path.{_≡_};
-ghost use Prim.Native.Nat.{_≤_};
 ghost use lib.Dec.{leb, ltb};
 ghost use Rattle.base.specs.Words.{all, from};
-ghost use Rattle.search.specs.JobState.{beginRefusal, segmentFits, countFits, isCoherent, segmentCountOf, stackCountAt, logLength};
-ghost use Rattle.search.specs.Segments.{segmentLimit, stackCountIn};
+ghost use Rattle.stacks.specs.Stack.{isPaneCount, stackCount};
+ghost use Rattle.search.specs.JobState.{beginRefusal, countFits, isCoherent};
+ghost use Rattle.search.specs.Segments.{segmentLimit, stackCountIn, isSegmentSize};
+ghost use Rattle.job.specs.Numbers.{numbersFit};
 use crate::phase;
 use perm::kind;
 use perm::operations;
+use search::COUNT_LIMIT;
+use search::COUNT_PLACES;
 use search::Job;
+use search::SEGMENT_LIMIT;
+use stacks::PLACES;
 use twobit::segment;
 
 // Begin's refusals, which a job's first five fields must pass too.
-pub fn begin_refusal(kind: u8, n: u8, wanted: [i8; 12], size: u32, room: u32) -> u8
+pub fn begin_refusal(kind: u8, n: u8, wanted: [i8; PLACES], size: u32, room: u32) -> u8
     ensures { λ r. ⌜ r ≡ beginRefusal kind n wanted size room ⌝ }
 {
     let refusal = operations::index_refusal(kind, n, wanted);
@@ -31,27 +36,22 @@ pub fn begin_refusal(kind: u8, n: u8, wanted: [i8; 12], size: u32, room: u32) ->
 }
 
 // The numbers of every segment, of those from G up too.
-fn segments_fit(job: Job) -> bool
-    requires { ⌜ beginRefusal (job .kind) (job .n) (job .wanted) (job .size) (job .room) ≡ 0 ⌝ }
-    ensures { λ r. ⌜ r ≡ all (segmentFits job) (from 0 segmentLimit) ⌝ }
+fn segments_fit(
+    kind: u8,
+    n: u8,
+    size: u32,
+    room: u32,
+    passed: [u32; SEGMENT_LIMIT],
+    waiting: [u32; SEGMENT_LIMIT],
+) -> bool
+    requires { ⌜ (isPaneCount kind n ≡ true) × (isSegmentSize (stackCount kind n) size ≡ true) ⌝ }
+    ensures { λ r. ⌜ r ≡ all (numbersFit (stackCount kind n) size room passed waiting) (from 0 segmentLimit) ⌝ }
 {
-    let size = job.size;
-    let room = job.room;
-    let count = kind::stack_count(job.kind, job.n);
+    let count = kind::stack_count(kind, n);
     let segments = segment::segment_count(count, size);
-    let passed = job.passed;
-    let waiting = job.waiting;
-    let mut j: u32 = 0;
-    while j < 64 {
-        if !segment_fits(
-            count,
-            size,
-            room,
-            segments,
-            j,
-            passed[j as usize],
-            waiting[j as usize],
-        ) {
+    let mut j: usize = 0;
+    while j < SEGMENT_LIMIT {
+        if !segment_fits(count, size, room, segments, j as u32, passed[j], waiting[j]) {
             return false;
         }
         j += 1;
@@ -80,12 +80,12 @@ fn segment_fits(
     }
 }
 
-fn counts_fit(counts: [u64; 32]) -> bool
+fn counts_fit(counts: [u64; COUNT_PLACES]) -> bool
     ensures { λ r. ⌜ r ≡ all countFits counts ⌝ }
 {
     let mut d: usize = 0;
-    while d < 32 {
-        if 1152921504606846976 < counts[d] {
+    while d < COUNT_PLACES {
+        if COUNT_LIMIT < counts[d] {
             return false;
         }
         d += 1;
@@ -104,35 +104,11 @@ pub fn is_coherent(job: Job) -> bool
     if !phase::phase_fits(phase) {
         return false;
     }
-    if !segments_fit(job) {
+    let passed = job.passed;
+    let waiting = job.waiting;
+    if !segments_fit(job.kind, job.n, job.size, job.room, passed, waiting) {
         return false;
     }
     let counts = job.counts;
     counts_fit(counts)
-}
-
-// G of a coherent job.
-pub fn segment_count_of(job: Job) -> u32
-    requires { ⌜ isCoherent job ≡ true ⌝ }
-    ensures { λ r. ⌜ (r ≡ segmentCountOf job) × (r ≤ 64) ⌝ }
-{
-    let count = kind::stack_count(job.kind, job.n);
-    segment::segment_count(count, job.size)
-}
-
-// m of segment j of a coherent job.
-pub fn stack_count_at(job: Job, j: u32) -> u32
-    requires { ⌜ isCoherent job ≡ true ⌝ }
-    ensures { λ r. ⌜ r ≡ stackCountAt job j ⌝ }
-{
-    let count = kind::stack_count(job.kind, job.n);
-    segment::stack_count_in(count, job.size, j)
-}
-
-// How many numbers the log area of a coherent job has.
-pub fn log_length(job: Job) -> usize
-    requires { ⌜ isCoherent job ≡ true ⌝ }
-    ensures { λ r. ⌜ r ≡ logLength job ⌝ }
-{
-    (segment_count_of(job) as usize) * (job.room as usize)
 }

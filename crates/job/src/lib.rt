@@ -1,5 +1,6 @@
-// Code: the phases of a job, whether it is coherent, Begin, and the refusals that the calls of a level share.
+// Code: the phases of a job, whether it is coherent, its geometry, Begin, and the refusals that the calls on a segment share.
 pub mod begin;
 pub mod coherence;
-pub mod level;
+pub mod geometry;
 pub mod phase;
+pub mod refusals;

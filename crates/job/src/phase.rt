@@ -3,6 +3,7 @@ ghost use mathlib.Core.Bool.{_&&_};
 ghost use mathlib.Core.Path.{_≡_};
 ghost use lib.Dec.{leb};
 ghost use Rattle.search.specs.JobState.{isBlanking, isLevel, isFinished, levelOf, phaseFits, lastLevel};
+use search::LAST_LEVEL;
 use search::Phase;
 
 pub fn is_blanking(phase: Phase) -> bool
@@ -52,7 +53,7 @@ pub(crate) fn phase_fits(phase: Phase) -> bool
     match phase {
         Phase::Blanking => true,
         Phase::Level(d) => level_fits(d),
-        Phase::Finished(d) => d < 31,
+        Phase::Finished(d) => d < LAST_LEVEL,
     }
 }
 
@@ -62,5 +63,5 @@ fn level_fits(d: u8) -> bool
     if d < 1 {
         return false;
     }
-    d <= 31
+    d <= LAST_LEVEL
 }

@@ -1,15 +1,21 @@
-// What depends on the kind and n alone: their ranges, the turns, and how many stacks there are.
+// What depends on the kind and n alone: their ranges, the turns, and how many stacks there are. No other file asks what a kind has of them.
 ghost use mathlib.Core.Bool.{true};
 ghost use mathlib.Core.Path.{_≡_};
 ghost use Prim.Native.Nat.{_≤_};
 ghost use Rattle.base.specs.Words.{fact};
-ghost use Rattle.stacks.specs.Stack.{isKind, mostPanes, isPaneCount, coatings, stackCount};
-ghost use Rattle.stacks.specs.Turn.{firstTurn, isTurn};
+ghost use Rattle.stacks.specs.Stack.{stackPlaces, isKind, fewestPanes, mostPanes, isPaneCount, coatings, stackCount};
+ghost use Rattle.stacks.specs.Turn.{firstTurn, lastTurn, isTurn};
 
 pub(crate) fn is_kind(kind: u8) -> bool
     ensures { λ r. ⌜ r ≡ isKind kind ⌝ }
 {
     kind < 2
+}
+
+fn fewest_panes(kind: u8) -> u8
+    ensures { λ r. ⌜ r ≡ fewestPanes kind ⌝ }
+{
+    1
 }
 
 fn most_panes(kind: u8) -> u8
@@ -21,7 +27,8 @@ fn most_panes(kind: u8) -> u8
 pub fn is_pane_count(kind: u8, n: u8) -> bool
     ensures { λ r. ⌜ r ≡ isPaneCount kind n ⌝ }
 {
-    if n < 1 {
+    let fewest = fewest_panes(kind);
+    if n < fewest {
         return false;
     }
     let most = most_panes(kind);
@@ -34,6 +41,12 @@ pub fn first_turn(kind: u8) -> u8
     if kind == 1 { 1 } else { 2 }
 }
 
+pub fn last_turn(kind: u8, n: u8) -> u8
+    ensures { λ r. ⌜ r ≡ lastTurn kind n ⌝ }
+{
+    n
+}
+
 pub(crate) fn is_turn(kind: u8, n: u8, k: u8) -> bool
     ensures { λ r. ⌜ r ≡ isTurn kind n k ⌝ }
 {
@@ -41,12 +54,13 @@ pub(crate) fn is_turn(kind: u8, n: u8, k: u8) -> bool
     if k < first {
         return false;
     }
-    k <= n
+    let last = last_turn(kind, n);
+    k <= last
 }
 
 // A match, since a constant table would be laid out anew at each call.
 pub(crate) fn factorial(n: u32) -> u32
-    requires { ⌜ n ≤ 12 ⌝ }
+    requires { ⌜ n ≤ stackPlaces ⌝ }
     ensures { λ r. ⌜ r ≡ fact n ⌝ }
 {
     match n {
@@ -68,7 +82,7 @@ pub(crate) fn factorial(n: u32) -> u32
 
 // In how many ways the coats of n panes can lie.
 pub(crate) fn coatings_of(kind: u8, n: u8) -> u32
-    requires { ⌜ n ≤ 12 ⌝ }
+    requires { ⌜ n ≤ stackPlaces ⌝ }
     ensures { λ r. ⌜ r ≡ coatings kind n ⌝ }
 {
     let panes = n as u32;

@@ -9,6 +9,7 @@ ghost use Rattle.stacks.specs.Turn.{turnOf};
 use crate::kind;
 use crate::place;
 use crate::set;
+use stacks::PLACES;
 
 // What ranking has met: the panes as a set, and the order and the coats as far as they are met.
 pub struct Ranking {
@@ -32,7 +33,7 @@ fn rank_place(above: Ranking, left: u32, x: i8) -> Ranking
 }
 
 // The index of a stack.
-pub fn rank(kind: u8, n: u8, stack: [i8; 12]) -> u32
+pub fn rank(kind: u8, n: u8, stack: [i8; PLACES]) -> u32
     requires { ⌜ (isPaneCount kind n ≡ true) × (isStack kind n stack ≡ true) ⌝ }
     ensures { λ r. ⌜ r ≡ rankOf kind n stack ⌝ }
 {
@@ -51,7 +52,7 @@ pub fn rank(kind: u8, n: u8, stack: [i8; 12]) -> u32
 }
 
 // The index of a stack after turn k. Only the group is ranked: the places below it keep their digits and coats, which `index` has.
-pub fn rank_turned(kind: u8, n: u8, stack: [i8; 12], index: u32, k: u8) -> u32
+pub fn rank_turned(kind: u8, n: u8, stack: [i8; PLACES], index: u32, k: u8) -> u32
     requires { ⌜ (isPaneCount kind n ≡ true) × (isStack kind n stack ≡ true) × (index ≡ rankOf kind n stack) × (k ≤ n) ⌝ }
     ensures { λ r. ⌜ r ≡ rankOf kind n (turnOf kind k stack) ⌝ }
 {
@@ -78,7 +79,7 @@ pub fn rank_turned(kind: u8, n: u8, stack: [i8; 12], index: u32, k: u8) -> u32
 }
 
 // The stack at an index. The free panes are a set: the digit says which of its ones stands next.
-pub fn unrank(kind: u8, n: u8, index: u32) -> [i8; 12]
+pub fn unrank(kind: u8, n: u8, index: u32) -> [i8; PLACES]
     requires { ⌜ (isPaneCount kind n ≡ true) × (index < stackCount kind n) ⌝ }
     ensures { λ r. ⌜ r ≡ stackAt kind n index ⌝ }
 {
@@ -87,7 +88,7 @@ pub fn unrank(kind: u8, n: u8, index: u32) -> [i8; 12]
     let mut left = index / ways;
     let top = n as u32;
     let mut free: u32 = (1 << top) - 1;
-    let mut stack = [0i8; 12];
+    let mut stack = [0i8; PLACES];
     let mut p: u32 = 0;
     while p < top {
         let below = top - 1 - p;

@@ -6,6 +6,7 @@ use crate::numbering;
 use crate::turning;
 use crate::valid;
 use stacks::Indexed;
+use stacks::PLACES;
 use stacks::Stacked;
 
 // The number of the first refusal, 0 for none. The kind and n come first in every operation.
@@ -21,7 +22,7 @@ pub fn kind_refusal(kind: u8, n: u8) -> u8
     0
 }
 
-pub fn index_refusal(kind: u8, n: u8, stack: [i8; 12]) -> u8
+pub fn index_refusal(kind: u8, n: u8, stack: [i8; PLACES]) -> u8
     ensures { λ r. ⌜ r ≡ indexRefusal kind n stack ⌝ }
 {
     let refusal = kind_refusal(kind, n);
@@ -47,7 +48,7 @@ fn stack_refusal(kind: u8, n: u8, index: u32) -> u8
     0
 }
 
-fn turn_refusal(kind: u8, n: u8, stack: [i8; 12], k: u8) -> u8
+fn turn_refusal(kind: u8, n: u8, stack: [i8; PLACES], k: u8) -> u8
     ensures { λ r. ⌜ r ≡ turnRefusal kind n stack k ⌝ }
 {
     let refusal = index_refusal(kind, n, stack);
@@ -61,7 +62,7 @@ fn turn_refusal(kind: u8, n: u8, stack: [i8; 12], k: u8) -> u8
 }
 
 // Index of a stack.
-pub fn index_of_stack(kind: u8, n: u8, stack: [i8; 12]) -> Indexed
+pub fn index_of_stack(kind: u8, n: u8, stack: [i8; PLACES]) -> Indexed
     ensures { λ r. ⌜ r ≡ indexOf kind n stack ⌝ }
 {
     let refusal = index_refusal(kind, n, stack);
@@ -78,7 +79,7 @@ pub fn stack_at_index(kind: u8, n: u8, index: u32) -> Stacked
 {
     let refusal = stack_refusal(kind, n, index);
     if refusal != 0 {
-        let none = [0i8; 12];
+        let none = [0i8; PLACES];
         return Stacked {
             refusal,
             stack: none,
@@ -89,12 +90,12 @@ pub fn stack_at_index(kind: u8, n: u8, index: u32) -> Stacked
 }
 
 // Turn.
-pub fn turn(kind: u8, n: u8, stack: [i8; 12], k: u8) -> Stacked
+pub fn turn(kind: u8, n: u8, stack: [i8; PLACES], k: u8) -> Stacked
     ensures { λ r. ⌜ r ≡ turnedOf kind n stack k ⌝ }
 {
     let refusal = turn_refusal(kind, n, stack, k);
     if refusal != 0 {
-        let none = [0i8; 12];
+        let none = [0i8; PLACES];
         return Stacked {
             refusal,
             stack: none,

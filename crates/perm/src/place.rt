@@ -4,6 +4,7 @@ ghost use Prim.Native.Nat.{_≤_};
 ghost use lib.IntN.{natAbs};
 ghost use Rattle.stacks.specs.Index.{coat, paneWith};
 ghost use Rattle.stacks.specs.Turn.{flip};
+ghost use Rattle.stacks.specs.Stack.{stackPlaces};
 
 // The pane's number. Widened first, since the magnitude of -128 is no i8.
 pub(crate) fn magnitude(x: i8) -> u32
@@ -26,7 +27,7 @@ pub(crate) fn coat_bit(x: i8) -> u32
 
 // What a turn does to a pane of its group.
 pub(crate) fn flipped(kind: u8, x: i8) -> i8
-    requires { ⌜ natAbs x ≤ 12 ⌝ }
+    requires { ⌜ natAbs x ≤ stackPlaces ⌝ }
     ensures { λ r. ⌜ r ≡ flip kind x ⌝ }
 {
     if kind == 1 { -x } else { x }
@@ -34,7 +35,7 @@ pub(crate) fn flipped(kind: u8, x: i8) -> i8
 
 // Pane x, coat down where the bit is 1.
 pub(crate) fn pane_with(x: u32, bit: u32) -> i8
-    requires { ⌜ x ≤ 12 ⌝ }
+    requires { ⌜ x ≤ stackPlaces ⌝ }
     ensures { λ r. ⌜ r ≡ paneWith x bit ⌝ }
 {
     let up = x as i8;

@@ -5,10 +5,11 @@ ghost use Prim.Native.Nat.{_-_, _%_, _^_, _≤_, _<_};
 ghost use lib.Count.{ones};
 ghost use lib.Dec.{leb, eqb};
 ghost use Rattle.perm.specs.Set.{bit, NthOne};
+ghost use Rattle.stacks.specs.Stack.{stackPlaces};
 
 // How many panes of a set have a number of at most x. The one place that counts ones.
 pub(crate) fn ones_below(set: u32, x: u32) -> u32
-    requires { ⌜ (set < 4096) × (x ≤ 12) ⌝ }
+    requires { ⌜ (set < 4096) × (x ≤ stackPlaces) ⌝ }
     ensures { λ r. ⌜ r ≡ ones (set % 2 ^ x) ⌝ }
 {
     u32::count_ones(set & ((1 << x) - 1))
@@ -16,7 +17,7 @@ pub(crate) fn ones_below(set: u32, x: u32) -> u32
 
 // Whether a pane is 1 to n and not yet in the set.
 pub(crate) fn is_new(n: u8, met: u32, pane: u32) -> bool
-    requires { ⌜ n ≤ 12 ⌝ }
+    requires { ⌜ n ≤ stackPlaces ⌝ }
     ensures { λ r. ⌜ r ≡ (leb 1 pane && leb pane n && eqb (bit met (pane - 1)) 0) ⌝ }
 {
     if pane < 1 {

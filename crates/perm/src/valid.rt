@@ -6,13 +6,14 @@ ghost use Prim.Native.Nat.{_≤_};
 ghost use lib.ListN.{drop};
 ghost use lib.Signed.{nonNeg};
 ghost use Rattle.base.specs.Words.{all};
-ghost use Rattle.stacks.specs.Stack.{isStack, isCoated, eachOnce, orderOf, isUnused};
+ghost use Rattle.stacks.specs.Stack.{stackPlaces, isStack, isCoated, eachOnce, orderOf, isUnused};
 use crate::place;
 use crate::set;
+use stacks::PLACES;
 
 // n panes, 1 to n, each once: a pane that the set has already is there twice.
-fn has_panes(n: u8, stack: [i8; 12]) -> bool
-    requires { ⌜ n ≤ 12 ⌝ }
+fn has_panes(n: u8, stack: [i8; PLACES]) -> bool
+    requires { ⌜ n ≤ stackPlaces ⌝ }
     ensures { λ r. ⌜ r ≡ eachOnce n [] (orderOf n stack) ⌝ }
 {
     let top = n as usize;
@@ -29,11 +30,11 @@ fn has_panes(n: u8, stack: [i8; 12]) -> bool
     true
 }
 
-fn no_coat_down(stack: [i8; 12]) -> bool
+fn no_coat_down(stack: [i8; PLACES]) -> bool
     ensures { λ r. ⌜ r ≡ all nonNeg stack ⌝ }
 {
     let mut p: usize = 0;
-    while p < 12 {
+    while p < PLACES {
         if place::coat_bit(stack[p]) == 1 {
             return false;
         }
@@ -42,12 +43,12 @@ fn no_coat_down(stack: [i8; 12]) -> bool
     true
 }
 
-fn unused_below(n: u8, stack: [i8; 12]) -> bool
-    requires { ⌜ n ≤ 12 ⌝ }
+fn unused_below(n: u8, stack: [i8; PLACES]) -> bool
+    requires { ⌜ n ≤ stackPlaces ⌝ }
     ensures { λ r. ⌜ r ≡ all isUnused (drop n stack) ⌝ }
 {
     let mut p = n as usize;
-    while p < 12 {
+    while p < PLACES {
         if place::magnitude(stack[p]) != 0 {
             return false;
         }
@@ -57,7 +58,7 @@ fn unused_below(n: u8, stack: [i8; 12]) -> bool
 }
 
 // A plain pane has no coat.
-fn coats_fit(kind: u8, stack: [i8; 12]) -> bool
+fn coats_fit(kind: u8, stack: [i8; PLACES]) -> bool
     ensures { λ r. ⌜ r ≡ (isCoated kind || all nonNeg stack) ⌝ }
 {
     if kind == 1 {
@@ -66,8 +67,8 @@ fn coats_fit(kind: u8, stack: [i8; 12]) -> bool
     no_coat_down(stack)
 }
 
-pub fn is_stack(kind: u8, n: u8, stack: [i8; 12]) -> bool
-    requires { ⌜ n ≤ 12 ⌝ }
+pub fn is_stack(kind: u8, n: u8, stack: [i8; PLACES]) -> bool
+    requires { ⌜ n ≤ stackPlaces ⌝ }
     ensures { λ r. ⌜ r ≡ isStack kind n stack ⌝ }
 {
     if !has_panes(n, stack) {

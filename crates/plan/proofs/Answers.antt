@@ -11,8 +11,9 @@ use borrow.Author.Tests.{eq-eqb, ne-eqb}
 use Rattle.base.specs.Words.{unless}
 use Rattle.base.proofs.Tests.{and-fails-left, and-fails-right}
 use Rattle.stacks.specs.Index.{rankOf}
+use Rattle.stacks.specs.Turn.{turnsOf}
 use Rattle.search.specs.Entries.{entryAt, unseen}
-use Rattle.search.specs.Plan.{entryOf, isWanted, routeFrom, hasPlan, planRefusal, planOf, planRow}
+use Rattle.search.specs.Plan.{Route, entryOf, isWanted, routeFrom, hasPlan, planRefusal, planOf, planRow}
 use Rattle.search.specs.Read.{readRefusal, readOf}
 use Rattle.search.specs.declared.Entry.{Entry}
 use Rattle.search.specs.declared.Planned.{Planned}
@@ -31,9 +32,9 @@ module _ (kind n : ℕ) (table : List ℕ) (i r : ℕ) (e : r ≡ readRefusal ki
   unfolding readOf
   an-entry h v q = rw (← e, h, q)
 
--- ---- when there is a plan
+-- ---- when there is a plan, by any moves
 
-module _ (kind n : ℕ) (table : List ℕ) (wanted given : List ℤ) where
+module _ (kind n : ℕ) (table : List ℕ) (wanted : List ℤ) (moves : List ℕ) (given : List ℤ) where
   -- the three tests in their order
   abbrev seen : Bool
   seen = not (eqb (entryOf kind n table given) 3)
@@ -42,34 +43,41 @@ module _ (kind n : ℕ) (table : List ℕ) (wanted given : List ℤ) where
   rooted = eqb (entryOf kind n table wanted) 0
 
   abbrev arrives : Bool
-  arrives = isWanted kind n table wanted (routeFrom kind n table wanted given .stack)
+  arrives = isWanted kind n table wanted (routeFrom kind n table wanted moves given .stack)
 
   -- v is the given stack's entry
   module _ (v : ℕ) (a : v ≡ entryOf kind n table given) where
-    pub no-plan-unseen : v ≡ 3 → hasPlan kind n table wanted given ≡ false
+    pub no-plan-unseen : v ≡ 3 → hasPlan kind n table wanted moves given ≡ false
     unfolding hasPlan unseen
     no-plan-unseen h = rw (← a, h)
 
     -- w is the wanted stack's entry
     module _ (w : ℕ) (b : w ≡ entryOf kind n table wanted) where
-      pub no-plan-root : (w ≡ 0 → ⊥) → hasPlan kind n table wanted given ≡ false
+      pub no-plan-root : (w ≡ 0 → ⊥) → hasPlan kind n table wanted moves given ≡ false
       unfolding hasPlan unseen
       no-plan-root h = and-fails-left (seen && rooted) arrives (and-fails-right seen rooted (rw (← b) (ne-eqb w 0 h)))
 
       -- the route comes to the stack s
-      module _ (s : List ℤ) (c : s ≡ routeFrom kind n table wanted given .stack) (end goal : ℕ) (d : end ≡ rankOf kind n s) (e : goal ≡ rankOf kind n wanted) where
-        pub no-plan-route : (end ≡ goal → ⊥) → hasPlan kind n table wanted given ≡ false
+      module _ (s : List ℤ) (c : s ≡ routeFrom kind n table wanted moves given .stack) (end goal : ℕ) (d : end ≡ rankOf kind n s) (e : goal ≡ rankOf kind n wanted) where
+        pub no-plan-route : (end ≡ goal → ⊥) → hasPlan kind n table wanted moves given ≡ false
         unfolding hasPlan unseen isWanted
         no-plan-route h = and-fails-right (seen && rooted) arrives (rw (← c, ← d, ← e) (ne-eqb end goal h))
 
-        pub a-plan : (v ≡ 3 → ⊥) → w ≡ 0 → end ≡ goal → hasPlan kind n table wanted given ≡ true
+        pub a-plan : (v ≡ 3 → ⊥) → w ≡ 0 → end ≡ goal → hasPlan kind n table wanted moves given ≡ true
         unfolding hasPlan unseen isWanted
         a-plan h k l = rw (← a, ← b, ← c, ← d, ← e, ne-eqb v 3 h, k, eq-eqb end goal l)
 
 -- ---- Plan
 
 module _ (kind n : ℕ) (wanted given : List ℤ) (table list : List ℕ) where
-  refused : (r : ℕ) → r ≡ planRefusal kind n wanted given table (length list) → (r ≡ 0 → ⊥)
+  -- whether all turns have a plan, and their route
+  abbrev planned : Bool
+  planned = hasPlan kind n table wanted (turnsOf kind n) given
+
+  abbrev way : Route
+  way = routeFrom kind n table wanted (turnsOf kind n) given
+
+  refused : (r : ℕ) → r ≡ planRefusal kind n wanted given table (length list) 0 → (r ≡ 0 → ⊥)
       → _≡_ {A = List ℕ × Planned} (list, record { refusal = r; turns = 0 }) (planOf kind n wanted given table list)
   unfolding planOf
   refused r e h = rw (← e, ne-eqb r 0 h)
@@ -79,21 +87,21 @@ module _ (kind n : ℕ) (wanted given : List ℤ) (table list : List ℕ) where
       → _≡_ {A = List ℕ × Planned} (list, record { refusal = r; turns = 0 }) (planOf kind n wanted given table list)
   unfolding planRefusal planRow
   row-refused r e h =
-      refused r (row-refuses kind n wanted given (length table) (length list) r (unless (hasPlan kind n table wanted given) 15 0) e h) h
+      refused r (row-refuses kind n wanted given (length table) (length list) r (unless planned 15 0) e h) h
 
   -- it does not
   module _ (f : RowFacts kind n wanted given (length table) (length list)) where
-    rest-is : unless (hasPlan kind n table wanted given) 15 0 ≡ planRefusal kind n wanted given table (length list)
+    rest-is : unless planned 15 0 ≡ planRefusal kind n wanted given table (length list) 0
     unfolding planRefusal planRow
-    rest-is = sym (row-goes-on kind n wanted given (length table) (length list) f (unless (hasPlan kind n table wanted given) 15 0))
+    rest-is = sym (row-goes-on kind n wanted given (length table) (length list) f (unless planned 15 0))
 
-    pub plan-refused : hasPlan kind n table wanted given ≡ false
+    pub plan-refused : planned ≡ false
         → _≡_ {A = List ℕ × Planned} (list, record { refusal = 15; turns = 0 }) (planOf kind n wanted given table list)
     plan-refused h = refused 15 (rw (← rest-is, h)) (λ e. omega arith)
 
     -- the route's turns, cut from an array, stand at the front of the list
-    pub plan-accepted : hasPlan kind n table wanted given ≡ true → (stack : List ℤ) (turns : List ℕ) (taken : ℕ) (after : List ℕ)
-        → routeAt stack turns taken ≡ routeFrom kind n table wanted given → length (take taken turns) ≡ taken → after ≡ take taken turns ++ drop taken list
+    pub plan-accepted : planned ≡ true → (stack : List ℤ) (turns : List ℕ) (taken : ℕ) (after : List ℕ)
+        → routeAt stack turns taken ≡ way → length (take taken turns) ≡ taken → after ≡ take taken turns ++ drop taken list
         → _≡_ {A = List ℕ × Planned} (after, record { refusal = 0; turns = taken }) (planOf kind n wanted given table list)
     unfolding planOf
     plan-accepted h stack turns taken after e l a = rw (← rest-is, h, ← e, l, a)

@@ -1,4 +1,5 @@
 -- Routes as the code makes them: the search of a turn through the turns not tried yet, and a run that goes on from where it has come to.
+-- What is said of routes holds for any list of moves that are turns; only the search goes through all turns by their numbers.
 use mathlib.Core.Path.{_≡_, refl, sym, ap, _∙_, subst}
 use mathlib.Core.Bool.{Bool, true, false, cond}
 use mathlib.Core.List.{List, [], _∷_, _++_}
@@ -10,15 +11,18 @@ use lib.ListN.{length, take, set, length-set}
 use lib.Seq.{take-suc-set, length-take-le}
 use borrow.Author.Tests.{eq-eqb, ne-eqb}
 use Rattle.base.specs.Words.{from}
+use Rattle.graph.specs.Walks.{isMove}
+use Rattle.graph.proofs.Moves.{isMove-first, isMove-rest}
 use Rattle.stacks.specs.Index.{rankOf}
 use Rattle.stacks.specs.Stack.{isPaneCount, isStack, stackCount}
 use Rattle.stacks.specs.Turn.{firstTurn, lastTurn, turnOf, turnsOf}
 use Rattle.stacks.proofs.Numbering.{rank-lt}
-use Rattle.stacks.proofs.TurnLaws.{first-pos, turn-stack, turns-stack, first-inside}
+use Rattle.stacks.proofs.TurnLaws.{turn-first, turn-last, first-pos, first-inside}
 use Rattle.search.specs.Entries.{bytesFor, entryAt, nextEntry}
 use Rattle.search.specs.Plan.{planLimit, Route, entryOf, leadsTo, follow, isWanted, planStep, planRun, routeFrom}
 use Rattle.search.proofs.EntryLaws.{byte-inside}
 use Rattle.search.proofs.PlanLaws.{route-within}
+use Rattle.search.proofs.Turning.{Moves, moved-stack, moves-stack}
 use Rattle.plan.specs.Routes.{firstTo}
 
 -- the entry of a stack stands in the table
@@ -27,27 +31,33 @@ pub entry-inside : (kind n : ℕ) (s : List ℤ) (table : List ℕ) (i : ℕ) �
 entry-inside kind n s table i in-range stack long e =
     rw (e, long) (byte-inside (rankOf kind n s) (stackCount kind n) (rank-lt kind n s in-range stack))
 
--- ---- the turns of a kind, and those not tried yet
+-- ---- all turns of a kind and n by their numbers, and those not tried yet
 
--- before the first try these are all turns
-pub untried-all : (kind n first : ℕ) → isPaneCount kind n ≡ true → first ≡ firstTurn kind
-    → from (n + 1 - (n + 1 - first)) (n + 1 - first) ≡ turnsOf kind n
-unfolding turnsOf lastTurn
-untried-all kind n first in-range e =
-    let a : n + 1 - (n + 1 - first) ≡ firstTurn kind = omega (arith, first-inside kind n in-range) in
-    let b : n + 1 - first ≡ suc n - firstTurn kind = omega arith in
+-- the last turn is at most n, and the first at most one past it
+pub turns-fit : (kind n : ℕ) → isPaneCount kind n ≡ true → (lastTurn kind n ≤ n) × (firstTurn kind ≤ lastTurn kind n + 1)
+unfolding lastTurn
+turns-fit kind n in-range = (omega arith, first-inside kind n in-range)
+
+-- before the first try none is tried
+pub untried-all : (kind n first last : ℕ) → first ≡ firstTurn kind → last ≡ lastTurn kind n → first ≤ last + 1
+    → from (last + 1 - (last + 1 - first)) (last + 1 - first) ≡ turnsOf kind n
+unfolding turnsOf
+untried-all kind n first last f l h =
+    let a : last + 1 - (last + 1 - first) ≡ firstTurn kind = omega arith in
+    let b : last + 1 - first ≡ suc (lastTurn kind n) - firstTurn kind = omega arith in
     rw (a, b)
 
 -- one is tried, and the others are left
-untried-next : (n left : ℕ) → 0 < left → left ≤ n + 1 → from (n + 1 - left) left ≡ (n + 1 - left) ∷ from (n + 1 - (left - 1)) (left - 1)
+untried-next : (last left : ℕ) → 0 < left → left ≤ last + 1
+    → from (last + 1 - left) left ≡ (last + 1 - left) ∷ from (last + 1 - (left - 1)) (left - 1)
 unfolding from
-untried-next n zero h l = absurd (omega arith)
-untried-next n (suc left) h l =
-    let a : suc (n + 1 - suc left) ≡ n + 1 - (suc left - 1) = omega arith in
+untried-next last zero h l = absurd (omega arith)
+untried-next last (suc left) h l =
+    let a : suc (last + 1 - suc left) ≡ last + 1 - (suc left - 1) = omega arith in
     let b : left ≡ suc left - 1 = omega arith in
-    ap (λ (ks : List ℕ). (n + 1 - suc left) ∷ ks) (rw (a, ← b))
+    ap (λ (ks : List ℕ). (last + 1 - suc left) ∷ ks) (rw (a, ← b))
 
--- ---- the first turn that leads to an entry
+-- ---- the first move that leads to an entry
 
 module _ (kind n : ℕ) (table : List ℕ) (s : List ℤ) (v : ℕ) where
   first-hit : (k : ℕ) (ks : List ℕ) → entryOf kind n table (turnOf kind k s) ≡ v → firstTo kind n table s v (k ∷ ks) ≡ k
@@ -59,56 +69,56 @@ module _ (kind n : ℕ) (table : List ℕ) (s : List ℤ) (v : ℕ) where
   unfolding firstTo leadsTo
   first-miss k ks h = rw (ne-eqb (entryOf kind n table (turnOf kind k s)) v h)
 
-  first-below : (a m : ℕ) → 1 ≤ a → firstTo kind n table s v (from a m) < a + m
-  unfolding firstTo from
-  first-below a zero h = omega arith
-  first-below a (suc m) h = go (leadsTo kind n table s v a) (first-below (suc a) m (omega arith))
+  -- what is found is a move
+  first-move : (ks : List ℕ) (k : ℕ) → k ≡ firstTo kind n table s v ks → (k ≡ 0 → ⊥) → isMove ks k ≡ true
+  unfolding firstTo
+  first-move [] k e h = absurd (h e)
+  first-move (j ∷ ks) k e h = go (leadsTo kind n table s v j) (λ q. first-move ks k q h) e
     where
-      go : (t : Bool) → firstTo kind n table s v (from (suc a) m) < suc a + m → cond t a (firstTo kind n table s v (from (suc a) m)) < a + suc m
-      go true l = omega arith
-      go false l = omega (arith, l)
+      go : (t : Bool) → (k ≡ firstTo kind n table s v ks → isMove ks k ≡ true) → k ≡ cond t j (firstTo kind n table s v ks)
+          → isMove (j ∷ ks) k ≡ true
+      go true f q = rw q (isMove-first j ks)
+      go false f q = isMove-rest j ks k (f q)
 
-  -- a turn that is found is one of the kind
-  pub first-last : isPaneCount kind n ≡ true → firstTo kind n table s v (turnsOf kind n) ≤ n
-  unfolding turnsOf lastTurn
-  first-last in-range =
-      omega (arith, first-below (firstTurn kind) (suc n - firstTurn kind) (first-pos kind), first-inside kind n in-range)
+  -- and so a turn
+  pub first-last : {moves : List ℕ} → Moves kind n moves → (k : ℕ) → k ≡ firstTo kind n table s v moves → (k ≡ 0 → ⊥) → k ≤ n
+  first-last {moves} laws k e h = turn-last kind n k (laws .turns k (first-move moves k e h))
 
-  -- the first turn is that of the turns not tried yet, of which there are left
-  module _ (left : ℕ) (f : firstTo kind n table s v (from (n + 1 - left) left) ≡ firstTo kind n table s v (turnsOf kind n)) where
-    pub tried-all : left ≡ 0 → 0 ≡ firstTo kind n table s v (turnsOf kind n)
+  -- the first move is the first turn of those not tried yet: left of them, up to the last
+  module _ (moves : List ℕ) (last left : ℕ) (f : firstTo kind n table s v (from (last + 1 - left) left) ≡ firstTo kind n table s v moves) where
+    pub tried-all : left ≡ 0 → 0 ≡ firstTo kind n table s v moves
     unfolding from firstTo
     tried-all e = rw (← f, e)
 
     -- the next one is tried: its child's entry is w
-    module _ (h : 0 < left) (l : left ≤ n + 1) (child : ℕ) (c : child ≡ rankOf kind n (turnOf kind (n + 1 - left) s)) (w : ℕ) (e : w ≡ entryAt table child) where
-      entry-is : entryOf kind n table (turnOf kind (n + 1 - left) s) ≡ w
+    module _ (h : 0 < left) (l : left ≤ last + 1) (child : ℕ) (c : child ≡ rankOf kind n (turnOf kind (last + 1 - left) s)) (w : ℕ) (e : w ≡ entryAt table child) where
+      entry-is : entryOf kind n table (turnOf kind (last + 1 - left) s) ≡ w
       unfolding entryOf
       entry-is = rw (e, c)
 
-      pub tried-hit : w ≡ v → n + 1 - left ≡ firstTo kind n table s v (turnsOf kind n)
+      pub tried-hit : w ≡ v → last + 1 - left ≡ firstTo kind n table s v moves
       tried-hit q =
-          sym (first-hit (n + 1 - left) (from (n + 1 - (left - 1)) (left - 1)) (entry-is ∙ q))
-          ∙ ap (firstTo kind n table s v) (sym (untried-next n left h l))
+          sym (first-hit (last + 1 - left) (from (last + 1 - (left - 1)) (left - 1)) (entry-is ∙ q))
+          ∙ ap (firstTo kind n table s v) (sym (untried-next last left h l))
           ∙ f
 
-      pub tried-miss : (w ≡ v → ⊥) → firstTo kind n table s v (from (n + 1 - (left - 1)) (left - 1)) ≡ firstTo kind n table s v (turnsOf kind n)
+      pub tried-miss : (w ≡ v → ⊥) → firstTo kind n table s v (from (last + 1 - (left - 1)) (left - 1)) ≡ firstTo kind n table s v moves
       tried-miss q =
-          sym (first-miss (n + 1 - left) (from (n + 1 - (left - 1)) (left - 1)) (λ r. q (sym entry-is ∙ r)))
-          ∙ ap (firstTo kind n table s v) (sym (untried-next n left h l))
+          sym (first-miss (last + 1 - left) (from (last + 1 - (left - 1)) (left - 1)) (λ r. q (sym entry-is ∙ r)))
+          ∙ ap (firstTo kind n table s v) (sym (untried-next last left h l))
           ∙ f
 
--- ---- the route with the turn that is found
+-- ---- the route with the move that is found
 
 -- the entry that stands one nearer than a stack's
 abbrev pub nearer : ℕ → ℕ → List ℕ → List ℤ → ℕ
 nearer kind n table s = nextEntry (nextEntry (entryOf kind n table s))
 
--- the first turn that leads there, by the entries as they are read
-pub found-nearer : (kind n : ℕ) (table : List ℕ) (s : List ℤ) (index v next near k : ℕ) → index ≡ rankOf kind n s → v ≡ entryAt table index → next ≡ nextEntry v
-    → near ≡ nextEntry next → k ≡ firstTo kind n table s near (turnsOf kind n) → k ≡ firstTo kind n table s (nearer kind n table s) (turnsOf kind n)
+-- the first move that leads there, by the entries as they are read
+pub found-nearer : (kind n : ℕ) (table : List ℕ) (s : List ℤ) (moves : List ℕ) (index v next near k : ℕ) → index ≡ rankOf kind n s → v ≡ entryAt table index
+    → next ≡ nextEntry v → near ≡ nextEntry next → k ≡ firstTo kind n table s near moves → k ≡ firstTo kind n table s (nearer kind n table s) moves
 unfolding entryOf
-found-nearer kind n table s index v next near k a b c d e = rw (← a, ← b, ← c, ← d) e
+found-nearer kind n table s moves index v next near k a b c d e = rw (← a, ← b, ← c, ← d) e
 
 -- the route with one more turn
 abbrev onward : ℕ → ℕ → Route → Route
@@ -129,64 +139,60 @@ module _ (kind n : ℕ) (table : List ℕ) (route : Route) where
       go true f q = rw q
       go false f q = f q h
 
-  -- every turn has a number above 0
-  follow-none : (a m : ℕ) → 1 ≤ a → 0 ≡ firstTo kind n table (route .stack) (nearer kind n table (route .stack)) (from a m)
-      → follow kind n table (from a m) route ≡ route
-  unfolding follow firstTo from
-  follow-none a zero h e = refl
-  follow-none a (suc m) h e =
-      go (leadsTo kind n table (route .stack) (nearer kind n table (route .stack)) a) (follow-none (suc a) m (omega arith)) e
+  -- 0 is found where no move leads on, for it is no move
+  follow-none : (ks : List ℕ) → (isMove ks 0 ≡ true → ⊥) → 0 ≡ firstTo kind n table (route .stack) (nearer kind n table (route .stack)) ks
+      → follow kind n table ks route ≡ route
+  unfolding follow firstTo
+  follow-none [] h e = refl
+  follow-none (j ∷ ks) h e =
+      go (leadsTo kind n table (route .stack) (nearer kind n table (route .stack)) j) (follow-none ks (λ m. h (isMove-rest j ks 0 m))) e
     where
       rest : ℕ
-      rest = firstTo kind n table (route .stack) (nearer kind n table (route .stack)) (from (suc a) m)
+      rest = firstTo kind n table (route .stack) (nearer kind n table (route .stack)) ks
 
-      go : (t : Bool) → (0 ≡ rest → follow kind n table (from (suc a) m) route ≡ route) → 0 ≡ cond t a rest
-          → cond t (onward kind a route) (follow kind n table (from (suc a) m) route) ≡ route
-      go true f q = absurd (omega arith)
+      go : (t : Bool) → (0 ≡ rest → follow kind n table ks route ≡ route) → 0 ≡ cond t j rest
+          → cond t (onward kind j route) (follow kind n table ks route) ≡ route
+      go true f q = absurd (h (subst (λ (k : ℕ). isMove (j ∷ ks) k ≡ true) (sym q) (isMove-first j ks)))
       go false f q = f q
 
-  module _ (wanted : List ℤ) where
-    step-arrived : rankOf kind n (route .stack) ≡ rankOf kind n wanted → planStep kind n table wanted route ≡ route
+  module _ (wanted : List ℤ) (moves : List ℕ) where
+    step-arrived : rankOf kind n (route .stack) ≡ rankOf kind n wanted → planStep kind n table wanted moves route ≡ route
     unfolding planStep isWanted
     step-arrived h = rw (eq-eqb (rankOf kind n (route .stack)) (rankOf kind n wanted) h)
 
     -- before the wanted stack
-    module _ (h : rankOf kind n (route .stack) ≡ rankOf kind n wanted → ⊥) where
-      step-on : planStep kind n table wanted route ≡ follow kind n table (turnsOf kind n) route
-      unfolding planStep isWanted
-      step-on = rw (ne-eqb (rankOf kind n (route .stack)) (rankOf kind n wanted) h)
+    step-on : (rankOf kind n (route .stack) ≡ rankOf kind n wanted → ⊥) → planStep kind n table wanted moves route ≡ follow kind n table moves route
+    unfolding planStep isWanted
+    step-on h = rw (ne-eqb (rankOf kind n (route .stack)) (rankOf kind n wanted) h)
 
-      step-stuck : 0 ≡ firstTo kind n table (route .stack) (nearer kind n table (route .stack)) (turnsOf kind n) → planStep kind n table wanted route ≡ route
-      unfolding turnsOf lastTurn
-      step-stuck e = step-on ∙ follow-none (firstTurn kind) (suc n - firstTurn kind) (first-pos kind) e
+module _ (kind n : ℕ) (table : List ℕ) (wanted : List ℤ) (moves : List ℕ) where
+  -- a run stays where a step leads nowhere
+  run-stays : (m : ℕ) (route : Route) → planStep kind n table wanted moves route ≡ route → planRun kind n table wanted moves m route ≡ route
+  unfolding planRun
+  run-stays zero route h = refl
+  run-stays (suc m) route h = rw h (run-stays m route h)
 
--- a run stays where a step leads nowhere
-run-stays : (kind n : ℕ) (table : List ℕ) (wanted : List ℤ) (m : ℕ) (route : Route) → planStep kind n table wanted route ≡ route
-    → planRun kind n table wanted m route ≡ route
-unfolding planRun
-run-stays kind n table wanted zero route h = refl
-run-stays kind n table wanted (suc m) route h = rw h (run-stays kind n table wanted m route h)
+  run-steps : (m : ℕ) (route : Route) → 0 < m
+      → planRun kind n table wanted moves m route ≡ planRun kind n table wanted moves (m - 1) (planStep kind n table wanted moves route)
+  unfolding planRun
+  run-steps zero route h = absurd (omega arith)
+  run-steps (suc m) route h =
+      let e : m ≡ suc m - 1 = omega arith in
+      ap (λ (l : ℕ). planRun kind n table wanted moves l (planStep kind n table wanted moves route)) e
 
-run-steps : (kind n : ℕ) (table : List ℕ) (wanted : List ℤ) (m : ℕ) (route : Route) → 0 < m
-    → planRun kind n table wanted m route ≡ planRun kind n table wanted (m - 1) (planStep kind n table wanted route)
-unfolding planRun
-run-steps kind n table wanted zero route h = absurd (omega arith)
-run-steps kind n table wanted (suc m) route h =
-    let e : m ≡ suc m - 1 = omega arith in ap (λ (l : ℕ). planRun kind n table wanted l (planStep kind n table wanted route)) e
+  -- a route of so many turns is within the limit
+  pub route-taken : (given : List ℤ) (route : Route) (taken : ℕ) → route ≡ routeFrom kind n table wanted moves given → length (route .turns) ≡ taken
+      → taken ≤ planLimit
+  route-taken given route taken e l =
+      omega (arith, sym l ∙ ap (λ (r : Route). length (r .turns)) e, route-within kind n moves table wanted given .1)
 
 -- what a route comes to is a stack
-pub route-stack : (kind n : ℕ) (table : List ℕ) (wanted given : List ℤ) → isPaneCount kind n ≡ true → isStack kind n given ≡ true
-    → isStack kind n (routeFrom kind n table wanted given .stack) ≡ true
-route-stack kind n table wanted given in-range h =
-    let r = route-within kind n table wanted given .0 in
-    subst (λ (s : List ℤ). isStack kind n s ≡ true) (r .arrives) (turns-stack kind n in-range (routeFrom kind n table wanted given .turns) given (r .turns) h)
-
--- a route of so many turns has at most 30
-pub route-taken : (kind n : ℕ) (table : List ℕ) (wanted given : List ℤ) (route : Route) (taken : ℕ) → route ≡ routeFrom kind n table wanted given
-    → length (route .turns) ≡ taken → taken ≤ 30
-unfolding planLimit
-route-taken kind n table wanted given route taken e l =
-    omega (arith, sym l ∙ ap (λ (r : Route). length (r .turns)) e, route-within kind n table wanted given .1)
+pub route-stack : (kind n : ℕ) {moves : List ℕ} (table : List ℕ) (wanted given : List ℤ) → isPaneCount kind n ≡ true → Moves kind n moves
+    → isStack kind n given ≡ true → isStack kind n (routeFrom kind n table wanted moves given .stack) ≡ true
+route-stack kind n {moves} table wanted given in-range laws h =
+    let r = route-within kind n moves table wanted given .0 in
+    subst (λ (s : List ℤ). isStack kind n s ≡ true) (r .arrives)
+    (moves-stack kind n in-range laws (routeFrom kind n table wanted moves given .turns) given (r .turns) h)
 
 -- ---- the loop that makes a route
 
@@ -195,62 +201,68 @@ abbrev pub routeAt : List ℤ → List ℕ → ℕ → Route
 routeAt stack turns taken = record { stack = stack; turns = take taken turns }
 
 -- for each stack with the goal's index, the run goes on from the route here
-pub record Travelled (kind n : ℕ) (table : List ℕ) (goal : ℕ) (given stack : List ℤ) (turns : List ℕ) (taken : ℕ) : Type 0 where
+pub record Travelled (kind n : ℕ) (moves table : List ℕ) (goal : ℕ) (given stack : List ℤ) (turns : List ℕ) (taken : ℕ) : Type 0 where
   pub is-stack : isStack kind n stack ≡ true
-  pub slots : length turns ≡ 30
-  pub within : taken ≤ 30
+  pub slots : length turns ≡ planLimit
+  pub within : taken ≤ planLimit
   pub goes-on : (wanted : List ℤ) → goal ≡ rankOf kind n wanted
-      → planRun kind n table wanted (30 - taken) (routeAt stack turns taken) ≡ routeFrom kind n table wanted given
+      → planRun kind n table wanted moves (planLimit - taken) (routeAt stack turns taken) ≡ routeFrom kind n table wanted moves given
 
-pub travelled-start : (kind n : ℕ) (table : List ℕ) (goal : ℕ) (given : List ℤ) (turns : List ℕ) → isStack kind n given ≡ true → length turns ≡ 30
-    → Travelled kind n table goal given given turns 0
-unfolding routeFrom planLimit
-travelled-start kind n table goal given turns h l =
+pub travelled-start : (kind n : ℕ) (moves table : List ℕ) (goal : ℕ) (given : List ℤ) (turns : List ℕ) → isStack kind n given ≡ true
+    → length turns ≡ planLimit → Travelled kind n moves table goal given given turns 0
+unfolding routeFrom
+travelled-start kind n moves table goal given turns h l =
     record { is-stack = h; slots = l; within = omega arith; goes-on = λ wanted e. refl }
 
-module _ (kind n : ℕ) (table : List ℕ) (goal : ℕ) (given stack : List ℤ) (turns : List ℕ) (taken : ℕ) (t : Travelled kind n table goal given stack turns taken) where
+module _ (kind n : ℕ) {moves table : List ℕ} {goal : ℕ} {given stack : List ℤ} {turns : List ℕ} {taken : ℕ}
+    (t : Travelled kind n moves table goal given stack turns taken) where
   pub travelled-length : length (take taken turns) ≡ taken
   travelled-length = length-take-le taken turns (omega (arith, t .slots, t .within))
 
   -- the whole run, as soon as a step leads nowhere
   module _ (wanted : List ℤ) (g : goal ≡ rankOf kind n wanted) where
-    stays : planStep kind n table wanted (routeAt stack turns taken) ≡ routeAt stack turns taken → routeAt stack turns taken ≡ routeFrom kind n table wanted given
-    stays h = sym (run-stays kind n table wanted (30 - taken) (routeAt stack turns taken) h) ∙ t .goes-on wanted g
+    stays : planStep kind n table wanted moves (routeAt stack turns taken) ≡ routeAt stack turns taken
+        → routeAt stack turns taken ≡ routeFrom kind n table wanted moves given
+    stays h = sym (run-stays kind n table wanted moves (planLimit - taken) (routeAt stack turns taken) h) ∙ t .goes-on wanted g
 
-    pub travelled-arrived : (index : ℕ) → index ≡ rankOf kind n stack → index ≡ goal → routeAt stack turns taken ≡ routeFrom kind n table wanted given
-    travelled-arrived index i h = stays (step-arrived kind n table (routeAt stack turns taken) wanted (sym i ∙ h ∙ g))
+    pub travelled-arrived : (index : ℕ) → index ≡ rankOf kind n stack → index ≡ goal → routeAt stack turns taken ≡ routeFrom kind n table wanted moves given
+    travelled-arrived index i h = stays (step-arrived kind n table (routeAt stack turns taken) wanted moves (sym i ∙ h ∙ g))
 
-    pub travelled-end : 30 ≤ taken → routeAt stack turns taken ≡ routeFrom kind n table wanted given
+    pub travelled-end : planLimit ≤ taken → routeAt stack turns taken ≡ routeFrom kind n table wanted moves given
     unfolding planRun
     travelled-end h =
-        let e : 0 ≡ 30 - taken = omega arith in
-        ap (λ (m : ℕ). planRun kind n table wanted m (routeAt stack turns taken)) e ∙ t .goes-on wanted g
+        let e : 0 ≡ planLimit - taken = omega arith in
+        ap (λ (m : ℕ). planRun kind n table wanted moves m (routeAt stack turns taken)) e ∙ t .goes-on wanted g
 
-  -- the turn that is found from here, by the entries of this stack
-  module _ (index k : ℕ) (i : index ≡ rankOf kind n stack) (h : index ≡ goal → ⊥)
-      (e : k ≡ firstTo kind n table stack (nearer kind n table stack) (turnsOf kind n)) where
-    pub travelled-stuck : k ≡ 0 → (wanted : List ℤ) → goal ≡ rankOf kind n wanted → routeAt stack turns taken ≡ routeFrom kind n table wanted given
+  -- the move that is found from here, by the entries of this stack
+  module _ (laws : Moves kind n moves) (index k : ℕ) (i : index ≡ rankOf kind n stack) (h : index ≡ goal → ⊥)
+      (e : k ≡ firstTo kind n table stack (nearer kind n table stack) moves) where
+    pub travelled-stuck : k ≡ 0 → (wanted : List ℤ) → goal ≡ rankOf kind n wanted → routeAt stack turns taken ≡ routeFrom kind n table wanted moves given
     travelled-stuck z wanted g =
-        stays wanted g (step-stuck kind n table (routeAt stack turns taken) wanted (λ q. h (i ∙ q ∙ sym g)) (sym z ∙ e))
+        let here : Route = routeAt stack turns taken in
+        stays wanted g
+        (step-on kind n table here wanted moves (λ q. h (i ∙ q ∙ sym g))
+        ∙ follow-none kind n table here moves (λ m. omega (arith, turn-first kind n 0 (laws .turns 0 m), first-pos kind)) (sym z ∙ e))
 
-    pub travelled-step : isPaneCount kind n ≡ true → taken < 30 → (k ≡ 0 → ⊥) → (child : List ℤ) → child ≡ turnOf kind k stack
-        → Travelled kind n table goal given child (set turns taken k) (taken + 1)
+    pub travelled-step : isPaneCount kind n ≡ true → taken < planLimit → (k ≡ 0 → ⊥) → (child : List ℤ) → child ≡ turnOf kind k stack
+        → Travelled kind n moves table goal given child (set turns taken k) (taken + 1)
     travelled-step in-range l z child c =
         record {
-          is-stack = rw c (turn-stack kind n in-range k stack (rw e (first-last kind n table stack (nearer kind n table stack) in-range)) (t .is-stack));
+          is-stack = rw c (moved-stack kind n in-range laws k stack (first-move kind n table stack (nearer kind n table stack) moves k e z) (t .is-stack));
           slots = length-set turns taken k ∙ t .slots;
           within = omega arith;
           goes-on = λ wanted g. onward-is wanted g ∙ t .goes-on wanted g;
         }
       where
         onward-is : (wanted : List ℤ) → goal ≡ rankOf kind n wanted
-            → planRun kind n table wanted (30 - (taken + 1)) (routeAt child (set turns taken k) (taken + 1)) ≡ planRun kind n table wanted (30 - taken) (routeAt stack turns taken)
+            → planRun kind n table wanted moves (planLimit - (taken + 1)) (routeAt child (set turns taken k) (taken + 1))
+            ≡ planRun kind n table wanted moves (planLimit - taken) (routeAt stack turns taken)
         onward-is wanted g =
             let before : Route = routeAt stack turns taken in
-            let a : 30 - (taken + 1) ≡ 30 - taken - 1 = omega arith in
+            let a : planLimit - (taken + 1) ≡ planLimit - taken - 1 = omega arith in
             let b : taken < length turns = omega (arith, t .slots) in
             rw (a, c, add-one taken, take-suc-set turns taken k b)
             (sym
-            (run-steps kind n table wanted (30 - taken) before (omega arith)
-            ∙ ap (planRun kind n table wanted (30 - taken - 1))
-            (step-on kind n table before wanted (λ q. h (i ∙ q ∙ sym g)) ∙ follow-found kind n table before (turnsOf kind n) k e z)))
+            (run-steps kind n table wanted moves (planLimit - taken) before (omega arith)
+            ∙ ap (planRun kind n table wanted moves (planLimit - taken - 1))
+            (step-on kind n table before wanted moves (λ q. h (i ∙ q ∙ sym g)) ∙ follow-found kind n table before moves k e z)))

@@ -57,10 +57,10 @@ module _ (kind n : ℕ) (wanted given : List ℤ) (bytes slots : ℕ) where
   planTests rest =
       unless (isStack kind n wanted) 3
       (unless (isStack kind n given) 3
-      (unless (eqb bytes (bytesFor (stackCount kind n))) 10 (unless (leb 30 slots) 10 rest)))
+      (unless (eqb bytes (bytesFor (stackCount kind n))) 10 (unless (leb planLimit slots) 10 rest)))
 
   row-is : (rest : ℕ) → planRow kind n wanted given bytes slots rest ≡ kindRefusal kind n (planTests rest)
-  unfolding planRow planTests planLimit
+  unfolding planRow planTests
   row-is rest = refl
 
   -- r is what the row of the kind and n answers
@@ -87,13 +87,13 @@ module _ (kind n : ℕ) (wanted given : List ℤ) (bytes slots : ℕ) where
         unfolding planTests
         row-table c = rw (← row-tests, a, b, ← l, ne-eqb bytes long c)
 
-        pub row-list : bytes ≡ long → slots < 30 → 10 ≡ planRow kind n wanted given bytes slots 0
+        pub row-list : bytes ≡ long → slots < planLimit → 10 ≡ planRow kind n wanted given bytes slots 0
         unfolding planTests
-        row-list c d = rw (← row-tests, a, b, ← l, eq-eqb bytes long c, lt-leb 30 slots d)
+        row-list c d = rw (← row-tests, a, b, ← l, eq-eqb bytes long c, lt-leb planLimit slots d)
 
-        pub row-accepts : bytes ≡ long → 30 ≤ slots → 0 ≡ planRow kind n wanted given bytes slots 0
+        pub row-accepts : bytes ≡ long → planLimit ≤ slots → 0 ≡ planRow kind n wanted given bytes slots 0
         unfolding planTests
-        row-accepts c d = rw (← row-tests, a, b, ← l, eq-eqb bytes long c, le-leb 30 slots d)
+        row-accepts c d = rw (← row-tests, a, b, ← l, eq-eqb bytes long c, le-leb planLimit slots d)
 
   -- what a row refuses is what it answers, whatever the rest
   pub row-refuses : (r rest : ℕ) → r ≡ planRow kind n wanted given bytes slots 0 → (r ≡ 0 → ⊥) → r ≡ planRow kind n wanted given bytes slots rest

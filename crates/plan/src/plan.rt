@@ -3,21 +3,23 @@ ghost use mathlib.Core.Path.{_≡_};
 ghost use mathlib.Core.List.{_++_};
 ghost use Prim.Native.Nat.{_≤_};
 ghost use lib.ListN.{length, take, drop};
-ghost use Rattle.search.specs.Plan.{planOf, planRow};
+ghost use Rattle.search.specs.Plan.{planLimit, planOf, planRow};
 use crate::route;
 use perm::kind;
 use perm::numbering;
 use perm::operations;
 use perm::valid;
+use search::PLAN_LIMIT;
 use search::Planned;
+use stacks::PLACES;
 use twobit::segment;
 
 // Every refusal but 15, which wants the table.
 fn plan_refusal(
     kind: u8,
     n: u8,
-    wanted: [i8; 12],
-    given: [i8; 12],
+    wanted: [i8; PLACES],
+    given: [i8; PLACES],
     bytes: usize,
     slots: usize,
 ) -> u8
@@ -37,20 +39,20 @@ fn plan_refusal(
     if bytes != segment::bytes_for(count) as usize {
         return 10;
     }
-    if slots < 30 {
+    if slots < PLAN_LIMIT {
         return 10;
     }
     0
 }
 
 // The turns come to the front of the list, and the bytes past them stay.
-fn copy_turns(list: &mut [u8], turns: [u8; 30], taken: u32)
-    requires { ⌜ (taken ≤ 30) × (taken ≤ length (now list)) ⌝ }
+fn copy_turns(list: &mut [u8], turns: [u8; PLAN_LIMIT], taken: usize)
+    requires { ⌜ (taken ≤ planLimit) × (taken ≤ length (now list)) ⌝ }
     ensures { λ _. ⌜ now (list .exit) ≡ take taken turns ++ drop taken (now (list .entry)) ⌝ }
 {
-    let mut i: u32 = 0;
+    let mut i: usize = 0;
     while i < taken {
-        list[i as usize] = turns[i as usize];
+        list[i] = turns[i];
         i += 1;
     }
 }
@@ -59,8 +61,8 @@ fn copy_turns(list: &mut [u8], turns: [u8; 30], taken: u32)
 pub fn plan(
     kind: u8,
     n: u8,
-    wanted: [i8; 12],
-    given: [i8; 12],
+    wanted: [i8; PLACES],
+    given: [i8; PLACES],
     table: &[u8],
     list: &mut [u8],
 ) -> Planned
@@ -95,8 +97,9 @@ pub fn plan(
         };
     }
     copy_turns(list, turns, taken);
+    let count = taken as u32;
     Planned {
         refusal: 0,
-        turns: taken,
+        turns: count,
     }
 }

@@ -10,16 +10,18 @@ ghost use Rattle.plan.specs.Routes.{firstTo, routeOf, StandsAt, LeadsFro
 use perm::kind;
 use perm::numbering;
 use perm::turning;
+use search::PLAN_LIMIT;
+use stacks::PLACES;
 use twobit::entry;
 
 // A route in the making: the stack that it has come to, its turns so far, and how many.
 pub struct Route {
-    pub stack: [i8; 12],
-    pub turns: [u8; 30],
-    pub taken: u32,
+    pub stack: [i8; PLACES],
+    pub turns: [u8; PLAN_LIMIT],
+    pub taken: usize,
 }
 
-pub(crate) fn entry_of(kind: u8, n: u8, stack: [i8; 12], table: &[u8]) -> u8
+pub(crate) fn entry_of(kind: u8, n: u8, stack: [i8; PLACES], table: &[u8]) -> u8
     requires { ⌜ (isPaneCount kind n ≡ true) × (isStack kind n stack ≡ true) × (length (now table) ≡ bytesFor (stackCount kind n)) ⌝ }
     ensures { λ r. ⌜ r ≡ entryOf kind n (now (table .entry)) stack ⌝ }
 {
@@ -28,14 +30,15 @@ pub(crate) fn entry_of(kind: u8, n: u8, stack: [i8; 12], table: &[u8]) -> u8
 }
 
 // The smallest turn that leads from the stack at an index to a child with entry v, 0 where none does. left counts the turns not tried yet.
-fn turn_to(kind: u8, n: u8, stack: [i8; 12], index: u32, v: u8, table: &[u8]) -> u8
+fn turn_to(kind: u8, n: u8, stack: [i8; PLACES], index: u32, v: u8, table: &[u8]) -> u8
     requires { ⌜ StandsAt kind n stack index (now table) ⌝ }
     ensures { λ r. ⌜ r ≡ firstTo kind n (now (table .entry)) stack v (turnsOf kind n) ⌝ }
 {
     let first = kind::first_turn(kind);
-    let mut left = n + 1 - first;
+    let last = kind::last_turn(kind, n);
+    let mut left = last + 1 - first;
     while 0 < left {
-        let k = n + 1 - left;
+        let k = last + 1 - left;
         let child = numbering::rank_turned(kind, n, stack, index, k);
         if entry::get_entry(table, child) == v {
             return k;
@@ -45,16 +48,22 @@ fn turn_to(kind: u8, n: u8, stack: [i8; 12], index: u32, v: u8, table: &[u8]) ->
     0
 }
 
-// The route from the given stack: it ends at the wanted stack, at a stack from which no turn leads one nearer, or after 30 turns.
-pub(crate) fn route_from(kind: u8, n: u8, wanted: [i8; 12], given: [i8; 12], table: &[u8]) -> Route
+// The route from the given stack: it ends at the wanted stack, at a stack from which no turn leads one nearer, or after as many turns as a plan may have.
+pub(crate) fn route_from(
+    kind: u8,
+    n: u8,
+    wanted: [i8; PLACES],
+    given: [i8; PLACES],
+    table: &[u8],
+) -> Route
     requires { ⌜ LeadsFrom kind n wanted given (now table) ⌝ }
-    ensures { λ r. ⌜ (routeOf r ≡ routeFrom kind n (now (table .entry)) wanted given) × (length (routeOf r .turns) ≡ r .taken) ⌝ }
+    ensures { λ r. ⌜ (routeOf r ≡ routeFrom kind n (now (table .entry)) wanted (turnsOf kind n) given) × (length (routeOf r .turns) ≡ r .taken) ⌝ }
 {
     let goal = numbering::rank(kind, n, wanted);
     let mut stack = given;
-    let mut turns = [0u8; 30];
-    let mut taken: u32 = 0;
-    while taken < 30 {
+    let mut turns = [0u8; PLAN_LIMIT];
+    let mut taken: usize = 0;
+    while taken < PLAN_LIMIT {
         let index = numbering::rank(kind, n, stack);
         let v = entry::get_entry(table, index);
         if index == goal {
@@ -75,7 +84,7 @@ pub(crate) fn route_from(kind: u8, n: u8, wanted: [i8; 12], given: [i8; 12], tab
         }
         let child = turning::turned(kind, n, stack, k);
         stack = child;
-        turns[taken as usize] = k;
+        turns[taken] = k;
         taken += 1;
     }
     Route {

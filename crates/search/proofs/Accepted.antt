@@ -8,23 +8,58 @@ use lib.Dec.{ltb, eqb}
 use lib.ListN.{length, set}
 use borrow.Author.Tests.{ltb-true, lt-ltb, eqb-true, eq-eqb, ne-eqb, not-true}
 use Rattle.base.specs.Words.{unless, all}
-use Rattle.base.proofs.Tests.{unless-zero, eq-or-ne}
+use Rattle.base.proofs.Tests.{unless-zero, and-both, never, eq-or-ne}
 use Rattle.search.specs.Blank.{blankRefusal, blanked, blankOf}
 use Rattle.search.specs.Close.{isReady, isPastLast, closeRefusal, closed, closeOf}
 use Rattle.search.specs.Entries.{bytesFor}
 use Rattle.search.specs.Expand.{expandRefusal, expansion, expandedJob, expandOf}
-use Rattle.search.specs.JobState.{isCoherent, isBlanking, isLevel, isFinished, levelOf, segmentCountOf, stackCountAt, logLength, passedOf, countOf, progressed}
+use Rattle.search.specs.JobState.{lastLevel, isCoherent, isBlanking, isLevel, isFinished, levelOf, segmentCountOf, stackCountAt, logLength, passedOf, countOf, progressed}
 use Rattle.search.specs.Look.{lookRefusal}
 use Rattle.search.specs.Settle.{settleRefusal, settleOf}
-use Rattle.search.specs.Level.{levelRefusal}
-use Rattle.search.specs.Logs.{pending}
-use Rattle.search.specs.Marks.{markAll}
+use Rattle.search.specs.Refusals.{callRefusal, segmentRefusal, levelRefusal}
+use Rattle.search.specs.Logs.{indexesOf, pending}
+use Rattle.search.specs.Marks.{markAll, marksFrom, markedJob}
 use Rattle.search.specs.declared.Job.{Job}
 
-pub record BlankFacts (job : Job) (j bytes : ℕ) : Type 0 where
+-- what the calls on a segment try first
+pub record CallFacts (inPhase : Bool) (job : Job) (j : ℕ) : Type 0 where
   pub coherent : isCoherent job ≡ true
-  pub blanking : isBlanking (job .phase) ≡ true
+  pub in-phase : inPhase ≡ true
   pub inside : j < segmentCountOf job
+
+module _ (inPhase : Bool) (job : Job) (j : ℕ) where
+  pub call-facts : (rest : ℕ) → callRefusal inPhase job j rest ≡ 0 → CallFacts inPhase job j × (rest ≡ 0)
+  unfolding callRefusal
+  call-facts rest h =
+      let inside : ℕ = unless (ltb j (segmentCountOf job)) 9 rest in
+      let a = unless-zero (isCoherent job) 6 (unless inPhase 8 inside) h in
+      let b = unless-zero inPhase 7 inside (a .1) in
+      let c = unless-zero (ltb j (segmentCountOf job)) 8 rest (b .1) in
+      (record { coherent = a .0; in-phase = b .0; inside = ltb-true j (segmentCountOf job) (c .0) }, c .1)
+
+  -- where they all hold the rest decides
+  pub call-goes-on : (rest : ℕ) → CallFacts inPhase job j → callRefusal inPhase job j rest ≡ rest
+  unfolding callRefusal
+  call-goes-on rest f = rw (f .coherent, f .in-phase, lt-ltb j (segmentCountOf job) (f .inside))
+
+  module _ (bytes : ℕ) where
+    pub segment-facts : (rest : ℕ) → segmentRefusal inPhase job j bytes rest ≡ 0
+        → CallFacts inPhase job j × (bytes ≡ bytesFor (stackCountAt job j)) × (rest ≡ 0)
+    unfolding segmentRefusal
+    segment-facts rest h =
+        let a = call-facts (unless (eqb bytes (bytesFor (stackCountAt job j))) 10 rest) h in
+        let b = unless-zero (eqb bytes (bytesFor (stackCountAt job j))) 9 rest (a .1) in
+        (a .0, eqb-true bytes (bytesFor (stackCountAt job j)) (b .0), b .1)
+
+    pub segment-goes-on : (rest : ℕ) → CallFacts inPhase job j → bytes ≡ bytesFor (stackCountAt job j)
+        → segmentRefusal inPhase job j bytes rest ≡ rest
+    unfolding segmentRefusal
+    segment-goes-on rest f long =
+        call-goes-on (unless (eqb bytes (bytesFor (stackCountAt job j))) 10 rest) f
+        ∙ ap (λ (t : Bool). unless t 10 rest) (eq-eqb bytes (bytesFor (stackCountAt job j)) long)
+
+pub record BlankFacts (job : Job) (j bytes : ℕ) : Type 0 where
+  pub called : CallFacts (isBlanking (job .phase)) job j
   pub long : bytes ≡ bytesFor (stackCountAt job j)
   pub left : passedOf job j < stackCountAt job j
 
@@ -32,81 +67,47 @@ module _ (job : Job) (j bytes : ℕ) where
   pub blank-facts : blankRefusal job j bytes ≡ 0 → BlankFacts job j bytes
   unfolding blankRefusal
   blank-facts h =
-      let left : ℕ = unless (ltb (passedOf job j) (stackCountAt job j)) 11 0 in
-      let long : ℕ = unless (eqb bytes (bytesFor (stackCountAt job j))) 10 left in
-      let inside : ℕ = unless (ltb j (segmentCountOf job)) 9 long in
-      let a = unless-zero (isCoherent job) 6 (unless (isBlanking (job .phase)) 8 inside) h in
-      let b = unless-zero (isBlanking (job .phase)) 7 inside (a .1) in
-      let c = unless-zero (ltb j (segmentCountOf job)) 8 long (b .1) in
-      let d = unless-zero (eqb bytes (bytesFor (stackCountAt job j))) 9 left (c .1) in
-      let e = unless-zero (ltb (passedOf job j) (stackCountAt job j)) 10 0 (d .1) in
+      let a = segment-facts (isBlanking (job .phase)) job j bytes (unless (ltb (passedOf job j) (stackCountAt job j)) 11 0) h in
       record {
-        coherent = a .0;
-        blanking = b .0;
-        inside = ltb-true j (segmentCountOf job) (c .0);
-        long = eqb-true bytes (bytesFor (stackCountAt job j)) (d .0);
-        left = ltb-true (passedOf job j) (stackCountAt job j) (e .0);
+        called = a .0;
+        long = a .1;
+        left = ltb-true (passedOf job j) (stackCountAt job j) (unless-zero (ltb (passedOf job j) (stackCountAt job j)) 10 0 (a .2) .0);
       }
 
   pub facts-blank : BlankFacts job j bytes → blankRefusal job j bytes ≡ 0
   unfolding blankRefusal
   facts-blank f =
-      rw (
-        f .coherent,
-        f .blanking,
-        lt-ltb j (segmentCountOf job) (f .inside),
-        eq-eqb bytes (bytesFor (stackCountAt job j)) (f .long),
-        lt-ltb (passedOf job j) (stackCountAt job j) (f .left),
-      )
+      segment-goes-on (isBlanking (job .phase)) job j bytes (unless (ltb (passedOf job j) (stackCountAt job j)) 11 0) (f .called) (f .long)
+      ∙ ap (λ (t : Bool). unless t 11 0) (lt-ltb (passedOf job j) (stackCountAt job j) (f .left))
 
 -- what Expand and Settle try first
-pub record LevelFacts (job : Job) (j bytes logs : ℕ) : Type 0 where
-  pub coherent : isCoherent job ≡ true
-  pub level : isLevel (job .phase) ≡ true
-  pub inside : j < segmentCountOf job
+pub record LevelFacts (job : Job) (j bytes words : ℕ) : Type 0 where
+  pub called : CallFacts (isLevel (job .phase)) job j
   pub long : bytes ≡ bytesFor (stackCountAt job j)
-  pub wide : logs ≡ logLength job
+  pub wide : words ≡ logLength job
 
-module _ (job : Job) (j bytes logs : ℕ) where
-  pub level-facts : (rest : ℕ) → levelRefusal job j bytes logs rest ≡ 0 → LevelFacts job j bytes logs × (rest ≡ 0)
+module _ (job : Job) (j bytes words : ℕ) where
+  pub level-facts : (rest : ℕ) → levelRefusal job j bytes words rest ≡ 0 → LevelFacts job j bytes words × (rest ≡ 0)
   unfolding levelRefusal
   level-facts rest h =
-      let wide : ℕ = unless (eqb logs (logLength job)) 10 rest in
-      let long : ℕ = unless (eqb bytes (bytesFor (stackCountAt job j))) 10 wide in
-      let inside : ℕ = unless (ltb j (segmentCountOf job)) 9 long in
-      let a = unless-zero (isCoherent job) 6 (unless (isLevel (job .phase)) 8 inside) h in
-      let b = unless-zero (isLevel (job .phase)) 7 inside (a .1) in
-      let c = unless-zero (ltb j (segmentCountOf job)) 8 long (b .1) in
-      let d = unless-zero (eqb bytes (bytesFor (stackCountAt job j))) 9 wide (c .1) in
-      let e = unless-zero (eqb logs (logLength job)) 9 rest (d .1) in (
-        record {
-          coherent = a .0;
-          level = b .0;
-          inside = ltb-true j (segmentCountOf job) (c .0);
-          long = eqb-true bytes (bytesFor (stackCountAt job j)) (d .0);
-          wide = eqb-true logs (logLength job) (e .0);
-        },
-        e .1,
-      )
+      let a = segment-facts (isLevel (job .phase)) job j bytes (unless (eqb words (logLength job)) 10 rest) h in
+      let b = unless-zero (eqb words (logLength job)) 9 rest (a .2) in
+      (record { called = a .0; long = a .1; wide = eqb-true words (logLength job) (b .0) }, b .1)
 
-  pub facts-level : (rest : ℕ) → LevelFacts job j bytes logs → rest ≡ 0 → levelRefusal job j bytes logs rest ≡ 0
+  pub facts-level : (rest : ℕ) → LevelFacts job j bytes words → rest ≡ 0 → levelRefusal job j bytes words rest ≡ 0
   unfolding levelRefusal
   facts-level rest f h =
-      rw (
-        f .coherent,
-        f .level,
-        lt-ltb j (segmentCountOf job) (f .inside),
-        eq-eqb bytes (bytesFor (stackCountAt job j)) (f .long),
-        eq-eqb logs (logLength job) (f .wide),
-      ) h
+      segment-goes-on (isLevel (job .phase)) job j bytes (unless (eqb words (logLength job)) 10 rest) (f .called) (f .long)
+      ∙ ap (λ (t : Bool). unless t 10 rest) (eq-eqb words (logLength job) (f .wide))
+      ∙ h
 
-  pub expand-facts : expandRefusal job j bytes logs ≡ 0 → LevelFacts job j bytes logs × (passedOf job j < stackCountAt job j)
+  pub expand-facts : expandRefusal job j bytes words ≡ 0 → LevelFacts job j bytes words × (passedOf job j < stackCountAt job j)
   unfolding expandRefusal
   expand-facts h =
       let a = level-facts (unless (ltb (passedOf job j) (stackCountAt job j)) 11 0) h in
       (a .0, ltb-true (passedOf job j) (stackCountAt job j) (unless-zero (ltb (passedOf job j) (stackCountAt job j)) 10 0 (a .1) .0))
 
-  pub facts-expand : LevelFacts job j bytes logs → passedOf job j < stackCountAt job j → expandRefusal job j bytes logs ≡ 0
+  pub facts-expand : LevelFacts job j bytes words → passedOf job j < stackCountAt job j → expandRefusal job j bytes words ≡ 0
   unfolding expandRefusal
   facts-expand f l =
       facts-level (unless (ltb (passedOf job j) (stackCountAt job j)) 11 0) f (rw (lt-ltb (passedOf job j) (stackCountAt job j) l))
@@ -127,20 +128,11 @@ module _ (job : Job) (j bytes : ℕ) (log : List ℕ) where
       facts-level job j bytes (length log) (unless (all (λ i. ltb i (stackCountAt job j)) (pending job j log)) 12 0) f
       (ap (λ (t : Bool). unless t 12 0) e)
 
-pub record LookFacts (job : Job) (j logs : ℕ) : Type 0 where
-  pub coherent : isCoherent job ≡ true
-  pub inside : j < segmentCountOf job
-  pub wide : logs ≡ logLength job
-
-pub look-facts : (job : Job) (j logs : ℕ) → lookRefusal job j logs ≡ 0 → LookFacts job j logs
+pub look-facts : (job : Job) (j words : ℕ) → lookRefusal job j words ≡ 0 → CallFacts true job j × (words ≡ logLength job)
 unfolding lookRefusal
-look-facts job j logs h =
-    let wide : ℕ = unless (eqb logs (logLength job)) 10 0 in
-    let inside : ℕ = unless (ltb j (segmentCountOf job)) 9 wide in
-    let a = unless-zero (isCoherent job) 6 inside h in
-    let b = unless-zero (ltb j (segmentCountOf job)) 8 wide (a .1) in
-    let c = unless-zero (eqb logs (logLength job)) 9 0 (b .1) in
-    record { coherent = a .0; inside = ltb-true j (segmentCountOf job) (b .0); wide = eqb-true logs (logLength job) (c .0) }
+look-facts job j words h =
+    let a = call-facts true job j (unless (eqb words (logLength job)) 10 0) h in
+    (a .0, eqb-true words (logLength job) (unless-zero (eqb words (logLength job)) 9 0 (a .1) .0))
 
 pub record CloseFacts (job : Job) : Type 0 where
   pub coherent : isCoherent job ≡ true
@@ -168,6 +160,19 @@ module _ (job : Job) where
   pub facts-close : CloseFacts job → closeRefusal job ≡ 0
   unfolding closeRefusal
   facts-close f = rw (f .coherent, f .unfinished, f .ready, f .fits)
+
+-- the last level closes only where its count is 0
+pub past-facts : (job : Job) → isPastLast job ≡ false → levelOf (job .phase) ≡ lastLevel → countOf job lastLevel ≡ 0
+unfolding isPastLast
+past-facts job h e = go (eq-or-ne (countOf job lastLevel) 0)
+  where
+    go : (countOf job lastLevel ≡ 0) ⊎ (countOf job lastLevel ≡ 0 → ⊥) → countOf job lastLevel ≡ 0
+    go (inl z) = z
+    go (inr ne) =
+        never
+        (and-both (eqb (levelOf (job .phase)) lastLevel) (not (eqb (countOf job lastLevel) 0)) (eq-eqb (levelOf (job .phase)) lastLevel e)
+        (ap not (ne-eqb (countOf job lastLevel) 0 ne)))
+        h
 
 -- ---- what the call leaves
 
@@ -238,14 +243,10 @@ module _ (job : Job) (j : ℕ) (segment : List ℕ) where
         either-way (λ o. o .2 .job .phase) (job .phase) (expandRefusal job j (length segment) (length log)) expand-accepted expand-refused (λ e. refl) refl
 
     pub settle-accepted : settleRefusal job j (length segment) log ≡ 0
-        → (let d = levelOf (job .phase) in
-        let marks = markAll d (pending job j log) (record { segment = segment; count = countOf job d }) in
+        → (let marks = markAll (job .size) (levelOf (job .phase)) (indexesOf (job .size) j (pending job j log)) (marksFrom job segment) in
         settleOf job j segment log ≡ (
           marks .segment,
-          record {
-            refusal = 0;
-            job = progressed job (job .phase) (job .passed) (set (job .waiting) j 0) (set (job .counts) d (marks .count));
-          },
+          record { refusal = 0; job = markedJob job (job .passed) (set (job .waiting) j 0) marks },
         ))
     unfolding settleOf
     settle-accepted h = rw (eq-eqb (settleRefusal job j (length segment) log) 0 h)

@@ -14,15 +14,14 @@ use Rattle.base.specs.Words.{all, tally, from}
 use Rattle.base.proofs.Counting.{at-all, below-all}
 use Rattle.base.proofs.Tests.{and-both, never, lt-or-ge, eq-or-ne}
 use Rattle.graph.proofs.Tally.{tally-some, tally-zero}
-use Rattle.stacks.specs.Stack.{isPaneCount}
+use Rattle.stacks.specs.Stack.{stackPlaces}
 use Rattle.search.specs.Blank.{blankRefusal}
 use Rattle.search.specs.Build.{World, Call, CarriesOn, own, doBlank, doExpand, doSettle, doClose, lent, kept, isOwn, isLentOwn, outcome, passes, empties, changes}
 use Rattle.search.specs.Close.{isDone, isReady, closeRefusal, nextPhase, closed}
 use Rattle.search.specs.Entries.{bytesFor}
 use Rattle.search.specs.Expand.{childrenOf, expandRefusal, expansion, expandedJob, expandOf}
-use Rattle.search.specs.JobState.{isBlanking, isLevel, isFinished, levelOf, lastLevel, segmentCountOf, stackCountAt, passedOf, waitingOf, countOf, progressed}
+use Rattle.search.specs.JobState.{isBlanking, isLevel, isFinished, levelOf, lastLevel, segmentCountOf, stackCountAt, movesOf, passedOf, waitingOf, progressed}
 use Rattle.search.specs.Promise.{Continues}
-use Rattle.search.specs.Segments.{segmentLimit}
 use Rattle.search.specs.Settle.{settleRefusal, settleOf}
 use Rattle.search.specs.Logs.{logPart, pending}
 use Rattle.search.specs.declared.Answer.{Answer}
@@ -33,7 +32,7 @@ use Rattle.search.specs.declared.Phase.the-variants.{Blanking, Level, Fi
 use Rattle.search.proofs.Accepted.{LevelFacts, facts-blank, facts-expand, facts-settle, facts-close, expand-accepted, settle-accepted}
 use Rattle.search.proofs.BlankKeeps.{blankedWorld, blank-world, passed-here, passed-elsewhere}
 use Rattle.search.proofs.BuildCoherent.{invariant-coherent}
-use Rattle.search.proofs.Children.{children-count}
+use Rattle.search.proofs.Children.{children-length}
 use Rattle.search.proofs.CloseKeeps.{closedWorld, close-world, never-past}
 use Rattle.search.proofs.Coherence.{coherent-facts}
 use Rattle.search.proofs.ExpandCases.{room-lacks, falling-le}
@@ -43,7 +42,7 @@ use Rattle.search.proofs.Refused.{refusalOf, refusal-is}
 use Rattle.search.proofs.SegmentLaws.{log-room-facts, log-length, log-at}
 use Rattle.search.proofs.Shapes.{room-is, segments-is, stacks-is, area-is}
 use Rattle.search.proofs.WorkLeft.{levelsLeft, workLeft, levels-work, stacks-work, logs-work, stacks-fall, stacks-stay, logs-fall}
-use Rattle.search.proofs.Terms.{Terms, Given, N, G, m, bytesOf, wordsOf, some, few}
+use Rattle.search.proofs.Terms.{Terms, Given, N, G, m, moves, lengthsOf, laws, some, few}
 
 -- some number below n passes a test, or none does
 some-or-none : (p : ℕ → Bool) (n : ℕ) → ((i : ℕ) × (i < n) × (p i ≡ true)) ⊎ ((i : ℕ) → i < n → p i ≡ false)
@@ -54,24 +53,24 @@ some-or-none p n = go (eq-or-ne (tally p (from 0 n)) 0)
     go (inr ne) = inl (tally-some p n (omega arith))
 
 -- a close brings the end nearer
-next-nearer : (job : Job) (p : Phase) → isFinished p ≡ false → levelOf p ≤ lastLevel → levelsLeft (nextPhase job p) < levelsLeft p
+next-nearer : (counts : List ℕ) (p : Phase) → isFinished p ≡ false → levelOf p ≤ lastLevel → levelsLeft (nextPhase counts p) < levelsLeft p
 unfolding isFinished levelOf levelsLeft nextPhase
-next-nearer job Blanking u h = omega arith
-next-nearer job (Level d) u h = go (eqb (countOf job d) 0)
+next-nearer counts Blanking u h = omega arith
+next-nearer counts (Level d) u h = go (eqb (getD counts d 0) 0)
   where
     go : (t : Bool) → levelsLeft (cond t (Finished (d - 1)) (Level (d + 1))) < suc lastLevel - d
     go true = omega arith
     go false = omega arith
-next-nearer job (Finished d) u h = never refl u
+next-nearer counts (Finished d) u h = never refl u
 
 module _ {terms : Terms} (given : Given terms) {w : World} (invariant : Invariant terms w) where
   -- a call that carries the build on, and leaves less to do
   pub record Advances : Type 0 where
-    pub next : Continues (bytesOf terms) (wordsOf terms) w
+    pub next : Continues (lengthsOf terms) w
     pub falls : workLeft (N terms) (terms .S) (outcome w (next .call) .world .job) < workLeft (N terms) (terms .S) (w .job)
 
   -- from what the call leaves
-  unfoldable pub advances : (call : Call (bytesOf terms) (wordsOf terms)) → isLentOwn call ≡ true → refusalOf w call ≡ 0
+  unfoldable pub advances : (call : Call (lengthsOf terms)) → isLentOwn call ≡ true → refusalOf w call ≡ 0
       → (x : World) → outcome w call .world ≡ x → CarriesOn w x
       → workLeft (N terms) (terms .S) (x .job) < workLeft (N terms) (terms .S) (w .job) → Advances
   advances call mine accepted x e carries falls =
@@ -90,7 +89,7 @@ module _ {terms : Terms} (given : Given terms) {w : World} (invariant : Invarian
   module _ (ready : isReady (w .job) ≡ true) (unfinished : isFinished (w .job .phase) ≡ false) (low : levelOf (w .job .phase) ≤ lastLevel) where
     pub close-nearer : levelsLeft (closedWorld w .job .phase) < levelsLeft (w .job .phase)
     unfolding closedWorld closed progressed
-    close-nearer = next-nearer (w .job) (w .job .phase) unfinished low
+    close-nearer = next-nearer (w .job .counts) (w .job .phase) unfinished low
 
     pub close-accepts : closeRefusal (w .job) ≡ 0
     close-accepts =
@@ -112,7 +111,7 @@ module _ {terms : Terms} (given : Given terms) {w : World} (invariant : Invarian
   -- segments with all passed and nothing waiting are ready to close
   pub all-ready : ((j : ℕ) → j < G terms → m terms j ≤ passedOf (w .job) j)
       → ((j : ℕ) → j < G terms → waitingOf (w .job) j ≡ 0) → isReady (w .job) ≡ true
-  unfolding isReady isDone segmentLimit
+  unfolding isReady isDone
   all-ready passed none =
       below-all (isDone (w .job)) (segmentCountOf (w .job)) (λ j h. done j (rw (segments-is (invariant .shaped)) at h))
     where
@@ -142,9 +141,11 @@ module _ {terms : Terms} (given : Given terms) {w : World} (invariant : Invarian
         accepts =
             facts-blank (w .job) j (length (getD (w .segments) j []))
             (record {
-              coherent = invariant-coherent given invariant;
-              blanking = ap isBlanking (blanks .phase-is);
-              inside = rw (segments-is (invariant .shaped)) h;
+              called = record {
+                coherent = invariant-coherent given invariant;
+                in-phase = ap isBlanking (blanks .phase-is);
+                inside = rw (segments-is (invariant .shaped)) h;
+              };
               long = invariant .shaped .segment-bytes j h ∙ ap bytesFor (sym (stacks-is (invariant .shaped) j));
               left = rw (stacks-is (invariant .shaped) j) left;
             })
@@ -180,9 +181,11 @@ module _ {terms : Terms} (given : Given terms) {w : World} (invariant : Invarian
     unfolding isLevel
     facts-of j h =
         record {
-          coherent = invariant-coherent given invariant;
-          level = ap isLevel (search .phase-is);
-          inside = rw (segments-is (invariant .shaped)) h;
+          called = record {
+            coherent = invariant-coherent given invariant;
+            in-phase = ap isLevel (search .phase-is);
+            inside = rw (segments-is (invariant .shaped)) h;
+          };
           long = invariant .shaped .segment-bytes j h ∙ ap bytesFor (sym (stacks-is (invariant .shaped) j));
           wide = invariant .shaped .log-length ∙ sym (area-is (invariant .shaped));
         }
@@ -247,7 +250,7 @@ module _ {terms : Terms} (given : Given terms) {w : World} (invariant : Invarian
       unfoldable pub settle-advances : 0 < waitingOf (w .job) j → Advances
       unfolding outcome isLentOwn isOwn refusalOf lent kept
       settle-advances more =
-          let call : Call (bytesOf terms) (wordsOf terms) = doSettle j own own in
+          let call : Call (lengthsOf terms) = doSettle j own own in
           advances call refl settle-accepts (outcome w call .world) refl (empties j more settled-empty)
           (logs-work (N terms) (terms .S) (w .job) settled settled-phase
           (stacks-stay (N terms) (terms .S) (w .job) settled settled-passed)
@@ -281,14 +284,14 @@ module _ {terms : Terms} (given : Given terms) {w : World} (invariant : Invarian
         roomy : (t : ℕ) → MustWait (w .job) j (getD (w .segments) j []) t → ⊥
         unfolding waitingOf
         roomy t must =
-            let children = childrenOf (w .job .kind) (w .job .n) (j * w .job .size + passedOf (w .job) j) in
+            let children = childrenOf (w .job .kind) (w .job .n) (movesOf (w .job)) (j * w .job .size + passedOf (w .job) j) in
             omega (
               arith,
               none t,
               room-lacks (w .job .size) (w .job .room) j (w .job .waiting) children t (must .lacks) .1,
               falling-le (w .job .size) t children,
-              children-count (w .job .kind) (w .job .n) (j * w .job .size + passedOf (w .job) j)
-                  (subst (λ (t : Terms). isPaneCount (t .kind) (t .n) ≡ true) (sym (invariant .shaped .terms-is)) (given .in-range)),
+              children-length (w .job .kind) (w .job .n) (movesOf (w .job)) (j * w .job .size + passedOf (w .job) j),
+              subst (λ (t : Terms). length (moves t) ≤ stackPlaces) (sym (invariant .shaped .terms-is)) (laws given .few),
               (room-is (invariant .shaped)),
               log-room-facts (terms .C) (given .room) .least,
             )
@@ -309,7 +312,7 @@ module _ {terms : Terms} (given : Given terms) {w : World} (invariant : Invarian
         unfoldable pub expand-advances : Advances
         unfolding outcome isLentOwn isOwn refusalOf lent kept
         expand-advances =
-            let call : Call (bytesOf terms) (wordsOf terms) = doExpand j own own in
+            let call : Call (lengthsOf terms) = doExpand j own own in
             advances call refl expand-accepts (outcome w call .world) refl (passes j grown-here)
             (stacks-work (N terms) (terms .S) (w .job) grown grown-phase
             (stacks-fall (N terms) (terms .S) (w .job) grown (some given) j left grown-here (λ i. each i (eq-or-ne i j))))

@@ -13,10 +13,11 @@ use Rattle.base.proofs.Lists.{replicate-zero}
 use Rattle.base.proofs.Tests.{never, eq-or-ne}
 use Rattle.search.specs.Begin.{begun}
 use Rattle.search.specs.Blank.{blankRefusal, goalOf, blanked, blankOf}
-use Rattle.search.specs.Build.{World}
+use Rattle.search.specs.Build.{World, withJob, withSegment}
 use Rattle.search.specs.Entries.{bytesFor, blank, setEntry}
-use Rattle.search.specs.JobState.{isBlanking, stackCountOf, stackCountAt, passedOf, waitingOf, countOf, progressed}
+use Rattle.search.specs.JobState.{countPlaces, isBlanking, stackCountOf, stackCountAt, passedOf, waitingOf, countOf, progressed}
 use Rattle.search.specs.Promise.{Buffers, rightBytes, rightWords}
+use Rattle.search.specs.Segments.{segmentLimit}
 use Rattle.search.specs.declared.Answer.{Answer}
 use Rattle.search.specs.declared.Job.{Job}
 use Rattle.search.proofs.Accepted.{BlankFacts, blank-facts, blank-accepted}
@@ -41,10 +42,10 @@ begun-invariant kind n wanted S C segments log buffers =
       };
       phase = blanking (record {
         phase-is = refl;
-        none-waits = replicate-zero 64;
-        none-counted = replicate-zero 32;
-        none-beyond = λ j h. replicate-zero 64 j;
-        each = λ j h. inl (replicate-zero 64 j);
+        none-waits = replicate-zero segmentLimit;
+        none-counted = replicate-zero countPlaces;
+        none-beyond = λ j h. replicate-zero segmentLimit j;
+        each = λ j h. inl (replicate-zero segmentLimit j);
       });
     }
 
@@ -59,18 +60,15 @@ blanked-length job j = go (eqb (goalOf job / job .size) j)
 -- the world after segment j is blanked
 unfoldable pub blankedWorld : World → ℕ → World
 blankedWorld w j =
-    record {
-      job = progressed (w .job) (w .job .phase) (set (w .job .passed) j (stackCountAt (w .job) j)) (w .job .waiting) (w .job .counts);
-      segments = set (w .segments) j (blanked (w .job) j);
-      log = w .log;
-    }
+    withJob (progressed (w .job) (w .job .phase) (set (w .job .passed) j (stackCountAt (w .job) j)) (w .job .waiting) (w .job .counts))
+    (withSegment j (blanked (w .job) j) w)
 
 pub blank-world : (w : World) (j : ℕ) → blankRefusal (w .job) j (length (getD (w .segments) j [])) ≡ 0
     → (let out = blankOf (w .job) j (getD (w .segments) j []) in
-    _≡_ {A = World} (record { job = out .1 .job; segments = set (w .segments) j (out .0); log = w .log }) (blankedWorld w j))
+    _≡_ {A = World} (withJob (out .1 .job) (withSegment j (out .0) w)) (blankedWorld w j))
 unfolding blankedWorld
 blank-world w j h =
-    ap (λ (o : List ℕ × Answer). record { job = o .1 .job; segments = set (w .segments) j (o .0); log = w .log })
+    ap (λ (o : List ℕ × Answer). withJob (o .1 .job) (withSegment j (o .0) w))
     (blank-accepted (w .job) j (getD (w .segments) j []) h)
 
 module _ {terms : Terms} (given : Given terms) {w : World} (shaped : Shaped terms w)
@@ -143,7 +141,7 @@ blank-keeps {terms} {w} given invariant j h = go (invariant .phase)
     facts = blank-facts (w .job) j (length (getD (w .segments) j [])) h
 
     inside : j < G terms
-    inside = rw (segments-is (invariant .shaped)) at (facts .inside)
+    inside = rw (segments-is (invariant .shaped)) at (facts .called .inside)
 
     go : InPhase terms w
         → Invariant terms (blankedWorld w j)
@@ -152,5 +150,5 @@ blank-keeps {terms} {w} given invariant j h = go (invariant .phase)
           shaped = blanked-shaped given (invariant .shaped) j inside;
           phase = blanking (blanked-blanks given (invariant .shaped) j inside blanks);
         }
-    go (searching d s) = never (facts .blanking) (ap isBlanking (s .phase-is))
-    go (ended d s) = never (facts .blanking) (ap isBlanking (s .phase-is))
+    go (searching d s) = never (facts .called .in-phase) (ap isBlanking (s .phase-is))
+    go (ended d s) = never (facts .called .in-phase) (ap isBlanking (s .phase-is))

@@ -18,7 +18,7 @@ use Rattle.search.specs.JobState.{lastLevel, countLimit, passedOf, waiti
 use Rattle.search.proofs.Coherence.{facts-coherent}
 use Rattle.search.proofs.Invariant.{Shaped, Blanks, Searches, Ended, InPhase, blanking, searching, ended, Invariant, entryIn}
 use Rattle.search.proofs.Shapes.{room-is, segments-is, stacks-is, begins-is}
-use Rattle.search.proofs.Terms.{Terms, Given, N, G, m, D}
+use Rattle.search.proofs.Terms.{Terms, Given, N, G, m, beyond, D}
 
 -- a log that is within bounds by what it may hold there
 within : (x j g C : ℕ) → (j < g → x ≤ C) → (g ≤ j → x ≡ 0) → x ≤ cond (ltb j g) C 0
@@ -98,8 +98,12 @@ module _ {terms : Terms} (given : Given terms) {w : World} (shaped : Shaped term
       (λ j. omega (arith, s .none-passed j))
       (λ j. omega (arith, s .none-waits j))
       (λ j h. s .none-waits j)
-      (λ i. omega (arith, s .counts i, tally-le (λ v. eqb (D terms v) i) (N terms)))
+      (λ i. count i (lt-or-ge i beyond))
       (ap phaseFits (s .phase-is) ∙ lt-ltb d lastLevel (s .last))
+    where
+      count : (i : ℕ) → (i < beyond) ⊎ (beyond ≤ i) → countOf (w .job) i ≤ N terms
+      count i (inl h) = omega (arith, s .counts i h, tally-le (λ v. eqb (D terms v) i) (N terms))
+      count i (inr h) = omega (arith, s .counts-past i (omega (arith, s .last)))
 
 pub invariant-coherent : {terms : Terms} {w : World} → Given terms → Invariant terms w
     → isCoherent (w .job) ≡ true

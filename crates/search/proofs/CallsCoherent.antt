@@ -1,10 +1,11 @@
 -- Begin gives a coherent job, and so does every call on a coherent job whose counts have room for the stacks at hand.
 use mathlib.Core.Path.{_≡_, refl, sym, ap, _∙_}
 use mathlib.Core.Logic.{_⊎_, inl, inr}
-use mathlib.Core.Bool.{Bool, true, false, not, cond}
+use mathlib.Core.Bool.{Bool, true, false, cond}
 use mathlib.Core.List.{List, [], _∷_}
-use Prim.Native.Nat.{ℕ, _+_, _-_, _≤_, _<_}
+use Prim.Native.Nat.{ℕ, _+_, _-_, _*_, _%_, _≤_, _<_}
 use native.Mathlib.Omega.{arith}
+use lib.Arith.{digits-mod}
 use lib.Dec.{leb, ltb, eqb}
 use lib.IntN.{ℤ}
 use lib.ListN.{length, getD, set}
@@ -12,21 +13,22 @@ use lib.Seq.{getD-set-same, getD-set-other, set-out}
 use borrow.Author.Tests.{ltb-true, lt-ltb, leb-true, le-leb, eqb-false, eq-eqb, ne-eqb}
 use Rattle.base.specs.Words.{all, tally, from}
 use Rattle.base.proofs.Lists.{replicate-zero}
-use Rattle.base.proofs.Tests.{and-left, and-right, and-both, never, lt-or-ge, eq-or-ne}
+use Rattle.base.proofs.Tests.{and-left, and-right, and-both, lt-or-ge, eq-or-ne}
 use Rattle.graph.proofs.Tally.{tally-le, tally-one-more}
 use Rattle.search.specs.Begin.{begun, beginOf}
 use Rattle.search.specs.Blank.{blankRefusal, blankOf}
 use Rattle.search.specs.Close.{isPastLast, closeRefusal, nextPhase, nextCounts, closed, closeOf}
 use Rattle.search.specs.Entries.{entryAt, bytesFor}
-use Rattle.search.specs.JobState.{lastLevel, countLimit, beginRefusal, levelOf, segmentCountOf, stackCountAt, stackCountOf, passedOf, waitingOf, countOf, phaseFits, isCoherent, progressed}
+use Rattle.search.specs.JobState.{lastLevel, countPlaces, countLimit, beginRefusal, levelOf, segmentCountOf, stackCountAt, stackCountOf, passedOf, waitingOf, countOf, phaseFits, isCoherent, progressed}
+use Rattle.search.specs.Segments.{segmentLimit, stackCountIn}
 use Rattle.search.specs.Settle.{settleRefusal, settleOf}
-use Rattle.search.specs.Marks.{Marks, markOne, markAll}
-use Rattle.search.specs.Logs.{pending}
+use Rattle.search.specs.Marks.{Marks, markOne, markAll, marksFrom, markedJob}
+use Rattle.search.specs.Logs.{indexesOf, pending}
 use Rattle.search.specs.declared.Answer.{Answer}
 use Rattle.search.specs.declared.Job.{Job}
 use Rattle.search.specs.declared.Phase.{Phase}
 use Rattle.search.specs.declared.Phase.the-variants.{Blanking, Level, Finished}
-use Rattle.search.proofs.Accepted.{close-facts, settle-facts, blank-accepted, blank-refused, settle-accepted, settle-refused, close-accepted, close-refused}
+use Rattle.search.proofs.Accepted.{past-facts, close-facts, settle-facts, blank-accepted, blank-refused, settle-accepted, settle-refused, close-accepted, close-refused}
 use Rattle.search.proofs.Coherence.{Coherent, coherent-facts, facts-coherent}
 use Rattle.search.proofs.MarkLaws.{mark-unseen, mark-seen, mark-length, mark-other, mark-new}
 
@@ -50,35 +52,39 @@ abbrev pub unseenIn : ℕ → List ℕ → ℕ
 unseenIn m segment = tally (λ i. eqb (entryAt segment i) 3) (from 0 m)
 
 -- a mark adds one to the count just where it takes an unseen entry away
-pub mark-budget : (d i m : ℕ) (marks : Marks) → i < m → length (marks .segment) ≡ bytesFor m
-    → markOne d i marks .count + unseenIn m (markOne d i marks .segment) ≡ marks .count + unseenIn m (marks .segment)
-mark-budget d i m marks h long = go (eq-or-ne (entryAt (marks .segment) i) 3)
+pub mark-budget : (S d v m : ℕ) (marks : Marks) → v % S < m → length (marks .segment) ≡ bytesFor m
+    → markOne S d v marks .count + unseenIn m (markOne S d v marks .segment) ≡ marks .count + unseenIn m (marks .segment)
+mark-budget S d v m marks h long = go (eq-or-ne (entryAt (marks .segment) (v % S)) 3)
   where
-    go : (entryAt (marks .segment) i ≡ 3) ⊎ (entryAt (marks .segment) i ≡ 3 → ⊥)
-        → markOne d i marks .count + unseenIn m (markOne d i marks .segment) ≡ marks .count + unseenIn m (marks .segment)
+    go : (entryAt (marks .segment) (v % S) ≡ 3) ⊎ (entryAt (marks .segment) (v % S) ≡ 3 → ⊥)
+        → markOne S d v marks .count + unseenIn m (markOne S d v marks .segment) ≡ marks .count + unseenIn m (marks .segment)
     go (inl e) =
         omega (
           arith,
-          ap (λ (x : Marks). x .count) (mark-unseen d i marks e),
+          ap (λ (x : Marks). x .count) (mark-unseen S d v marks e),
           tally-one-more
-              (λ u. eqb (entryAt (markOne d i marks .segment) u) 3)
+              (λ u. eqb (entryAt (markOne S d v marks .segment) u) 3)
               (λ u. eqb (entryAt (marks .segment) u) 3)
               m
-              i
+              (v % S)
               h
-              (ne-eqb (entryAt (markOne d i marks .segment) i) 3 (λ q. omega (arith, mark-new d i m marks h long e)))
-              (eq-eqb (entryAt (marks .segment) i) 3 e)
-              (λ u l ne. ap (λ (x : ℕ). eqb x 3) (sym (mark-other d i marks u ne))),
+              (ne-eqb (entryAt (markOne S d v marks .segment) (v % S)) 3 (λ q. omega (arith, mark-new S d v m marks h long e)))
+              (eq-eqb (entryAt (marks .segment) (v % S)) 3 e)
+              (λ u l ne. ap (λ (x : ℕ). eqb x 3) (sym (mark-other S d v marks u ne))),
         )
-    go (inr ne) = rw (mark-seen d i marks ne)
+    go (inr ne) = rw (mark-seen S d v marks ne)
 
-all-budget : (d m : ℕ) (offsets : List ℕ) (marks : Marks) → all (λ i. ltb i m) offsets ≡ true → length (marks .segment) ≡ bytesFor m
-    → markAll d offsets marks .count + unseenIn m (markAll d offsets marks .segment) ≡ marks .count + unseenIn m (marks .segment)
-unfolding markAll all
-all-budget d m [] marks h long = refl
-all-budget d m (i ∷ offsets) marks h long =
-    all-budget d m offsets (markOne d i marks) (and-right (ltb i m) (all (λ i. ltb i m) offsets) h) (mark-length d i marks ∙ long)
-    ∙ mark-budget d i m marks (ltb-true i m (and-left (ltb i m) (all (λ i. ltb i m) offsets) h)) long
+all-budget : (S d j m : ℕ) (offsets : List ℕ) (marks : Marks) → m ≤ S → all (λ i. ltb i m) offsets ≡ true → length (marks .segment) ≡ bytesFor m
+    → (let marked = markAll S d (indexesOf S j offsets) marks in
+    marked .count + unseenIn m (marked .segment) ≡ marks .count + unseenIn m (marks .segment))
+unfolding markAll indexesOf all
+all-budget S d j m [] marks l h long = refl
+all-budget S d j m (i ∷ offsets) marks l h long =
+    let v : ℕ = j * S + i in
+    let fits : i < m = ltb-true i m (and-left (ltb i m) (all (λ i. ltb i m) offsets) h) in
+    let place : v % S ≡ i = digits-mod j (let small : i < S = omega arith in small) in
+    all-budget S d j m offsets (markOne S d v marks) l (and-right (ltb i m) (all (λ i. ltb i m) offsets) h) (mark-length S d v marks ∙ long)
+    ∙ mark-budget S d v m marks (rw place fits) long
 
 -- ---- Begin
 
@@ -89,9 +95,9 @@ begun-coherent kind n wanted S C h =
     (record {
       begins = h;
       phase-fits = refl;
-      passed-fits = λ j l. omega (arith, replicate-zero 64 j);
-      waiting-fits = λ j l. omega (arith, replicate-zero 64 j);
-      counts-fit = λ d. omega (arith, replicate-zero 32 d);
+      passed-fits = λ j l. omega (arith, replicate-zero segmentLimit j);
+      waiting-fits = λ j l. omega (arith, replicate-zero segmentLimit j);
+      counts-fit = λ d. omega (arith, replicate-zero countPlaces d);
     })
 
 pub begin-coherent : (kind n : ℕ) (wanted : List ℤ) (S C : ℕ) → beginOf kind n wanted S C .refusal ≡ 0
@@ -128,21 +134,8 @@ module _ (job : Job) (coherent : isCoherent job ≡ true) where
 
   -- ---- Close
 
-  -- the last level closes only where its count is 0
-  past-facts : isPastLast job ≡ false → levelOf (job .phase) ≡ lastLevel → countOf job lastLevel ≡ 0
-  unfolding isPastLast
-  past-facts h e = go (eq-or-ne (countOf job lastLevel) 0)
-    where
-      go : (countOf job lastLevel ≡ 0) ⊎ (countOf job lastLevel ≡ 0 → ⊥) → countOf job lastLevel ≡ 0
-      go (inl z) = z
-      go (inr ne) =
-          never
-          (and-both (eqb (levelOf (job .phase)) lastLevel) (not (eqb (countOf job lastLevel) 0)) (eq-eqb (levelOf (job .phase)) lastLevel e)
-          (ap not (ne-eqb (countOf job lastLevel) 0 ne)))
-          h
-
-  next-fits : (p : Phase) → phaseFits p ≡ true → (levelOf p ≡ lastLevel → countOf job lastLevel ≡ 0) → phaseFits (nextPhase job p) ≡ true
-  unfolding phaseFits nextPhase levelOf lastLevel
+  next-fits : (p : Phase) → phaseFits p ≡ true → (levelOf p ≡ lastLevel → countOf job lastLevel ≡ 0) → phaseFits (nextPhase (job .counts) p) ≡ true
+  unfolding phaseFits nextPhase levelOf countOf
   next-fits Blanking h last = refl
   next-fits (Level d) h last =
       go (eqb (countOf job d) 0) refl
@@ -156,7 +149,7 @@ module _ (job : Job) (coherent : isCoherent job ≡ true) where
           and-both (leb 1 (d + 1)) (leb (d + 1) lastLevel) (le-leb 1 (d + 1) (omega arith)) (le-leb (d + 1) lastLevel (omega arith))
   next-fits (Finished d) h last = h
 
-  next-counts : (p : Phase) (d : ℕ) → getD (nextCounts job p) d 0 ≤ countLimit
+  next-counts : (p : Phase) (d : ℕ) → getD (nextCounts (job .counts) p) d 0 ≤ countLimit
   unfolding nextCounts countOf
   next-counts Blanking d = set-fits (job .counts) 0 1 d countLimit (λ e. one-fits) (facts .counts-fit d)
   next-counts (Level l) d = facts .counts-fit d
@@ -168,8 +161,8 @@ module _ (job : Job) (coherent : isCoherent job ≡ true) where
       facts-coherent (closed job)
       (record {
         begins = facts .begins;
-        phase-fits = next-fits (job .phase) (facts .phase-fits) (past-facts unpast);
-        passed-fits = λ j l. omega (arith, replicate-zero 64 j);
+        phase-fits = next-fits (job .phase) (facts .phase-fits) (past-facts job unpast);
+        passed-fits = λ j l. omega (arith, replicate-zero segmentLimit j);
         waiting-fits = facts .waiting-fits;
         counts-fit = next-counts (job .phase);
       })
@@ -185,28 +178,24 @@ module _ (job : Job) (coherent : isCoherent job ≡ true) where
 
   module _ (j : ℕ) (segment log : List ℕ) (room : countOf job (levelOf (job .phase)) + stackCountAt job j ≤ countLimit) where
     abbrev marked : Marks
-    marked =
-        markAll (levelOf (job .phase)) (pending job j log) (record { segment = segment; count = countOf job (levelOf (job .phase)) })
+    marked = markAll (job .size) (levelOf (job .phase)) (indexesOf (job .size) j (pending job j log)) (marksFrom job segment)
 
     settled-count : settleRefusal job j (length segment) log ≡ 0 → marked .count ≤ countLimit
+    unfolding stackCountAt stackCountIn
     settled-count h =
         let f = settle-facts job j (length segment) log h in
         omega (
           arith,
-          all-budget (levelOf (job .phase)) (stackCountAt job j) (pending job j log)
-              (record { segment = segment; count = countOf job (levelOf (job .phase)) })
-              (f .1)
-              (f .0 .long),
+          all-budget (job .size) (levelOf (job .phase)) j (stackCountAt job j) (pending job j log) (marksFrom job segment)
+              (let l : stackCountAt job j ≤ job .size = omega arith in l) (f .1) (f .0 .long),
           tally-le (λ i. eqb (entryAt segment i) 3) (stackCountAt job j),
         )
 
     settled-coherent : settleRefusal job j (length segment) log ≡ 0
-        → isCoherent (progressed job (job .phase) (job .passed) (set (job .waiting) j 0) (set (job .counts) (levelOf (job .phase)) (marked .count)))
-        ≡ true
+        → isCoherent (markedJob job (job .passed) (set (job .waiting) j 0) marked) ≡ true
     unfolding progressed passedOf waitingOf countOf stackCountAt stackCountOf segmentCountOf
     settled-coherent h =
-        facts-coherent
-        (progressed job (job .phase) (job .passed) (set (job .waiting) j 0) (set (job .counts) (levelOf (job .phase)) (marked .count)))
+        facts-coherent (markedJob job (job .passed) (set (job .waiting) j 0) marked)
         (record {
           begins = facts .begins;
           phase-fits = facts .phase-fits;

@@ -4,7 +4,7 @@ use mathlib.Core.Logic.{_⊎_, inl, inr}
 use mathlib.Core.Bool.{Bool, true, false, not, _&&_, cond}
 use mathlib.Core.List.{List, []}
 use Prim.Native.Nat.{ℕ, suc, _+_, _-_, _/_, _%_, _≤_, _<_}
-use native.Mathlib.Nat.{div-add-mod'}
+use native.Mathlib.Nat.{div-add-mod', le-refl}
 use native.Mathlib.Numerals.{add-one}
 use native.Mathlib.Omega.{arith}
 use lib.Dec.{eqb}
@@ -19,20 +19,21 @@ use Rattle.graph.proofs.Counts.{found-goal, found-start, found-next, found-all}
 use Rattle.graph.proofs.Levels as Levels
 use Rattle.graph.proofs.Tally.{tally-none, tally-zero, tally-some}
 use Rattle.search.specs.Blank.{goalOf, blanked}
-use Rattle.search.specs.Build.{World}
+use Rattle.search.specs.Build.{World, withJob}
 use Rattle.search.specs.Close.{isDone, isReady, isPastLast, closeRefusal, nextPhase, nextCounts, closed, closeOf}
 use Rattle.search.specs.Entries.{entryAt, bytesFor, blank, setEntry}
 use Rattle.search.specs.JobState.{isCoherent, isFinished, levelOf, lastLevel, segmentCountOf, stackCountAt, passedOf, waitingOf, countOf, progressed}
+use Rattle.search.specs.Segments.{segmentLimit}
 use Rattle.search.specs.declared.Answer.{Answer}
 use Rattle.search.specs.declared.Job.{Job}
 use Rattle.search.specs.declared.Phase.{Phase}
 use Rattle.search.specs.declared.Phase.the-variants.{Blanking, Level, Finished}
-use Rattle.search.proofs.Accepted.{CloseFacts, close-facts, close-accepted}
+use Rattle.search.proofs.Accepted.{CloseFacts, past-facts, close-facts, close-accepted}
 use Rattle.search.proofs.EntryLaws.{get-set-same, get-set-other, blank-length, blank-entry, byte-inside, spare-inside}
 use Rattle.search.proofs.Invariant.{Shaped, Spares, Blanks, Searches, Ended, Invariant, entryIn, Looked, Logged, InPhase, blanking, searching, ended}
 use Rattle.search.proofs.SegmentLaws.{segment-some, stack-segment, stack-offset}
 use Rattle.search.proofs.Shapes.{size-is, segments-is, stacks-is, goal-is}
-use Rattle.search.proofs.Terms.{Terms, Given, N, G, m, goal, D, levelCount, some, depths, goal-here, depth-last}
+use Rattle.search.proofs.Terms.{Terms, Given, N, G, m, goal, D, levelCount, beyond, some, depths, goal-here, depth-last}
 
 -- ---- the entries of a blanked segment
 
@@ -60,20 +61,19 @@ module _ (job : Job) (j : ℕ) where
 -- ---- the world after a close
 
 first-level : 1 ≤ lastLevel
-unfolding lastLevel
 first-level = omega arith
 
 unfoldable pub closedWorld : World → World
-closedWorld w = record { job = closed (w .job); segments = w .segments; log = w .log }
+closedWorld w = withJob (closed (w .job)) w
 
 pub close-world : (w : World) → closeRefusal (w .job) ≡ 0
-    → _≡_ {A = World} (record { job = closeOf (w .job) .job; segments = w .segments; log = w .log }) (closedWorld w)
+    → _≡_ {A = World} (withJob (closeOf (w .job) .job) w) (closedWorld w)
 unfolding closedWorld
-close-world w h = ap (λ (o : Answer). record { job = o .job; segments = w .segments; log = w .log }) (close-accepted (w .job) h)
+close-world w h = ap (λ (o : Answer). withJob (o .job) w) (close-accepted (w .job) h)
 
 closed-passed : (w : World) (j : ℕ) → passedOf (closedWorld w .job) j ≡ 0
 unfolding closedWorld closed progressed passedOf
-closed-passed w j = replicate-zero 64 j
+closed-passed w j = replicate-zero segmentLimit j
 
 closed-waiting : (w : World) (j : ℕ) → waitingOf (closedWorld w .job) j ≡ waitingOf (w .job) j
 unfolding closedWorld closed progressed waitingOf
@@ -99,22 +99,28 @@ module _ {terms : Terms} {w : World} (shaped : Shaped terms w) where
         eqb-true (waitingOf (w .job) j) 0
         (and-right (eqb (passedOf (w .job) j) (stackCountAt (w .job) j)) (eqb (waitingOf (w .job) j) 0) done)
 
+-- with nothing passed and nothing waiting, no edge is looked at and nothing is logged
+module _ (terms : Terms) (w : World) where
+  no-look : (u v : ℕ) → Looked terms (closedWorld w .job) u v → ⊥
+  unfolding Looked
+  no-look u v l = omega (arith, l .0, closed-passed w (u / terms .S))
+
+  module _ (none : (j : ℕ) → waitingOf (w .job) j ≡ 0) where
+    no-log : (v : ℕ) → Logged terms w v → ⊥
+    unfolding Logged
+    no-log v l = omega (arith, l .1 .1, none (v / terms .S))
+
+    no-log-after : (v : ℕ) → Logged terms (closedWorld w) v → ⊥
+    unfolding Logged
+    no-log-after v l = omega (arith, l .1 .1, none (v / terms .S), closed-waiting w (v / terms .S))
+
+-- a level that has been searched whole, whichever way: nothing waits, and every stack of its depth is reached
+pub record Complete (terms : Terms) (w : World) (d : ℕ) : Type 0 where
+  pub none-waits : (j : ℕ) → waitingOf (w .job) j ≡ 0
+  pub reached : Levels.Reached (N terms) (D terms) d (Looked terms (w .job))
+
 module _ {terms : Terms} (given : Given terms) where
   module _ {w : World} (shaped : Shaped terms w) (ready : isReady (w .job) ≡ true) where
-    -- with nothing passed and nothing waiting, no edge is looked at and nothing is logged
-    no-look : (u v : ℕ) → Looked terms (closedWorld w .job) u v → ⊥
-    unfolding Looked
-    no-look u v l = omega (arith, l .0, closed-passed w (u / terms .S))
-
-    module _ (none : (j : ℕ) → waitingOf (w .job) j ≡ 0) where
-      no-log : (v : ℕ) → Logged terms w v → ⊥
-      unfolding Logged
-      no-log v l = omega (arith, l .1 .1, none (v / terms .S))
-
-      no-log-after : (v : ℕ) → Logged terms (closedWorld w) v → ⊥
-      unfolding Logged
-      no-log-after v l = omega (arith, l .1 .1, none (v / terms .S), closed-waiting w (v / terms .S))
-
     -- ---- from Blanking to Level 1
 
     module _ (blanks : Blanks terms w) where
@@ -170,7 +176,7 @@ module _ {terms : Terms} (given : Given terms) where
 
       counts-then : (i : ℕ) → countOf (closedWorld w .job) i ≡ getD (set (w .job .counts) 0 1) i 0
       unfolding closedWorld closed progressed countOf nextCounts
-      counts-then i = ap (λ (p : Phase). getD (nextCounts (w .job) p) i 0) (blanks .phase-is)
+      counts-then i = ap (λ (p : Phase). getD (nextCounts (w .job .counts) p) i 0) (blanks .phase-is)
 
       counts-later : (i : ℕ) → 0 < i → countOf (closedWorld w .job) i ≡ 0
       unfolding countOf
@@ -180,18 +186,18 @@ module _ {terms : Terms} (given : Given terms) where
       counts-first = counts-then 0 ∙ getD-set-same (w .job .counts) 0 1 0 (omega (arith, shaped .counts-length))
 
       closed-blanks : Searches terms (closedWorld w) 1
-      unfolding closedWorld closed progressed nextPhase
+      unfolding closedWorld closed progressed nextPhase countOf
       closed-blanks =
           let none : (j : ℕ) → waitingOf (closedWorld w .job) j ≡ 0 = λ j. closed-waiting w j ∙ blanks .none-waits j in
           record {
-            phase-is = ap (nextPhase (w .job)) (blanks .phase-is);
+            phase-is = ap (nextPhase (w .job .counts)) (blanks .phase-is);
             last = first-level;
             before = (goal terms, goal-here given, ap suc (depths given .goal));
             passed-fits = λ j. omega (arith, closed-passed w j);
             waiting-fits = λ j. omega (arith, none j);
             waiting-beyond = λ j h. none j;
             offsets = λ t i h l. absurd (omega (arith, none t));
-            level = Levels.level-start (depths given) blank-start blank-away (λ u v g h l. no-look u v l) (no-log-after (blanks .none-waits));
+            level = Levels.level-start (depths given) blank-start blank-away (λ u v g h l. no-look terms w u v l) (no-log-after terms w (blanks .none-waits));
             spares = blank-spares;
             counts-below = λ i h. subst (λ (x : ℕ). countOf (closedWorld w .job) x ≡ levelCount terms x)
                 (let e : 0 ≡ i = omega arith in e)
@@ -200,119 +206,142 @@ module _ {terms : Terms} (given : Given terms) where
             counts-above = λ i h. counts-later i (omega arith);
           }
 
-    -- ---- from a level to the next, or to the end
+    -- a level that is ready has been searched whole
 
     module _ {d : ℕ} (search : Searches terms w d) where
-      none-waits : (j : ℕ) → waitingOf (w .job) j ≡ 0
-      none-waits j = go (lt-or-ge j (G terms))
+      all-settled : (j : ℕ) → waitingOf (w .job) j ≡ 0
+      all-settled j = go (lt-or-ge j (G terms))
         where
           go : (j < G terms) ⊎ (G terms ≤ j) → waitingOf (w .job) j ≡ 0
           go (inl h) = ready-waiting shaped ready j h
           go (inr h) = search .waiting-beyond j h
 
-      reached : Levels.Reached (N terms) (D terms) d (Looked terms (w .job))
+      pub ready-complete : Complete terms w d
       unfolding Looked
-      reached =
-          Levels.reached-forward (depths given) (search .level .positive) (omega (arith, search .last))
-          (λ u k h e m. (
-            rw (ready-passed shaped ready (u / terms .S) (stack-segment (N terms) (terms .S) (some given) u h)) (stack-offset (N terms) (terms .S) (some given) u h),
-            (k, m, refl),
-          ))
-
-      -- the level's count is complete
-      pub count-whole : countOf (w .job) d ≡ levelCount terms d
-      count-whole = search .counts-here ∙ found-all (λ v. true) (search .level) (no-log none-waits) reached
-
-      -- a level's Close leaves the counts of the levels up to it, and 0 above
-      closed-counts : (i : ℕ) → i ≤ d → countOf (closedWorld w .job) i ≡ levelCount terms i
-      unfolding closedWorld closed progressed countOf nextCounts
-      closed-counts i l = ap (λ (p : Phase). getD (nextCounts (w .job) p) i 0) (search .phase-is) ∙ go (eq-or-ne i d)
-        where
-          go : (i ≡ d) ⊎ (i ≡ d → ⊥) → countOf (w .job) i ≡ levelCount terms i
-          go (inl e) = subst (λ (x : ℕ). countOf (w .job) x ≡ levelCount terms x) (sym e) count-whole
-          go (inr ne) = search .counts-below i (omega arith)
-
-      closed-above : (i : ℕ) → d < i → countOf (closedWorld w .job) i ≡ 0
-      unfolding closedWorld closed progressed countOf nextCounts
-      closed-above i l = ap (λ (p : Phase). getD (nextCounts (w .job) p) i 0) (search .phase-is) ∙ search .counts-above i l
-
-      level-spares : Spares terms (closedWorld w)
-      unfolding closedWorld
-      level-spares = record { spare = search .spares .spare }
-
-      -- where the level's count is not 0 some stack is at that depth
-      level-some : (countOf (w .job) d ≡ 0 → ⊥) → (v : ℕ) × (v < N terms) × (D terms v ≡ d)
-      level-some ne =
-          let r = tally-some (λ v. eqb (D terms v) d) (N terms) (omega (arith, count-whole)) in
-          (r .0, r .1, eqb-true (D terms (r .0)) d (r .2))
-
-      closed-next : (countOf (w .job) d ≡ 0 → ⊥) → Searches terms (closedWorld w) (suc d)
-      unfolding closedWorld closed progressed nextPhase
-      closed-next ne =
-          let v = level-some ne in
-          let none : (j : ℕ) → waitingOf (closedWorld w .job) j ≡ 0 = λ j. closed-waiting w j ∙ none-waits j in
+      ready-complete =
           record {
-            phase-is = ap (nextPhase (w .job)) (search .phase-is)
-                ∙ ap (λ (t : Bool). cond t (Finished (d - 1)) (Level (d + 1))) (ne-eqb (countOf (w .job) d) 0 ne)
-                ∙ ap Level (add-one d);
-            last = omega (arith, depth-last given (v .0) (v .1), v .2);
-            before = (v .0, v .1, ap suc (v .2));
-            passed-fits = λ j. omega (arith, closed-passed w j);
-            waiting-fits = λ j. omega (arith, none j);
-            waiting-beyond = λ j h. none j;
-            offsets = λ t i h l. absurd (omega (arith, none t));
-            level = Levels.level-close (search .level) (no-log none-waits) reached (λ u v g h l. no-look u v l) (no-log-after none-waits);
-            spares = level-spares;
-            counts-below = λ i h. closed-counts i (omega arith);
-            counts-here = closed-above (suc d) (omega arith) ∙ sym (found-next (λ v. true) (search .level));
-            counts-above = λ i h. closed-above i (omega arith);
+            none-waits = all-settled;
+            reached = Levels.reached-forward (depths given) (search .level .positive) (omega (arith, search .last))
+                (λ u k h e m. (
+                  rw (ready-passed shaped ready (u / terms .S) (stack-segment (N terms) (terms .S) (some given) u h)) (stack-offset (N terms) (terms .S) (some given) u h),
+                  (k, m, refl),
+                ));
           }
 
-      module _ (empty : countOf (w .job) d ≡ 0) where
-        -- nothing is at depth d, so nothing is deeper
-        level-empty : (v : ℕ) → v < N terms → D terms v ≡ d → ⊥
-        level-empty v h e =
-            never (eq-eqb (D terms v) d e) (tally-zero (λ u. eqb (D terms u) d) (N terms) (sym count-whole ∙ empty) v h)
+  -- ---- from a level to the next, or to the end, however it was searched
 
-        all-above : (v : ℕ) → v < N terms → (D terms v < d) × (entryIn (terms .S) (w .segments) v ≡ D terms v % 3)
-        all-above v h = go (Levels.level-end (depths given) (search .level) level-empty v h)
-          where
-            go : ((D terms v < d) × (entryIn (terms .S) (w .segments) v ≡ D terms v % 3))
-                ⊎ ((D terms v ≡ suc lastLevel) × (entryIn (terms .S) (w .segments) v ≡ 3))
-                → (D terms v < d) × (entryIn (terms .S) (w .segments) v ≡ D terms v % 3)
-            go (inl r) = r
-            go (inr r) = absurd (omega (arith, r .0, depth-last given v h))
+  module _ {w : World} {d : ℕ} (search : Searches terms w d) (complete : Complete terms w d) where
+    -- the level's count is complete
+    pub count-whole : countOf (w .job) d ≡ levelCount terms d
+    count-whole = search .counts-here ∙ found-all (λ v. true) (search .level) (no-log terms w (complete .none-waits)) (complete .reached)
 
-        closed-last : Ended terms (closedWorld w) (d - 1)
-        unfolding closedWorld closed progressed nextPhase
-        closed-last =
-            let v = search .before in
-            record {
-              phase-is = ap (nextPhase (w .job)) (search .phase-is)
-                  ∙ ap (λ (t : Bool). cond t (Finished (d - 1)) (Level (d + 1))) (eq-eqb (countOf (w .job) d) 0 empty);
-              last = omega (arith, search .last, search .level .positive);
-              none-passed = closed-passed w;
-              none-waits = λ j. closed-waiting w j ∙ none-waits j;
-              entries = λ v h. all-above v h .1;
-              spares = level-spares;
-              counts = λ i. go i (lt-or-ge d i);
-              greatest = λ v h. omega (arith, all-above v h .0);
-              deepest = (v .0, v .1, omega (arith, v .2));
-            }
-          where
-            go : (i : ℕ) → (d < i) ⊎ (i ≤ d) → countOf (closedWorld w .job) i ≡ levelCount terms i
-            go i (inl h) =
-                closed-above i h
-                ∙ sym (tally-none (λ v. eqb (D terms v) i) (N terms) (λ v l. ne-eqb (D terms v) i (λ q. omega (arith, all-above v l .0))))
-            go i (inr h) = closed-counts i h
+    -- a level's Close leaves the counts of the levels up to it, and 0 above
+    closed-counts : (i : ℕ) → i ≤ d → countOf (closedWorld w .job) i ≡ levelCount terms i
+    unfolding closedWorld closed progressed countOf nextCounts
+    closed-counts i l = ap (λ (p : Phase). getD (nextCounts (w .job .counts) p) i 0) (search .phase-is) ∙ go (eq-or-ne i d)
+      where
+        go : (i ≡ d) ⊎ (i ≡ d → ⊥) → countOf (w .job) i ≡ levelCount terms i
+        go (inl e) = subst (λ (x : ℕ). countOf (w .job) x ≡ levelCount terms x) (sym e) count-whole
+        go (inr ne) = search .counts-below i (omega arith)
+
+    closed-above : (i : ℕ) → d < i → countOf (closedWorld w .job) i ≡ 0
+    unfolding closedWorld closed progressed countOf nextCounts
+    closed-above i l = ap (λ (p : Phase). getD (nextCounts (w .job .counts) p) i 0) (search .phase-is) ∙ search .counts-above i l
+
+    level-spares : Spares terms (closedWorld w)
+    unfolding closedWorld
+    level-spares = record { spare = search .spares .spare }
+
+    -- where the level's count is not 0 some stack is at that depth
+    level-some : (countOf (w .job) d ≡ 0 → ⊥) → (v : ℕ) × (v < N terms) × (D terms v ≡ d)
+    level-some ne =
+        let r = tally-some (λ v. eqb (D terms v) d) (N terms) (omega (arith, count-whole)) in
+        (r .0, r .1, eqb-true (D terms (r .0)) d (r .2))
+
+    -- 14 keeps a level that brought stacks below the last
+    below-last : isPastLast (w .job) ≡ false → (countOf (w .job) d ≡ 0 → ⊥) → suc d ≤ lastLevel
+    unfolding levelOf
+    below-last unpast ne = go (eq-or-ne d lastLevel)
+      where
+        go : (d ≡ lastLevel) ⊎ (d ≡ lastLevel → ⊥) → suc d ≤ lastLevel
+        go (inl e) = absurd (ne (ap (countOf (w .job)) e ∙ past-facts (w .job) unpast (ap levelOf (search .phase-is) ∙ e)))
+        go (inr e) = omega (arith, search .last)
+
+    closed-next : isPastLast (w .job) ≡ false → (countOf (w .job) d ≡ 0 → ⊥) → Searches terms (closedWorld w) (suc d)
+    unfolding closedWorld closed progressed nextPhase countOf
+    closed-next unpast ne =
+        let v = level-some ne in
+        let none : (j : ℕ) → waitingOf (closedWorld w .job) j ≡ 0 = λ j. closed-waiting w j ∙ complete .none-waits j in
+        record {
+          phase-is = ap (nextPhase (w .job .counts)) (search .phase-is)
+              ∙ ap (λ (t : Bool). cond t (Finished (d - 1)) (Level (d + 1))) (ne-eqb (countOf (w .job) d) 0 ne)
+              ∙ ap Level (add-one d);
+          last = below-last unpast ne;
+          before = (v .0, v .1, ap suc (v .2));
+          passed-fits = λ j. omega (arith, closed-passed w j);
+          waiting-fits = λ j. omega (arith, none j);
+          waiting-beyond = λ j h. none j;
+          offsets = λ t i h l. absurd (omega (arith, none t));
+          level = Levels.level-close (search .level) (no-log terms w (complete .none-waits)) (complete .reached) (λ u v g h l. no-look terms w u v l) (no-log-after terms w (complete .none-waits));
+          spares = level-spares;
+          counts-below = λ i h. closed-counts i (omega arith);
+          counts-here = closed-above (suc d) (omega arith) ∙ sym (found-next (λ v. true) (search .level));
+          counts-above = λ i h. closed-above i (omega arith);
+        }
+
+    module _ (empty : countOf (w .job) d ≡ 0) where
+      -- nothing is at depth d, so nothing is deeper
+      level-empty : (v : ℕ) → v < N terms → D terms v ≡ d → ⊥
+      level-empty v h e =
+          never (eq-eqb (D terms v) d e) (tally-zero (λ u. eqb (D terms u) d) (N terms) (sym count-whole ∙ empty) v h)
+
+      all-above : (v : ℕ) → v < N terms → D terms v < beyond → (D terms v < d) × (entryIn (terms .S) (w .segments) v ≡ D terms v % 3)
+      all-above v h near = go (Levels.level-end (depths given) (search .level) level-empty v h)
+        where
+          go : ((D terms v < d) × (entryIn (terms .S) (w .segments) v ≡ D terms v % 3))
+              ⊎ ((D terms v ≡ beyond) × (entryIn (terms .S) (w .segments) v ≡ 3))
+              → (D terms v < d) × (entryIn (terms .S) (w .segments) v ≡ D terms v % 3)
+          go (inl r) = r
+          go (inr r) = absurd (omega (arith, r .0))
+
+      closed-last : Ended terms (closedWorld w) (d - 1)
+      unfolding closedWorld closed progressed nextPhase countOf
+      closed-last =
+          let v = search .before in
+          record {
+            phase-is = ap (nextPhase (w .job .counts)) (search .phase-is)
+                ∙ ap (λ (t : Bool). cond t (Finished (d - 1)) (Level (d + 1))) (eq-eqb (countOf (w .job) d) 0 empty);
+            last = omega (arith, search .last, search .level .positive);
+            none-passed = closed-passed w;
+            none-waits = λ j. closed-waiting w j ∙ complete .none-waits j;
+            entries = λ v h near. all-above v h near .1;
+            greatest = λ v h near. omega (arith, all-above v h near .0);
+            spares = level-spares;
+            counts = λ i near. go i near (lt-or-ge d i);
+            counts-past = λ i l. past i (lt-or-ge d i) l;
+            deepest = (v .0, v .1, omega (arith, v .2));
+          }
+        where
+          go : (i : ℕ) → i < beyond → (d < i) ⊎ (i ≤ d) → countOf (closedWorld w .job) i ≡ levelCount terms i
+          go i near (inl h) =
+              closed-above i h
+              ∙ sym (tally-none (λ v. eqb (D terms v) i) (N terms) (λ v l. ne-eqb (D terms v) i (λ q. omega (arith, all-above v l (omega arith) .0))))
+          go i near (inr h) = closed-counts i h
+
+          -- the level that closed is empty, and so is each above it
+          past : (i : ℕ) → (d < i) ⊎ (i ≤ d) → d - 1 < i → countOf (closedWorld w .job) i ≡ 0
+          past i (inl h) l = closed-above i h
+          past i (inr h) l =
+              let e : i ≡ d = omega (arith, search .level .positive) in
+              subst (λ (x : ℕ). countOf (closedWorld w .job) x ≡ 0) (sym e) (closed-counts d (le-refl d) ∙ sym count-whole ∙ empty)
 
 -- ---- whatever the phase
 
-next-counts-length : (job : Job) (p : Phase) → length (nextCounts job p) ≡ length (job .counts)
+next-counts-length : (counts : List ℕ) (p : Phase) → length (nextCounts counts p) ≡ length counts
 unfolding nextCounts
-next-counts-length job Blanking = length-set (job .counts) 0 1
-next-counts-length job (Level d) = refl
-next-counts-length job (Finished d) = refl
+next-counts-length counts Blanking = length-set counts 0 1
+next-counts-length counts (Level d) = refl
+next-counts-length counts (Finished d) = refl
 
 closed-shaped : {terms : Terms} {w : World} → Shaped terms w → Shaped terms (closedWorld w)
 unfolding closedWorld closed progressed
@@ -321,7 +350,7 @@ closed-shaped {w} shaped =
       terms-is = shaped .terms-is;
       passed-length = refl;
       waiting-length = shaped .waiting-length;
-      counts-length = next-counts-length (w .job) (w .job .phase) ∙ shaped .counts-length;
+      counts-length = next-counts-length (w .job .counts) (w .job .phase) ∙ shaped .counts-length;
       segments-length = shaped .segments-length;
       segment-bytes = shaped .segment-bytes;
       log-length = shaped .log-length;
@@ -337,8 +366,8 @@ close-keeps {terms} {w} given invariant h =
     facts = close-facts (w .job) h
 
     level : (d : ℕ) → Searches terms w d → (countOf (w .job) d ≡ 0) ⊎ (countOf (w .job) d ≡ 0 → ⊥) → InPhase terms (closedWorld w)
-    level d s (inl e) = ended (d - 1) (closed-last given (invariant .shaped) (facts .ready) s e)
-    level d s (inr ne) = searching (suc d) (closed-next given (invariant .shaped) (facts .ready) s ne)
+    level d s (inl e) = ended (d - 1) (closed-last given s (ready-complete given (invariant .shaped) (facts .ready) s) e)
+    level d s (inr ne) = searching (suc d) (closed-next given s (ready-complete given (invariant .shaped) (facts .ready) s) (facts .fits) ne)
 
     go : InPhase terms w → InPhase terms (closedWorld w)
     go (blanking s) = searching 1 (closed-blanks given (invariant .shaped) (facts .ready) s)
@@ -367,7 +396,7 @@ never-past {terms} {w} given invariant ready = past-not (w .job) (go (invariant 
     last : (d : ℕ) → Searches terms w d → d ≡ lastLevel → (countOf (w .job) d ≡ 0) ⊎ (countOf (w .job) d ≡ 0 → ⊥) → countOf (w .job) d ≡ 0
     last d s e (inl z) = z
     last d s e (inr ne) =
-        let v = level-some given (invariant .shaped) ready s ne in absurd (omega (arith, v .2, depth-last given (v .0) (v .1)))
+        let v = level-some given s (ready-complete given (invariant .shaped) ready s) ne in absurd (omega (arith, v .2, depth-last given (v .0) (v .1)))
 
     go : InPhase terms w
         → levelOf (w .job .phase) ≡ lastLevel → countOf (w .job) lastLevel ≡ 0

@@ -2,13 +2,13 @@
 use mathlib.Core.Path.{_≡_, refl, sym, ap, _∙_, subst}
 use mathlib.Core.Logic.{_⊎_, inl, inr}
 use mathlib.Core.Bool.{Bool, true, false, cond}
-use Prim.Native.Nat.{ℕ, zero, suc, _+_, _*_, _≤_, _<_}
+use Prim.Native.Nat.{ℕ, zero, suc, _≤_, _<_}
 use native.Mathlib.Omega.{arith}
 use lib.Dec.{ltb}
 use borrow.Author.Tests.{ltb-true, ltb-false, lt-ltb, le-ltb}
 use Rattle.base.proofs.Radix.{digits-less}
 use Rattle.base.proofs.Tests.{test-cases, never, lt-or-ge}
-use Rattle.search.specs.Build.{World, Call, own, doBlank, doExpand, doSettle, doClose, outcome, Outcome, lent, kept}
+use Rattle.search.specs.Build.{World, Lengths, Call, own, doBlank, doExpand, doSettle, doClose, outcome, Outcome, lent, kept}
 use Rattle.search.specs.Drive.{isOpen, isPending, firstOpen, firstPending, nextCall, advanced, drive, mostCalls}
 use Rattle.search.specs.JobState.{isBlanking, isFinished, levelOf, lastLevel, segmentCountOf, stackCountAt, passedOf, waitingOf}
 use Rattle.search.specs.Segments.{segmentCount}
@@ -20,32 +20,32 @@ use Rattle.search.proofs.ExpandCases.{first-before, first-passes}
 use Rattle.search.proofs.Invariant.{Blanks, Searches, Invariant, InPhase, blanking, searching, ended}
 use Rattle.search.proofs.Shapes.{segments-is, stacks-is}
 use Rattle.search.proofs.Steps.{step-keeps}
-use Rattle.search.proofs.WorkLeft.{workLeft, levelsLeft, stacksLeft, logsLeft, stacks-le, logs-le}
-use Rattle.search.proofs.Terms.{Terms, termsOf, Given, N, G, m, bytesOf, wordsOf}
+use Rattle.search.proofs.WorkLeft.{workLeft, levelsLeft, phaseLeft, phaseMost, phase-less}
+use Rattle.search.proofs.Terms.{Terms, termsOf, Given, N, G, m, lengthsOf}
 
 -- ---- the driver's choice, case by case
 
-module _ {bytes : ℕ → ℕ} {words : ℕ} (job : Job) where
+module _ {right : Lengths} (job : Job) where
   module _ (blanking : isBlanking (job .phase) ≡ true) where
-    pub next-blank : firstOpen job < segmentCountOf job → nextCall {bytes = bytes} {words = words} job ≡ doBlank (firstOpen job) own
+    pub next-blank : firstOpen job < segmentCountOf job → nextCall {right = right} job ≡ doBlank (firstOpen job) own
     unfolding nextCall
     next-blank h = rw (blanking, lt-ltb (firstOpen job) (segmentCountOf job) h)
 
-    pub next-level : segmentCountOf job ≤ firstOpen job → nextCall {bytes = bytes} {words = words} job ≡ doClose
+    pub next-level : segmentCountOf job ≤ firstOpen job → nextCall {right = right} job ≡ doClose
     unfolding nextCall
     next-level h = rw (blanking, le-ltb (firstOpen job) (segmentCountOf job) h)
 
   module _ (blanked : isBlanking (job .phase) ≡ false) where
-    pub next-settle : firstPending job < segmentCountOf job → nextCall {bytes = bytes} {words = words} job ≡ doSettle (firstPending job) own own
+    pub next-settle : firstPending job < segmentCountOf job → nextCall {right = right} job ≡ doSettle (firstPending job) own own
     unfolding nextCall
     next-settle h = rw (blanked, lt-ltb (firstPending job) (segmentCountOf job) h)
 
     pub next-expand : segmentCountOf job ≤ firstPending job → firstOpen job < segmentCountOf job
-        → nextCall {bytes = bytes} {words = words} job ≡ doExpand (firstOpen job) own own
+        → nextCall {right = right} job ≡ doExpand (firstOpen job) own own
     unfolding nextCall
     next-expand h l = rw (blanked, le-ltb (firstPending job) (segmentCountOf job) h, lt-ltb (firstOpen job) (segmentCountOf job) l)
 
-    pub next-close : segmentCountOf job ≤ firstPending job → segmentCountOf job ≤ firstOpen job → nextCall {bytes = bytes} {words = words} job ≡ doClose
+    pub next-close : segmentCountOf job ≤ firstPending job → segmentCountOf job ≤ firstOpen job → nextCall {right = right} job ≡ doClose
     unfolding nextCall
     next-close h l = rw (blanked, le-ltb (firstPending job) (segmentCountOf job) h, le-ltb (firstOpen job) (segmentCountOf job) l)
 
@@ -161,20 +161,20 @@ module _ {terms : Terms} (given : Given terms) {w : World} (invariant : Invarian
 -- ---- the driver's steps
 
 -- the driver's call is lent the build's own, whose lengths a call does not depend on
-next-same : (bytes bytes′ : ℕ → ℕ) (words words′ : ℕ) (w : World)
-    → outcome {bytes = bytes} {words = words} w (nextCall (w .job)) ≡ outcome {bytes = bytes′} {words = words′} w (nextCall (w .job))
+next-same : (right right′ : Lengths) (w : World)
+    → outcome {right = right} w (nextCall (w .job)) ≡ outcome {right = right′} w (nextCall (w .job))
 unfolding nextCall outcome lent kept
-next-same bytes bytes′ words words′ w =
+next-same right right′ w =
     go (isBlanking (w .job .phase)) (ltb (firstOpen (w .job)) (segmentCountOf (w .job))) (ltb (firstPending (w .job)) (segmentCountOf (w .job)))
   where
-    chosen : {b : ℕ → ℕ} {l : ℕ} → Bool → Bool → Bool → Call b l
+    chosen : {r : Lengths} → Bool → Bool → Bool → Call r
     chosen starts left pending =
         cond starts (cond left (doBlank (firstOpen (w .job)) own) doClose)
         (cond pending (doSettle (firstPending (w .job)) own own) (cond left (doExpand (firstOpen (w .job)) own own) doClose))
 
     go : (starts left pending : Bool)
-        → outcome {bytes = bytes} {words = words} w (chosen starts left pending)
-        ≡ outcome {bytes = bytes′} {words = words′} w (chosen starts left pending)
+        → outcome {right = right} w (chosen starts left pending)
+        ≡ outcome {right = right′} w (chosen starts left pending)
     go true true pending = refl
     go true false pending = refl
     go false left true = refl
@@ -198,32 +198,20 @@ levels-most (Level d) = omega arith
 levels-most (Finished d) = omega arith
 
 pub work-most : (N S : ℕ) (job : Job) → workLeft N S job < mostCalls N (segmentCount N S)
-unfolding workLeft mostCalls
+unfolding workLeft phaseMost mostCalls
 work-most N S job =
-    let levels = levelsLeft (job .phase) in
-    let most = suc (suc lastLevel) in
     omega (
       arith,
-      digits-less (suc (segmentCount N S)) (levels * suc N + stacksLeft N S job) (logsLeft N S job) (most * suc N) 0
-          (omega (arith, logs-le N S job))
-          (omega (
-            arith,
-            digits-less (suc N) levels (stacksLeft N S job) most 0 (omega (arith, stacks-le N S job)) (levels-most (job .phase)),
-          )),
+      digits-less (phaseMost N S) (levelsLeft (job .phase)) (phaseLeft N S job) (suc (suc lastLevel)) 0 (phase-less N S job) (levels-most (job .phase)),
     )
 
 module _ {terms : Terms} (given : Given terms) where
   module _ {w : World} (invariant : Invariant terms w) where
-    advanced-is : advanced w ≡ outcome {bytes = bytesOf terms} {words = wordsOf terms} w (nextCall (w .job)) .world
+    advanced-is : advanced w ≡ outcome {right = lengthsOf terms} w (nextCall (w .job)) .world
     unfolding advanced
     advanced-is =
         ap (λ (o : Outcome). o .world)
-        (next-same
-        (bytesOf (termsOf (w .job)))
-        (bytesOf terms)
-        (wordsOf (termsOf (w .job)))
-        (wordsOf terms)
-        w)
+        (next-same (lengthsOf (termsOf (w .job))) (lengthsOf terms) w)
 
     pub advanced-keeps : Invariant terms (advanced w)
     advanced-keeps = subst (Invariant terms) (sym advanced-is) (step-keeps given invariant (nextCall (w .job)))
@@ -234,7 +222,7 @@ module _ {terms : Terms} (given : Given terms) where
     advanced-falls unfinished =
         let a = next-advances given invariant unfinished in
         subst (λ (x : World). workLeft (N terms) (terms .S) (x .job) < workLeft (N terms) (terms .S) (w .job)) (sym advanced-is)
-        (subst (λ (c : Call (bytesOf terms) (wordsOf terms)). workLeft (N terms) (terms .S) (outcome w c .world .job) < workLeft (N terms) (terms .S) (w .job))
+        (subst (λ (c : Call (lengthsOf terms)). workLeft (N terms) (terms .S) (outcome w c .world .job) < workLeft (N terms) (terms .S) (w .job))
         (a .1)
         (a .0 .falls))
 

@@ -13,7 +13,7 @@ use Rattle.base.proofs.Tests.{and-left, and-right, test-cases, lt-or-ge, eq-or-
 use Rattle.base.specs.Words.{firstFrom}
 use Rattle.search.specs.Entries.{entryAt}
 use Rattle.search.specs.Expand.{Expansion, isParent, childrenOf, placeChild, placeAll, passOne, waitFor, expandStack, expandNext}
-use Rattle.search.specs.JobState.{levelOf, segmentCountOf}
+use Rattle.search.specs.JobState.{levelOf, segmentCountOf, movesOf}
 use Rattle.search.specs.Marks.{markOne}
 use Rattle.search.specs.Logs.{logOne, fallingIn, lacksRoom}
 use Rattle.search.specs.declared.Job.{Job}
@@ -73,7 +73,7 @@ module _ (S t : ℕ) where
 
 module _ (job : Job) (j : ℕ) where
   pub place-here : (c : ℕ) (e : Expansion) → c / job .size ≡ j
-      → placeChild job j c e ≡ record { at = e .at; waits = e .waits; on = e .on; marks = markOne (levelOf (job .phase)) (c % job .size) (e .marks); logs = e .logs }
+      → placeChild job j c e ≡ record { at = e .at; waits = e .waits; on = e .on; marks = markOne (job .size) (levelOf (job .phase)) c (e .marks); logs = e .logs }
   unfolding placeChild
   place-here c e h = rw (eq-eqb (c / job .size) j h)
 
@@ -96,7 +96,7 @@ module _ (job : Job) (j : ℕ) where
   module _ (e : Expansion) where
     -- the children of the next stack, and the segment that they wait for: the lowest other one that lacks room, or G
     abbrev pub nextChildren : List ℕ
-    nextChildren = childrenOf (job .kind) (job .n) (j * job .size + e .at)
+    nextChildren = childrenOf (job .kind) (job .n) (movesOf job) (j * job .size + e .at)
 
     abbrev pub nextWait : ℕ
     nextWait = firstFrom (lacksRoom (job .size) (job .room) j (e .logs .waiting) nextChildren) 0 (segmentCountOf job)

@@ -13,9 +13,10 @@ use Rattle.base.proofs.Tests.{eq-or-ne}
 use Rattle.graph.proofs.Tally.{tally-le}
 use Rattle.search.specs.Entries.{entryAt, bytesFor}
 use Rattle.search.specs.Expand.{Expansion, placeChild, placeAll, passOne, waitFor, expandNext, expandRun, expansion, expandedJob, expandRefusal, expandOf}
-use Rattle.search.specs.JobState.{countLimit, levelOf, segmentCountOf, stackCountAt, stackCountOf, passedOf, waitingOf, countOf, isCoherent, progressed}
+use Rattle.search.specs.JobState.{countLimit, levelOf, segmentCountOf, stackCountAt, stackCountOf, movesOf, passedOf, waitingOf, countOf, isCoherent, progressed}
 use Rattle.search.specs.Segments.{segmentLimit}
 use Rattle.search.specs.Logs.{logOne, fallingIn, lacksRoom}
+use Rattle.search.specs.Marks.{marksFrom}
 use Rattle.search.specs.declared.Expanded.{Expanded}
 use Rattle.search.specs.declared.Job.{Job}
 use Rattle.search.proofs.Accepted.{expand-facts, expand-accepted, expand-refused}
@@ -23,7 +24,7 @@ use Rattle.search.proofs.CallsCoherent.{set-fits, unseenIn, mark-budget
 use Rattle.search.proofs.Children.{children-inside}
 use Rattle.search.proofs.Coherence.{Coherent, coherent-facts, facts-coherent, begin-given}
 use Rattle.search.proofs.ExpandCases.{NextCase, stopped, skipped, blocked, expanded, next-case, next-at, nextChildren, nextWait, first-before, room-enough, falling-here, falling-elsewhere, place-here, place-elsewhere, place-at}
-use Rattle.search.proofs.Terms.{termsOf, Given}
+use Rattle.search.proofs.Terms.{termsOf, Given, laws}
 use Rattle.search.proofs.MarkLaws.{mark-length}
 use Rattle.search.proofs.SegmentLaws.{SegmentSizeFacts, segment-size-facts, segment-stack, stack-segment, stack-offset}
 
@@ -57,7 +58,7 @@ module _ (job : Job) (coherent : isCoherent job ≡ true) (j : ℕ) (inside : j 
     free : (t : ℕ) → t < segmentCountOf job → (t ≡ j → ⊥) → getD (e .logs .waiting) t 0 + fallingIn (job .size) t children ≤ job .room
 
   few : (t : ℕ) → t < segmentCountOf job → t < segmentLimit
-  unfolding segmentCountOf segmentLimit
+  unfolding segmentCountOf
   few t h = omega (arith, sizes .few)
 
   module _ (total c : ℕ) (children : List ℕ) (e : Expansion) (low : c < stackCountOf job) (fitting : Fitting total e) (room : Room (c ∷ children) e) where
@@ -71,13 +72,13 @@ module _ (job : Job) (coherent : isCoherent job ≡ true) (j : ℕ) (inside : j 
 
     placed-here : c / job .size ≡ j → Fitting total (placeChild job j c e) × Room children (placeChild job j c e)
     placed-here h =
+        let S = job .size in
         let d = levelOf (job .phase) in
-        let i = c % job .size in
-        let fits : i < stackCountAt job j = subst (λ (t : ℕ). i < stackCountAt job t) h offset in
+        let fits : c % S < stackCountAt job j = subst (λ (t : ℕ). c % S < stackCountAt job t) h offset in
         rw (place-here job j c e h) (
           record {
-            bytes = mark-length d i (e .marks) ∙ fitting .bytes;
-            budget = mark-budget d i (stackCountAt job j) (e .marks) fits (fitting .bytes) ∙ fitting .budget;
+            bytes = mark-length S d c (e .marks) ∙ fitting .bytes;
+            budget = mark-budget S d c (stackCountAt job j) (e .marks) fits (fitting .bytes) ∙ fitting .budget;
             at-fits = fitting .at-fits;
             waiting = fitting .waiting;
           },
@@ -174,7 +175,7 @@ module _ (job : Job) (coherent : isCoherent job ≡ true) (j : ℕ) (inside : j 
 
       low : (i : ℕ) → i < length (nextChildren job j e) → getD (nextChildren job j e) i 0 < stackCountOf job
       low =
-          children-inside (job .kind) (job .n) (j * job .size + e .at) (given .in-range)
+          children-inside (job .kind) (job .n) (movesOf job) (j * job .size + e .at) (given .in-range) (laws given)
           (segment-stack (stackCountOf job) (job .size) some j (e .at) h)
 
       go : NextCase job j e → Fitting total (expandNext job j e)
@@ -208,7 +209,7 @@ module _ (job : Job) (coherent : isCoherent job ≡ true) (j : ℕ) (inside : j 
           at = passedOf job j;
           waits = false;
           on = 0;
-          marks = record { segment = segment; count = countOf job (levelOf (job .phase)) };
+          marks = marksFrom job segment;
           logs = record { log = log; waiting = job .waiting };
         })
         (omega arith)
@@ -240,5 +241,5 @@ expand-coherent job coherent j segment log room = go (eq-or-ne (expandRefusal jo
     go (inl e) =
         let f = expand-facts job j (length segment) (length log) e .0 in
         ap (λ (o : List ℕ × List ℕ × Expanded). isCoherent (o .2 .job)) (expand-accepted job j segment log e)
-        ∙ expanded-coherent job coherent j (f .inside) segment log (f .long) room
+        ∙ expanded-coherent job coherent j (f .called .inside) segment log (f .long) room
     go (inr ne) = ap (λ (o : List ℕ × List ℕ × Expanded). isCoherent (o .2 .job)) (expand-refused job j segment log ne) ∙ coherent

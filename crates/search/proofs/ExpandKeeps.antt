@@ -5,18 +5,16 @@ use mathlib.Core.Logic.{_⊎_, inl, inr}
 use mathlib.Core.Bool.{true, false}
 use mathlib.Core.List.{List, [], _∷_}
 use Prim.Native.Nat.{ℕ, zero, suc, _+_, _-_, _*_, _/_, _%_, _<_, _≤_}
-use native.Mathlib.Nat.{div-add-mod'}
 use native.Mathlib.Omega.{arith}
 use lib.ListN.{length, getD, set}
 use borrow.Author.Tests.{eqb-true, eq-eqb}
 use Rattle.base.proofs.Tests.{never, eq-or-ne}
 use Rattle.graph.specs.Walks.{isMove}
 use Rattle.graph.proofs.Levels.{expanded-all, child-near}
-use Rattle.search.specs.Build.{World, own, doExpand, outcome, lent, kept}
+use Rattle.search.specs.Build.{World, withJob, withSegment, withLog, Lengths, own, doExpand, outcome, lent, kept}
 use Rattle.search.specs.Entries.{entryAt}
 use Rattle.search.specs.Expand.{Expansion, isParent, childrenOf, placeChild, placeAll, passOne, waitFor, expandNext, expandRun, expansion, expandedJob, expandRefusal}
 use Rattle.search.specs.JobState.{stackCountOf, segmentCountOf, stackCountAt, levelOf, passedOf, countOf}
-use Rattle.search.specs.Marks.{markOne}
 use Rattle.search.specs.Logs.{logOne, fallingIn, lacksRoom}
 use Rattle.search.specs.declared.Expanded.{Expanded}
 use Rattle.search.proofs.Accepted.{expand-facts, expand-accepted}
@@ -24,10 +22,10 @@ use Rattle.search.proofs.Children.{child-listed, listed-child, children
 use Rattle.search.proofs.ExpandCases.{first-before, room-enough, falling-here, falling-elsewhere, place-here, place-elsewhere, place-at, NextCase, stopped, skipped, blocked, expanded, next-case, next-at, nextWait}
 use Rattle.search.proofs.Invariant.{entryIn}
 use Rattle.search.proofs.MarkLaws.{entry-place, marked-before, marked-after}
-use Rattle.search.proofs.SegmentLaws.{stack-segment, stack-offset, segment-stack}
+use Rattle.search.proofs.SegmentLaws.{stack-segment, segment-stack}
 use Rattle.search.proofs.Shapes.{segments-is}
 use Rattle.search.proofs.Staging.{Searching, Staged, Held, stage, stage-start, stage-mark, stage-marked, stage-log, stage-pass, stage-end, log-waiting, log-waiting-other, log-more, log-held}
-use Rattle.search.proofs.Terms.{Terms, termsOf, Given, N, G, m, moves, step, D, depths, some, few}
+use Rattle.search.proofs.Terms.{Terms, termsOf, Given, N, G, m, moves, step, D, laws, depths, some, few}
 
 -- with the terms and the level read from the job itself
 module _ (w : World) (given : Given (termsOf (w .job))) (search : Searching (termsOf (w .job)) w (levelOf (w .job .phase)))
@@ -95,15 +93,12 @@ module _ (w : World) (given : Given (termsOf (w .job))) (search : Searching (ter
 
       go : (c / S ≡ j) ⊎ (c / S ≡ j → ⊥) → PlacingOne c children e (placeChild (w .job) j c e)
       go (inl here) =
-          let fits : c % S < m terms j = subst (λ (u : ℕ). c % S < m terms u) here (stack-offset (N terms) S (some given) c h) in
-          let this : j * S + c % S ≡ c = omega (arith, div-add-mod' c S, ap (λ (x : ℕ). x * S) here) in
-          let marked = stage-marked given search j inside going (c % S) fits in
+          let marked = stage-marked given search j inside going c h here in
           rw (place-here (w .job) j c e here)
           (record {
-            going = stage-mark given search j inside going (c % S) fits
-                (subst (λ (v : ℕ). D terms v ≤ d) (sym this) near);
+            going = stage-mark given search j inside going c h here near;
             before = λ v l p i. p (marked-before marked v l i);
-            done = λ i. absurd (marked-after marked (ap (entryIn S (set (w .segments) j (markOne d (c % S) (e .marks) .segment))) this ∙ i));
+            done = λ i. absurd (marked-after marked i);
             roomy = λ u l ne. omega (arith, roomy u l ne, falling-elsewhere S u c children (λ q. ne (sym q ∙ here)));
           })
       go (inr ne) =
@@ -151,7 +146,7 @@ module _ (w : World) (given : Given (termsOf (w .job))) (search : Searching (ter
       entry = entry-place (N terms) S (some given) (w .segments) j (omega (arith, search .shaped .segments-length)) (e .marks .segment) (e .at) h
 
       children : List ℕ
-      children = childrenOf (w .job .kind) (w .job .n) u
+      children = childrenOf (w .job .kind) (w .job .n) (moves terms) u
 
       after : Expansion
       after = placeAll (w .job) j children e
@@ -162,7 +157,7 @@ module _ (w : World) (given : Given (termsOf (w .job))) (search : Searching (ter
 
       near : isParent d (entryAt (e .marks .segment) (e .at)) ≡ true → (k : ℕ) → k < length children → D terms (getD children k 0) ≤ d
       near due k l =
-          let c = listed-child (w .job .kind) (w .job .n) u k l in
+          let c = listed-child (w .job .kind) (w .job .n) (moves terms) u k l in
           subst (λ (v : ℕ). D terms v ≤ d) (sym (c .2))
           (child-near (depths given)
           (going .level) u (c .0) low (entry ∙ eqb-true (entryAt (e .marks .segment) (e .at)) ((d - 1) % 3) due) (c .1))
@@ -178,7 +173,7 @@ module _ (w : World) (given : Given (termsOf (w .job))) (search : Searching (ter
           )
 
       placing : isParent d (entryAt (e .marks .segment) (e .at)) ≡ true → G terms ≤ nextWait (w .job) j e → Placing children e after
-      placing due l = place-all children e going (children-inside (w .job .kind) (w .job .n) u (given .in-range) low) (near due) (roomy l)
+      placing due l = place-all children e going (children-inside (w .job .kind) (w .job .n) (moves terms) u (given .in-range) (laws given) low) (near due) (roomy l)
 
       at-same : after .at ≡ e .at
       at-same = place-at (w .job) j children e
@@ -186,7 +181,7 @@ module _ (w : World) (given : Given (termsOf (w .job))) (search : Searching (ter
       child : Placing children e after → (k : ℕ) → isMove (moves terms) k ≡ true
           → Placed after (step terms k (j * S + after .at))
       child placing k m =
-          let c = child-listed (w .job .kind) (w .job .n) u k m in
+          let c = child-listed (w .job .kind) (w .job .n) (moves terms) u k m in
           subst (Placed after) (c .2 ∙ ap (λ (x : ℕ). step terms k (j * S + x)) (sym at-same)) (placing .done (c .0) (c .1))
 
       go : NextCase (w .job) j e → Going (expandNext (w .job) j e)
@@ -224,28 +219,28 @@ module _ (w : World) (given : Given (termsOf (w .job))) (search : Searching (ter
       (stage-start given search j inside)
       (omega (arith, search .searches .passed-fits j))
 
-  own-keeps : (bytes : ℕ → ℕ) (words : ℕ) → expandRefusal (w .job) j (length (getD (w .segments) j [])) (length (w .log)) ≡ 0
-      → Searching terms (outcome {bytes = bytes} {words = words} w (doExpand j own own) .world) d
+  own-keeps : (right : Lengths) → expandRefusal (w .job) j (length (getD (w .segments) j [])) (length (w .log)) ≡ 0
+      → Searching terms (outcome {right = right} w (doExpand j own own) .world) d
   unfolding outcome lent kept stage expandedJob
-  own-keeps bytes words accepted =
+  own-keeps right accepted =
       let e = expansion (w .job) j (getD (w .segments) j []) (w .log) in
       subst (λ (x : World). Searching terms x d)
       (sym (ap leaves (expand-accepted (w .job) j (getD (w .segments) j []) (w .log) accepted)))
       (stage-end given search j inside expansion-going)
     where
       leaves : List ℕ × List ℕ × Expanded → World
-      leaves o = record { job = o .2 .job; segments = set (w .segments) j (o .0); log = o .1 }
+      leaves o = withJob (o .2 .job) (withLog (o .1) (withSegment j (o .0) w))
 
 module _ {terms : Terms} (given : Given terms) {w : World} {d : ℕ} (search : Searching terms w d) where
-  pub expand-keeps : (bytes : ℕ → ℕ) (words j : ℕ) → expandRefusal (w .job) j (length (getD (w .segments) j [])) (length (w .log)) ≡ 0
-      → Searching terms (outcome {bytes = bytes} {words = words} w (doExpand j own own) .world) d
+  pub expand-keeps : (right : Lengths) (j : ℕ) → expandRefusal (w .job) j (length (getD (w .segments) j [])) (length (w .log)) ≡ 0
+      → Searching terms (outcome {right = right} w (doExpand j own own) .world) d
   unfolding levelOf
-  expand-keeps bytes words j accepted =
+  expand-keeps right j accepted =
       subst₂
-      (λ (t : Terms) (e : ℕ). Given t → Searching t w e → j < G t → Searching t (outcome {bytes = bytes} {words = words} w (doExpand j own own) .world) e)
+      (λ (t : Terms) (e : ℕ). Given t → Searching t w e → j < G t → Searching t (outcome {right = right} w (doExpand j own own) .world) e)
       (search .shaped .terms-is)
       (ap levelOf (search .searches .phase-is))
-      (λ g s l. own-keeps w g s j l bytes words accepted)
+      (λ g s l. own-keeps w g s j l right accepted)
       given
       search
-      (rw (segments-is (search .shaped)) at (expand-facts (w .job) j (length (getD (w .segments) j [])) (length (w .log)) accepted .0 .inside))
+      (rw (segments-is (search .shaped)) at (expand-facts (w .job) j (length (getD (w .segments) j [])) (length (w .log)) accepted .0 .called .inside))

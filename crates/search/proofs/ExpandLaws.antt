@@ -12,7 +12,8 @@ use lib.Seq.{getD-set-same}
 use Rattle.base.proofs.Tests.{never, lt-or-ge}
 use Rattle.search.specs.Entries.{entryAt}
 use Rattle.search.specs.Expand.{Expansion, isParent, childrenOf, passOne, waitFor, expandNext, expandRun, expansion, expandedJob, expandOf, expandRefusal}
-use Rattle.search.specs.JobState.{levelOf, segmentCountOf, stackCountAt, passedOf, countOf, progressed}
+use Rattle.search.specs.JobState.{levelOf, segmentCountOf, stackCountAt, movesOf, passedOf, progressed}
+use Rattle.search.specs.Marks.{marksFrom}
 use Rattle.search.specs.Logs.{lacksRoom}
 use Rattle.search.specs.declared.Expanded.{Expanded}
 use Rattle.search.specs.declared.Job.{Job}
@@ -23,8 +24,8 @@ use Rattle.search.proofs.ExpandCases.{first-before, first-passes, place
 pub record MustWait (job : Job) (j : ℕ) (segment : List ℕ) (t : ℕ) : Type 0 where
   pub due : isParent (levelOf (job .phase)) (entryAt segment (passedOf job j)) ≡ true
   pub inside : t < segmentCountOf job
-  pub lacks : lacksRoom (job .size) (job .room) j (job .waiting) (childrenOf (job .kind) (job .n) (j * job .size + passedOf job j)) t ≡ true
-  pub lowest : (u : ℕ) → u < t → lacksRoom (job .size) (job .room) j (job .waiting) (childrenOf (job .kind) (job .n) (j * job .size + passedOf job j)) u ≡ false
+  pub lacks : lacksRoom (job .size) (job .room) j (job .waiting) (childrenOf (job .kind) (job .n) (movesOf job) (j * job .size + passedOf job j)) t ≡ true
+  pub lowest : (u : ℕ) → u < t → lacksRoom (job .size) (job .room) j (job .waiting) (childrenOf (job .kind) (job .n) (movesOf job) (j * job .size + passedOf job j)) u ≡ false
 
 -- there is one such segment at most
 must-unique : {job : Job} {j : ℕ} {segment : List ℕ} {t u : ℕ} → MustWait job j segment t → MustWait job j segment u → t ≡ u
@@ -107,7 +108,7 @@ started job j segment log =
       at = passedOf job j;
       waits = false;
       on = 0;
-      marks = record { segment = segment; count = countOf job (levelOf (job .phase)) };
+      marks = marksFrom job segment;
       logs = record { log = log; waiting = job .waiting };
     }
 

@@ -16,10 +16,11 @@ use Rattle.graph.proofs.Counts.{found}
 use Rattle.search.specs.Blank.{blanked}
 use Rattle.search.specs.Build.{World}
 use Rattle.search.specs.Entries.{entryAt, bytesFor}
-use Rattle.search.specs.JobState.{passedOf, waitingOf, countOf, lastLevel}
+use Rattle.search.specs.JobState.{passedOf, waitingOf, countOf, lastLevel, countPlaces}
+use Rattle.search.specs.Segments.{segmentLimit}
 use Rattle.search.specs.declared.Job.{Job}
 use Rattle.search.specs.declared.Phase.the-variants.{Blanking, Level, Finished}
-use Rattle.search.proofs.Terms.{Terms, termsOf, N, G, m, moves, step, D, levelCount}
+use Rattle.search.proofs.Terms.{Terms, termsOf, N, G, m, moves, step, beyond, D, levelCount}
 
 -- the entry of the stack at index v, in its own segment
 unfoldable pub entryIn : ℕ → List (List ℕ) → ℕ → ℕ
@@ -39,9 +40,9 @@ Logged terms w v =
 module _ (terms : Terms) where
   pub record Shaped (w : World) : Type 0 where
     pub terms-is : termsOf (w .job) ≡ terms
-    pub passed-length : length (w .job .passed) ≡ 64
-    pub waiting-length : length (w .job .waiting) ≡ 64
-    pub counts-length : length (w .job .counts) ≡ 32
+    pub passed-length : length (w .job .passed) ≡ segmentLimit
+    pub waiting-length : length (w .job .waiting) ≡ segmentLimit
+    pub counts-length : length (w .job .counts) ≡ countPlaces
     pub segments-length : length (w .segments) ≡ G terms
     pub segment-bytes : (j : ℕ) → j < G terms → length (getD (w .segments) j []) ≡ bytesFor (m terms j)
     pub log-length : length (w .log) ≡ G terms * terms .C
@@ -79,10 +80,12 @@ module _ (terms : Terms) where
     pub last : d < lastLevel
     pub none-passed : (j : ℕ) → passedOf (w .job) j ≡ 0
     pub none-waits : (j : ℕ) → waitingOf (w .job) j ≡ 0
-    pub entries : (v : ℕ) → v < N terms → entryIn (terms .S) (w .segments) v ≡ D terms v % 3
+    -- of each stack that has a road
+    pub entries : (v : ℕ) → v < N terms → D terms v < beyond → entryIn (terms .S) (w .segments) v ≡ D terms v % 3
+    pub greatest : (v : ℕ) → v < N terms → D terms v < beyond → D terms v ≤ d
     pub spares : Spares w
-    pub counts : (i : ℕ) → countOf (w .job) i ≡ levelCount terms i
-    pub greatest : (v : ℕ) → v < N terms → D terms v ≤ d
+    pub counts : (i : ℕ) → i < beyond → countOf (w .job) i ≡ levelCount terms i
+    pub counts-past : (i : ℕ) → d < i → countOf (w .job) i ≡ 0
     pub deepest : (v : ℕ) × (v < N terms) × (D terms v ≡ d)
 
   -- the phase that a build is in, with what holds there

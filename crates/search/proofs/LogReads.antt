@@ -12,13 +12,12 @@ use Rattle.base.specs.Words.{unless, all, firstFrom}
 use Rattle.base.proofs.Tests.{test-cases, lt-or-ge, eq-or-ne}
 use Rattle.search.specs.Entries.{entryAt}
 use Rattle.search.specs.Expand.{Expansion, isParent, childrenOf, placeChild, placeAll, passOne, waitFor, expandStack, expandNext, expandRun, expansion, expandedJob, expandOf, expandRefusal}
-use Rattle.search.specs.JobState.{isCoherent, isLevel, levelOf, stackCountOf, segmentCountOf, stackCountAt, passedOf, waitingOf, countOf, progressed}
+use Rattle.search.specs.JobState.{isCoherent, isLevel, levelOf, stackCountOf, segmentCountOf, stackCountAt, movesOf, passedOf, waitingOf}
 use Rattle.search.specs.Look.{lookRefusal, lookOf}
-use Rattle.search.specs.Segments.{segmentLimit}
 use Rattle.search.specs.Settle.{settleRefusal, settleOf}
-use Rattle.search.specs.Logs.{logOne, lacksRoom, pending}
-use Rattle.search.specs.Level.{levelRefusal}
-use Rattle.search.specs.Marks.{markAll}
+use Rattle.search.specs.Logs.{indexesOf, logOne, lacksRoom, pending}
+use Rattle.search.specs.Refusals.{callRefusal, segmentRefusal, levelRefusal}
+use Rattle.search.specs.Marks.{markAll, marksFrom, markedJob}
 use Rattle.search.specs.declared.Answer.{Answer}
 use Rattle.search.specs.declared.Expanded.{Expanded}
 use Rattle.search.specs.declared.Job.{Job}
@@ -54,7 +53,7 @@ module _ (job : Job) (j : ℕ) where
   next-swap : (e : Expansion) (log : List ℕ) → (log′ : List ℕ) × (expandNext job j (swap log e) ≡ swap log′ (expandNext job j e))
   unfolding expandNext expandStack passOne waitFor
   next-swap e log =
-      let children = childrenOf (job .kind) (job .n) (j * job .size + e .at) in
+      let children = childrenOf (job .kind) (job .n) (movesOf job) (j * job .size + e .at) in
       let t = firstFrom (lacksRoom (job .size) (job .room) j (e .logs .waiting) children) 0 (segmentCountOf job) in
       go children t (e .waits) (isParent (levelOf (job .phase)) (entryAt (e .marks .segment) (e .at))) (ltb t (segmentCountOf job))
     where
@@ -83,7 +82,7 @@ module _ (job : Job) (j : ℕ) where
           at = passedOf job j;
           waits = false;
           on = 0;
-          marks = record { segment = segment; count = countOf job (levelOf (job .phase)) };
+          marks = marksFrom job segment;
           logs = record { log = log; waiting = job .waiting };
         })
         log′
@@ -121,7 +120,7 @@ module _ (job : Job) (j : ℕ) (log log′ : List ℕ) (long : length log ≡ le
     (stretch : take (job .room) (drop (j * job .room) log) ≡ take (job .room) (drop (j * job .room) log′)) where
   -- what waits fits the stretch
   pending-same : isCoherent job ≡ true → j < segmentCountOf job → pending job j log ≡ pending job j log′
-  unfolding pending segmentLimit segmentCountOf stackCountOf
+  unfolding pending segmentCountOf stackCountOf
   pending-same h inside =
       let facts = coherent-facts job h in
       let given = begin-given (job .kind) (job .n) (job .wanted) (job .size) (job .room) (facts .begins) in
@@ -132,21 +131,15 @@ module _ (job : Job) (j : ℕ) (log log′ : List ℕ) (long : length log ≡ le
 
   -- Settle and Look give the same for two log areas of one length with the same stretch of segment j
   pub settle-log-own : (segment : List ℕ) → settleOf job j segment log ≡ settleOf job j segment log′
-  unfolding settleOf settleRefusal levelRefusal
+  unfolding settleOf settleRefusal levelRefusal segmentRefusal callRefusal
   settle-log-own segment = go (test-cases (isCoherent job)) (test-cases (isLevel (job .phase))) (lt-or-ge j (segmentCountOf job))
     where
       by : ℕ → List ℕ → List ℕ × Answer
       by logs offsets =
           let r = levelRefusal job j (length segment) logs (unless (all (λ i. ltb i (stackCountAt job j)) offsets) 12 0) in
-          let d = levelOf (job .phase) in
-          let marks = markAll d offsets (record { segment = segment; count = countOf job d }) in
-          cond (eqb r 0) (
-            marks .segment,
-            record {
-              refusal = 0;
-              job = progressed job (job .phase) (job .passed) (set (job .waiting) j 0) (set (job .counts) d (marks .count));
-            },
-          )
+          let marks = markAll (job .size) (levelOf (job .phase)) (indexesOf (job .size) j offsets) (marksFrom job segment) in
+          cond (eqb r 0)
+          (marks .segment, record { refusal = 0; job = markedJob job (job .passed) (set (job .waiting) j 0) marks })
           (segment, record { refusal = r; job = job })
 
       go : (isCoherent job ≡ true) ⊎ (isCoherent job ≡ false) → (isLevel (job .phase) ≡ true) ⊎ (isLevel (job .phase) ≡ false)
@@ -157,7 +150,7 @@ module _ (job : Job) (j : ℕ) (log log′ : List ℕ) (long : length log ≡ le
       go (inr h) g l = rw h
 
   pub look-log-own : lookOf job j log ≡ lookOf job j log′
-  unfolding lookOf lookRefusal
+  unfolding lookOf lookRefusal callRefusal
   look-log-own = go (test-cases (isCoherent job)) (lt-or-ge j (segmentCountOf job))
     where
       by : ℕ → List ℕ → List ℕ × ℕ

@@ -1,5 +1,5 @@
 -- Marking stacks of a segment: what it does to the entries, the spare ones among them, and to the count of the level.
-use mathlib.Core.Path.{_≡_, sym, ap, _∙_}
+use mathlib.Core.Path.{_≡_, sym, ap, _∙_, subst}
 use mathlib.Core.Logic.{_⊎_, inl, inr}
 use mathlib.Core.Bool.{true}
 use mathlib.Core.List.{List, []}
@@ -18,37 +18,37 @@ use Rattle.search.specs.Segments.{stackCountIn}
 use Rattle.search.specs.Marks.{Marks, markOne}
 use Rattle.search.proofs.EntryLaws.{set-length, get-set-same, get-set-other, byte-inside}
 use Rattle.search.proofs.Invariant.{entryIn}
-use Rattle.search.proofs.SegmentLaws.{segment-stack, segment-stack-div, segment-stack-mod}
+use Rattle.search.proofs.SegmentLaws.{segment-stack-div, segment-stack-mod, stack-offset}
 
-module _ (d i : ℕ) (marks : Marks) where
-  pub mark-seen : (entryAt (marks .segment) i ≡ 3 → ⊥) → markOne d i marks ≡ marks
+module _ (S d v : ℕ) (marks : Marks) where
+  pub mark-seen : (entryAt (marks .segment) (v % S) ≡ 3 → ⊥) → markOne S d v marks ≡ marks
   unfolding markOne unseen
-  mark-seen h = rw (ne-eqb (entryAt (marks .segment) i) 3 h)
+  mark-seen h = rw (ne-eqb (entryAt (marks .segment) (v % S)) 3 h)
 
-  pub mark-unseen : entryAt (marks .segment) i ≡ 3
-      → markOne d i marks ≡ record { segment = setEntry (marks .segment) i (d % 3); count = marks .count + 1 }
+  pub mark-unseen : entryAt (marks .segment) (v % S) ≡ 3
+      → markOne S d v marks ≡ record { segment = setEntry (marks .segment) (v % S) (d % 3); count = marks .count + 1 }
   unfolding markOne unseen
-  mark-unseen h = rw (eq-eqb (entryAt (marks .segment) i) 3 h)
+  mark-unseen h = rw (eq-eqb (entryAt (marks .segment) (v % S)) 3 h)
 
-  pub mark-length : length (markOne d i marks .segment) ≡ length (marks .segment)
-  mark-length = go (eq-or-ne (entryAt (marks .segment) i) 3)
+  pub mark-length : length (markOne S d v marks .segment) ≡ length (marks .segment)
+  mark-length = go (eq-or-ne (entryAt (marks .segment) (v % S)) 3)
     where
-      go : (entryAt (marks .segment) i ≡ 3) ⊎ (entryAt (marks .segment) i ≡ 3 → ⊥) → length (markOne d i marks .segment) ≡ length (marks .segment)
-      go (inl h) = rw (mark-unseen h) (set-length (marks .segment) i (d % 3))
+      go : (entryAt (marks .segment) (v % S) ≡ 3) ⊎ (entryAt (marks .segment) (v % S) ≡ 3 → ⊥) → length (markOne S d v marks .segment) ≡ length (marks .segment)
+      go (inl h) = rw (mark-unseen h) (set-length (marks .segment) (v % S) (d % 3))
       go (inr h) = rw (mark-seen h)
 
-  pub mark-other : (l : ℕ) → (l ≡ i → ⊥) → entryAt (markOne d i marks .segment) l ≡ entryAt (marks .segment) l
-  mark-other l ne = go (eq-or-ne (entryAt (marks .segment) i) 3)
+  pub mark-other : (l : ℕ) → (l ≡ v % S → ⊥) → entryAt (markOne S d v marks .segment) l ≡ entryAt (marks .segment) l
+  mark-other l ne = go (eq-or-ne (entryAt (marks .segment) (v % S)) 3)
     where
-      go : (entryAt (marks .segment) i ≡ 3) ⊎ (entryAt (marks .segment) i ≡ 3 → ⊥) → entryAt (markOne d i marks .segment) l ≡ entryAt (marks .segment) l
-      go (inl h) = rw (mark-unseen h) (get-set-other (marks .segment) i l (d % 3) (omega arith) ne)
+      go : (entryAt (marks .segment) (v % S) ≡ 3) ⊎ (entryAt (marks .segment) (v % S) ≡ 3 → ⊥) → entryAt (markOne S d v marks .segment) l ≡ entryAt (marks .segment) l
+      go (inl h) = rw (mark-unseen h) (get-set-other (marks .segment) (v % S) l (d % 3) (omega arith) ne)
       go (inr h) = rw (mark-seen h)
 
 -- an unseen one of m stacks is marked
-pub mark-new : (d i m : ℕ) (marks : Marks) → i < m → length (marks .segment) ≡ bytesFor m → entryAt (marks .segment) i ≡ 3
-    → entryAt (markOne d i marks .segment) i ≡ d % 3
-mark-new d i m marks h long e =
-    rw (mark-unseen d i marks e) (get-set-same (marks .segment) i (d % 3) (omega arith) (rw long (byte-inside i m h)))
+pub mark-new : (S d v m : ℕ) (marks : Marks) → v % S < m → length (marks .segment) ≡ bytesFor m → entryAt (marks .segment) (v % S) ≡ 3
+    → entryAt (markOne S d v marks .segment) (v % S) ≡ d % 3
+mark-new S d v m marks h long e =
+    rw (mark-unseen S d v marks e) (get-set-same (marks .segment) (v % S) (d % 3) (omega arith) (rw long (byte-inside (v % S) m h)))
 
 -- what is unseen after a mark was so before it, and the marked one is seen
 module _ {N d : ℕ} {e e′ : ℕ → ℕ} {v : ℕ} (marked : Marked N d e e′ v) where
@@ -85,38 +85,42 @@ module _ (N S : ℕ) (some : 0 < S) (segments : List (List ℕ)) (j : ℕ) (insi
       entry-here S segments j segment inside (j * S + i) (segment-stack-div N S some j i h)
       ∙ ap (entryAt segment) (segment-stack-mod N S some j i h)
 
-  module _ (d i : ℕ) (marks : Marks) (fits : i < stackCountIn N S j) (bytes : length (marks .segment) ≡ bytesFor (stackCountIn N S j)) where
-    pub mark-marked : Marked N d (entryIn S (set segments j (marks .segment))) (entryIn S (set segments j (markOne d i marks .segment))) (j * S + i)
+  module _ (d v : ℕ) (marks : Marks) (fits : v < N) (here : v / S ≡ j) (bytes : length (marks .segment) ≡ bytesFor (stackCountIn N S j)) where
+    -- the entry of the stack, among all segments and in its own
+    own-entry : (segment : List ℕ) → entryIn S (set segments j segment) v ≡ entryAt segment (v % S)
+    own-entry segment = entry-here S segments j segment inside v here
+
+    pub mark-marked : Marked N d (entryIn S (set segments j (marks .segment))) (entryIn S (set segments j (markOne S d v marks .segment))) v
     mark-marked =
         record {
           others = λ u h ne. go u ne (eq-or-ne (u / S) j);
-          unseen = λ e. entry-place (markOne d i marks .segment) i fits
-              ∙ mark-new d i (stackCountIn N S j) marks fits bytes (sym (entry-place (marks .segment) i fits) ∙ e);
-          seen = λ ne. ap (λ (m : Marks). entryIn S (set segments j (m .segment)) (j * S + i))
-              (mark-seen d i marks (λ e. ne (entry-place (marks .segment) i fits ∙ e)));
+          unseen = λ e. own-entry (markOne S d v marks .segment)
+              ∙ mark-new S d v (stackCountIn N S j) marks (subst (λ (t : ℕ). v % S < stackCountIn N S t) here (stack-offset N S some v fits)) bytes
+              (sym (own-entry (marks .segment)) ∙ e);
+          seen = λ ne. ap (λ (m : Marks). entryIn S (set segments j (m .segment)) v) (mark-seen S d v marks (λ e. ne (own-entry (marks .segment) ∙ e)));
         }
       where
-        go : (u : ℕ) → (u ≡ j * S + i → ⊥) → (u / S ≡ j) ⊎ (u / S ≡ j → ⊥)
-            → entryIn S (set segments j (markOne d i marks .segment)) u ≡ entryIn S (set segments j (marks .segment)) u
+        go : (u : ℕ) → (u ≡ v → ⊥) → (u / S ≡ j) ⊎ (u / S ≡ j → ⊥)
+            → entryIn S (set segments j (markOne S d v marks .segment)) u ≡ entryIn S (set segments j (marks .segment)) u
         go u ne (inl e) =
-            entry-here S segments j (markOne d i marks .segment) inside u e
-            ∙ mark-other d i marks (u % S) (λ q. ne (sym (div-add-mod' u S) ∙ ap (λ (x : ℕ). x * S + u % S) e ∙ ap (λ (x : ℕ). j * S + x) q))
+            entry-here S segments j (markOne S d v marks .segment) inside u e
+            ∙ mark-other S d v marks (u % S) (λ q. ne (sym (div-add-mod' u S) ∙ ap (λ (x : ℕ). x * S + u % S) (e ∙ sym here) ∙ ap (λ (x : ℕ). v / S * S + x) q ∙ div-add-mod' v S))
             ∙ sym (entry-here S segments j (marks .segment) inside u e)
         go u ne (inr e) =
-            entry-elsewhere S segments j (markOne d i marks .segment) u e ∙ sym (entry-elsewhere S segments j (marks .segment) u e)
+            entry-elsewhere S segments j (markOne S d v marks .segment) u e ∙ sym (entry-elsewhere S segments j (marks .segment) u e)
 
     pub mark-count : {D : ℕ → ℕ} {H : ℕ → ℕ → Type 0} {L : ℕ → Type 0} → Level N D d (entryIn S (set segments j (marks .segment))) H L
-        → D (j * S + i) ≤ d
+        → D v ≤ d
         → marks .count ≡ tally (found (λ v. true) D d (entryIn S (set segments j (marks .segment)))) (from 0 N)
-        → markOne d i marks .count ≡ tally (found (λ v. true) D d (entryIn S (set segments j (markOne d i marks .segment)))) (from 0 N)
-    mark-count {D} {H} {L} level near count = go (eq-or-ne (entryAt (marks .segment) i) 3)
+        → markOne S d v marks .count ≡ tally (found (λ v. true) D d (entryIn S (set segments j (markOne S d v marks .segment)))) (from 0 N)
+    mark-count {D} {H} {L} level near count = go (eq-or-ne (entryAt (marks .segment) (v % S)) 3)
       where
-        go : (entryAt (marks .segment) i ≡ 3) ⊎ (entryAt (marks .segment) i ≡ 3 → ⊥)
-            → markOne d i marks .count ≡ tally (found (λ v. true) D d (entryIn S (set segments j (markOne d i marks .segment)))) (from 0 N)
+        go : (entryAt (marks .segment) (v % S) ≡ 3) ⊎ (entryAt (marks .segment) (v % S) ≡ 3 → ⊥)
+            → markOne S d v marks .count ≡ tally (found (λ v. true) D d (entryIn S (set segments j (markOne S d v marks .segment)))) (from 0 N)
         go (inl e) =
             omega (
               arith,
-              ap (λ (m : Marks). m .count) (mark-unseen d i marks e),
-              found-mark (λ v. true) level (segment-stack N S some j i fits) near (entry-place (marks .segment) i fits ∙ e) mark-marked,
+              ap (λ (m : Marks). m .count) (mark-unseen S d v marks e),
+              found-mark (λ v. true) level fits near (own-entry (marks .segment) ∙ e) mark-marked,
             )
-        go (inr ne) = rw (mark-seen d i marks ne) count
+        go (inr ne) = rw (mark-seen S d v marks ne) count

@@ -16,16 +16,14 @@ use Rattle.graph.proofs.Moves.{isMove-cases, isMove-first, isMove-rest}
 use Rattle.graph.proofs.Depths.{Depths, nearer-label}
 use Rattle.stacks.specs.Stack.{isKind, isPaneCount, isStack, stackCount}
 use Rattle.stacks.specs.Index.{rankOf}
-use Rattle.stacks.specs.Turn.{isTurn, turnsOf, turnOf, turnsFrom, turnBound, Road, Fewest}
+use Rattle.stacks.specs.Turn.{turnsOf, turnOf, turnsFrom, RoadBy, FewestBy}
 use Rattle.stacks.specs.Operations.{kindRefusal}
 use Rattle.stacks.proofs.Numbering.{rank-lt, rank-injective}
 use Rattle.stacks.proofs.Roads.{road-none, road-append}
-use Rattle.stacks.proofs.TurnLaws.{turned-stack, turns-stack}
-use Rattle.stacks.proofs.TurnBound.{turn-bound-30}
 use Rattle.search.specs.Entries.{bytesFor, entryAt, unseen, nextEntry}
 use Rattle.search.specs.Plan.{planLimit, Route, entryOf, leadsTo, follow, isWanted, planStep, planRun, routeFrom, hasPlan, planRow, planRefusal}
-use Rattle.search.proofs.Turning.{childAt, move-turn, child-rank}
-use Rattle.search.proofs.Fewest.{depth, turn-depths, stack-depth, depth-fewest}
+use Rattle.search.proofs.Turning.{childAt, Moves, child-rank, moved-stack, moves-stack}
+use Rattle.search.proofs.Fewest.{depth, move-depths, depth-fewest}
 
 -- ---- what an accepted call was given
 
@@ -78,18 +76,21 @@ module _ (kind n : ℕ) (wanted given : List ℤ) (bytes slots : ℕ) where
 
 pub record PlanFacts (kind n : ℕ) (wanted given : List ℤ) (table : List ℕ) (slots : ℕ) : Type 0 where
   pub row : RowFacts kind n wanted given (length table) slots
-  pub plan : hasPlan kind n table wanted given ≡ true
+  pub plan : hasPlan kind n table wanted (turnsOf kind n) given ≡ true
 
 module _ (kind n : ℕ) (wanted given : List ℤ) (table : List ℕ) (slots : ℕ) where
-  pub facts-plan : PlanFacts kind n wanted given table slots → planRefusal kind n wanted given table slots ≡ 0
+  pub plan-goes-on : PlanFacts kind n wanted given table slots → (rest : ℕ) → planRefusal kind n wanted given table slots rest ≡ rest
   unfolding planRefusal
-  facts-plan f = row-goes-on kind n wanted given (length table) slots (f .row) (unless (hasPlan kind n table wanted given) 15 0) ∙ rw (f .plan)
+  plan-goes-on f rest =
+      row-goes-on kind n wanted given (length table) slots (f .row) (unless (hasPlan kind n table wanted (turnsOf kind n) given) 15 rest) ∙ rw (f .plan)
 
-  pub plan-facts : planRefusal kind n wanted given table slots ≡ 0 → PlanFacts kind n wanted given table slots
+  pub plan-facts : (rest : ℕ) → planRefusal kind n wanted given table slots rest ≡ 0 → PlanFacts kind n wanted given table slots × (rest ≡ 0)
   unfolding planRefusal
-  plan-facts h =
-      let f = row-facts kind n wanted given (length table) slots (unless (hasPlan kind n table wanted given) 15 0) h in
-      record { row = f .0; plan = unless-zero (hasPlan kind n table wanted given) 14 0 (f .1) .0 }
+  plan-facts rest h =
+      let plan : Bool = hasPlan kind n table wanted (turnsOf kind n) given in
+      let f = row-facts kind n wanted given (length table) slots (unless plan 15 rest) h in
+      let g = unless-zero plan 14 rest (f .1) in
+      (record { row = f .0; plan = g .0 }, g .1)
 
 -- ---- a plan in the making, whatever the table holds
 
@@ -101,65 +102,66 @@ onward kind k route = record { stack = turnOf kind k (route .stack); turns = rou
 abbrev leadsOn : ℕ → ℕ → List ℕ → List ℤ → ℕ → Bool
 leadsOn kind n table s k = leadsTo kind n table s (nextEntry (nextEntry (entryOf kind n table s))) k
 
--- a route from the given stack, of at most m turns
-abbrev pub RouteWithin : ℕ → ℕ → List ℤ → ℕ → Route → Type 0
-RouteWithin kind n given m route = Road kind n (route .turns) given (route .stack) × (length (route .turns) ≤ m)
+-- a route from the given stack, of at most m moves
+abbrev pub RouteWithin : ℕ → List ℕ → List ℤ → ℕ → Route → Type 0
+RouteWithin kind moves given m route = RoadBy kind (isMove moves) (route .turns) given (route .stack) × (length (route .turns) ≤ m)
 
-module _ (kind n : ℕ) (table : List ℕ) (wanted given : List ℤ) where
-  onward-within : (k m : ℕ) (route : Route) → isTurn kind n k ≡ true → RouteWithin kind n given m route
-      → RouteWithin kind n given (suc m) (onward kind k route)
+module _ (kind n : ℕ) (moves table : List ℕ) (wanted given : List ℤ) where
+  onward-within : (k m : ℕ) (route : Route) → isMove moves k ≡ true → RouteWithin kind moves given m route
+      → RouteWithin kind moves given (suc m) (onward kind k route)
   unfolding turnsFrom all
   onward-within k m route t u =
-      (road-append (u .0) (record { turns = and-both (isTurn kind n k) true t refl; arrives = refl }), rw length-append (omega (arith, u .1)))
+      (road-append (u .0) (record { turns = and-both (isMove moves k) true t refl; arrives = refl }), rw length-append (omega (arith, u .1)))
 
-  follow-within : (ks : List ℕ) (m : ℕ) (route : Route) → ((k : ℕ) → isMove ks k ≡ true → isTurn kind n k ≡ true)
-      → RouteWithin kind n given m route → RouteWithin kind n given (suc m) (follow kind n table ks route)
+  follow-within : (ks : List ℕ) (m : ℕ) (route : Route) → ((k : ℕ) → isMove ks k ≡ true → isMove moves k ≡ true)
+      → RouteWithin kind moves given m route → RouteWithin kind moves given (suc m) (follow kind n table ks route)
   unfolding follow
   follow-within [] m route t u = (u .0, omega (arith, u .1))
   follow-within (k ∷ ks) m route t u =
       go (leadsOn kind n table (route .stack) k) (follow-within ks m route (λ j i. t j (isMove-rest k ks j i)) u)
     where
-      go : (b : Bool) → RouteWithin kind n given (suc m) (follow kind n table ks route)
-          → RouteWithin kind n given (suc m) (cond b (onward kind k route) (follow kind n table ks route))
+      go : (b : Bool) → RouteWithin kind moves given (suc m) (follow kind n table ks route)
+          → RouteWithin kind moves given (suc m) (cond b (onward kind k route) (follow kind n table ks route))
       go true r = onward-within k m route (t k (isMove-first k ks)) u
       go false r = r
 
-  step-within : (m : ℕ) (route : Route) → RouteWithin kind n given m route → RouteWithin kind n given (suc m) (planStep kind n table wanted route)
+  step-within : (m : ℕ) (route : Route) → RouteWithin kind moves given m route
+      → RouteWithin kind moves given (suc m) (planStep kind n table wanted moves route)
   unfolding planStep
   step-within m route u = go (isWanted kind n table wanted (route .stack))
     where
-      go : (b : Bool) → RouteWithin kind n given (suc m) (cond b route (follow kind n table (turnsOf kind n) route))
+      go : (b : Bool) → RouteWithin kind moves given (suc m) (cond b route (follow kind n table moves route))
       go true = (u .0, omega (arith, u .1))
-      go false = follow-within (turnsOf kind n) m route (move-turn kind n) u
+      go false = follow-within moves m route (λ k i. i) u
 
-  run-within : (left m : ℕ) (route : Route) → RouteWithin kind n given m route
-      → RouteWithin kind n given (left + m) (planRun kind n table wanted left route)
+  run-within : (left m : ℕ) (route : Route) → RouteWithin kind moves given m route
+      → RouteWithin kind moves given (left + m) (planRun kind n table wanted moves left route)
   unfolding planRun
   run-within zero m route u = (u .0, omega (arith, u .1))
   run-within (suc left) m route u =
-      let r = run-within left (suc m) (planStep kind n table wanted route) (step-within m route u) in
+      let r = run-within left (suc m) (planStep kind n table wanted moves route) (step-within m route u) in
       (r .0, omega (arith, r .1))
 
-  pub route-within : RouteWithin kind n given planLimit (routeFrom kind n table wanted given)
+  pub route-within : RouteWithin kind moves given planLimit (routeFrom kind n table wanted moves given)
   unfolding routeFrom
   route-within =
       let r = run-within planLimit 0 (record { stack = given; turns = [] }) (road-none given, zero-le) in
       (r .0, omega (arith, r .1))
 
--- an accepted plan leads from the given stack to the wanted one, in at most as many turns as the list must hold
-pub route-arrives : (kind n : ℕ) (wanted given : List ℤ) (table : List ℕ) (slots : ℕ) → planRefusal kind n wanted given table slots ≡ 0
-    → Road kind n (routeFrom kind n table wanted given .turns) given wanted × (length (routeFrom kind n table wanted given .turns) ≤ planLimit)
+-- where there is a plan, its moves lead from the given stack to the wanted one
+pub route-arrives : (kind n : ℕ) {moves : List ℕ} (table : List ℕ) (wanted given : List ℤ) → isPaneCount kind n ≡ true → Moves kind n moves
+    → isStack kind n wanted ≡ true → isStack kind n given ≡ true → hasPlan kind n table wanted moves given ≡ true
+    → RoadBy kind (isMove moves) (routeFrom kind n table wanted moves given .turns) given wanted
 unfolding hasPlan isWanted
-route-arrives kind n wanted given table slots h =
-    let f : PlanFacts kind n wanted given table slots = plan-facts kind n wanted given table slots h in
-    let route : Route = routeFrom kind n table wanted given in
-    let r : RouteWithin kind n given planLimit route = route-within kind n table wanted given in
+route-arrives kind n {moves} table wanted given in-range laws goal start plan =
+    let route : Route = routeFrom kind n table wanted moves given in
+    let r : RouteWithin kind moves given planLimit route = route-within kind n moves table wanted given in
     let stack : isStack kind n (route .stack) ≡ true =
-    subst (λ (s : List ℤ). isStack kind n s ≡ true) (r .0 .arrives) (turns-stack kind n (f .row .of-panes) (route .turns) given (r .0 .turns) (f .row .start)) in
+    subst (λ (s : List ℤ). isStack kind n s ≡ true) (r .0 .arrives) (moves-stack kind n in-range laws (route .turns) given (r .0 .turns) start) in
     let same : rankOf kind n (route .stack) ≡ rankOf kind n wanted =
     eqb-true (rankOf kind n (route .stack)) (rankOf kind n wanted)
-    (and-right (not (eqb (entryOf kind n table given) unseen) && eqb (entryOf kind n table wanted) 0) (isWanted kind n table wanted (route .stack)) (f .plan)) in
-    (subst (Road kind n (route .turns) given) (rank-injective kind n (route .stack) wanted (f .row .of-panes) stack (f .row .goal) same) (r .0), r .1)
+    (and-right (not (eqb (entryOf kind n table given) unseen) && eqb (entryOf kind n table wanted) 0) (isWanted kind n table wanted (route .stack)) plan) in
+    subst (RoadBy kind (isMove moves) (route .turns) given) (rank-injective kind n (route .stack) wanted in-range stack goal same) (r .0)
 
 -- ---- over a right table
 
@@ -189,124 +191,120 @@ follow-first kind n table (k ∷ ks) route j m l =
           ap (λ (b : Bool). cond b (onward kind k route) (follow kind n table ks route)) e ∙ r .3,
         )
 
--- each entry is the fewest turns modulo 3
-abbrev pub RightTable : ℕ → ℕ → List ℤ → ℕ → List ℕ → Type 0
-RightTable kind n wanted b table =
-    (s : List ℤ) → isStack kind n s ≡ true → entryAt table (rankOf kind n s) ≡ depth kind n wanted b (rankOf kind n s) % 3
+-- each entry of a stack that has a road is the fewest moves modulo 3
+abbrev pub RightTable : ℕ → ℕ → List ℕ → List ℤ → ℕ → List ℕ → Type 0
+RightTable kind n moves wanted b table =
+    (s : List ℤ) → isStack kind n s ≡ true → depth kind n moves wanted b (rankOf kind n s) < b
+    → entryAt table (rankOf kind n s) ≡ depth kind n moves wanted b (rankOf kind n s) % 3
 
 module _ (kind n : ℕ) (wanted : List ℤ) (b : ℕ) (table : List ℕ) (in-range : isPaneCount kind n ≡ true) (goal : isStack kind n wanted ≡ true)
-    (bound : turnBound kind n < b) (right : RightTable kind n wanted b table) where
+    {moves : List ℕ} (laws : Moves kind n moves) (room : suc planLimit < b) (right : RightTable kind n moves wanted b table) where
   -- the depth of a stack
   abbrev far : List ℤ → ℕ
-  far s = depth kind n wanted b (rankOf kind n s)
+  far s = depth kind n moves wanted b (rankOf kind n s)
 
-  depths : Depths (stackCount kind n) (turnsOf kind n) (childAt kind n) (rankOf kind n wanted) b (depth kind n wanted b)
-  depths = turn-depths kind n wanted b in-range goal bound
+  depths : Depths (stackCount kind n) moves (childAt kind n) (rankOf kind n wanted) b (depth kind n moves wanted b)
+  depths = move-depths kind n wanted b in-range goal laws (omega arith)
 
   module _ (s : List ℤ) (stack : isStack kind n s ≡ true) where
-    child-far : (k : ℕ) → depth kind n wanted b (childAt kind n k (rankOf kind n s)) ≡ far (turnOf kind k s)
-    child-far k = ap (depth kind n wanted b) (child-rank kind n in-range k s stack)
+    child-far : (k : ℕ) → depth kind n moves wanted b (childAt kind n k (rankOf kind n s)) ≡ far (turnOf kind k s)
+    child-far k = ap (depth kind n moves wanted b) (child-rank kind n in-range k s stack)
 
-    turned : (k : ℕ) → isMove (turnsOf kind n) k ≡ true → isStack kind n (turnOf kind k s) ≡ true
-    turned k m = turned-stack kind n in-range k s (move-turn kind n k m) stack
+    -- a child of a stack that a plan may start from has a road too
+    module _ (near : far s ≤ planLimit) where
+      child-near : (k : ℕ) → isMove moves k ≡ true → far (turnOf kind k s) < b
+      child-near k m = omega (arith, depths .grows k (rankOf kind n s) m (rank-lt kind n s in-range stack), child-far k)
 
-    -- a turn leads on just where it leads one nearer
-    leads-nearer : (k : ℕ) → isMove (turnsOf kind n) k ≡ true → leadsOn kind n table s k ≡ true → suc (far (turnOf kind k s)) ≡ far s
-    unfolding leadsTo entryOf nextEntry
-    leads-nearer k m l =
-        let e = eqb-true (entryOf kind n table (turnOf kind k s)) (nextEntry (nextEntry (entryOf kind n table s))) l in
-        let c = child-far k in
-        let here = right s stack in
-        let there = right (turnOf kind k s) (turned k m) in
-        let near = nearer-label depths k (rankOf kind n s) m (rank-lt kind n s in-range stack) (omega arith) in
-        omega arith
+      -- a move leads on just where it leads one nearer
+      leads-nearer : (k : ℕ) → isMove moves k ≡ true → leadsOn kind n table s k ≡ true → suc (far (turnOf kind k s)) ≡ far s
+      unfolding leadsTo entryOf nextEntry
+      leads-nearer k m l =
+          let e = eqb-true (entryOf kind n table (turnOf kind k s)) (nextEntry (nextEntry (entryOf kind n table s))) l in
+          let c = child-far k in
+          let here = right s stack (omega arith) in
+          let there = right (turnOf kind k s) (moved-stack kind n in-range laws k s m stack) (child-near k m) in
+          let nearer = nearer-label depths k (rankOf kind n s) m (rank-lt kind n s in-range stack) (omega arith) in
+          omega arith
 
-    nearer-leads : (k : ℕ) → isMove (turnsOf kind n) k ≡ true → suc (far (turnOf kind k s)) ≡ far s → leadsOn kind n table s k ≡ true
-    unfolding leadsTo entryOf nextEntry
-    nearer-leads k m e =
-        let here = right s stack in
-        let there = right (turnOf kind k s) (turned k m) in
-        eq-eqb (entryOf kind n table (turnOf kind k s)) (nextEntry (nextEntry (entryOf kind n table s))) (omega arith)
+      nearer-leads : (k : ℕ) → isMove moves k ≡ true → suc (far (turnOf kind k s)) ≡ far s → leadsOn kind n table s k ≡ true
+      unfolding leadsTo entryOf nextEntry
+      nearer-leads k m e =
+          let here = right s stack (omega arith) in
+          let there = right (turnOf kind k s) (moved-stack kind n in-range laws k s m stack) (child-near k m) in
+          eq-eqb (entryOf kind n table (turnOf kind k s)) (nextEntry (nextEntry (entryOf kind n table s))) (omega arith)
 
-    -- some turn leads nearer, unless the stack is the wanted one
-    nearer-turn : 0 < far s → (k : ℕ) × (isMove (turnsOf kind n) k ≡ true) × (suc (far (turnOf kind k s)) ≡ far s)
-    nearer-turn h =
-        let c = depths .closer (rankOf kind n s) h (omega (arith, stack-depth kind n wanted b in-range goal bound s stack)) in
-        (c .0, c .1, omega (arith, c .2, child-far (c .0)))
+      -- some move leads nearer, unless the stack is the wanted one
+      nearer-move : 0 < far s → (k : ℕ) × (isMove moves k ≡ true) × (suc (far (turnOf kind k s)) ≡ far s)
+      nearer-move h =
+          let c = depths .closer (rankOf kind n s) h (omega arith) in
+          (c .0, c .1, omega (arith, c .2, child-far (c .0)))
 
     wanted-near : isWanted kind n table wanted s ≡ true → far s ≡ 0
     unfolding isWanted
-    wanted-near e = ap (depth kind n wanted b) (eqb-true (rankOf kind n s) (rankOf kind n wanted) e) ∙ depths .goal
+    wanted-near e = ap (depth kind n moves wanted b) (eqb-true (rankOf kind n s) (rankOf kind n wanted) e) ∙ depths .goal
 
     near-wanted : far s ≡ 0 → isWanted kind n table wanted s ≡ true
     unfolding isWanted
     near-wanted e = eq-eqb (rankOf kind n s) (rankOf kind n wanted) (depths .only-goal (rankOf kind n s) e)
 
-  -- from one route to another that is m turns nearer, or at the wanted stack
+  -- from one route to another that is m moves nearer, or at the wanted stack
   abbrev Nearer : ℕ → Route → Route → Type 0
   Nearer m r t =
       (isStack kind n (t .stack) ≡ true) × (far (t .stack) ≡ far (r .stack) - m) × (length (t .turns) + far (t .stack) ≡ length (r .turns) + far (r .stack))
 
-  step-nearer : (route : Route) → isStack kind n (route .stack) ≡ true → Nearer 1 route (planStep kind n table wanted route)
+  step-nearer : (route : Route) → isStack kind n (route .stack) ≡ true → far (route .stack) ≤ planLimit
+      → Nearer 1 route (planStep kind n table wanted moves route)
   unfolding planStep
-  step-nearer route stack = go (isWanted kind n table wanted s) refl
+  step-nearer route stack near = go (isWanted kind n table wanted s) refl
     where
       s : List ℤ
       s = route .stack
 
       next : Route
-      next = follow kind n table (turnsOf kind n) route
+      next = follow kind n table moves route
 
       go : (t : Bool) → isWanted kind n table wanted s ≡ t → Nearer 1 route (cond t route next)
       go true e = (stack, omega (arith, wanted-near s stack e), refl)
       go false e =
           let away : far s ≡ 0 → ⊥ = λ z. never (near-wanted s stack z) e in
-          let c = nearer-turn s stack (omega arith) in
-          let f = follow-first kind n table (turnsOf kind n) route (c .0) (c .1) (nearer-leads s stack (c .0) (c .1) (c .2)) in
-          let near = leads-nearer s stack (f .0) (f .1) (f .2) in
+          let c = nearer-move s stack near (omega arith) in
+          let f = follow-first kind n table moves route (c .0) (c .1) (nearer-leads s stack near (c .0) (c .1) (c .2)) in
+          let nearer = leads-nearer s stack near (f .0) (f .1) (f .2) in
           subst (Nearer 1 route) (sym (f .3))
-          (turned s stack (f .0) (f .1), omega arith, omega (arith, length-append (route .turns) (f .0 ∷ [])))
+          (moved-stack kind n in-range laws (f .0) s (f .1) stack, omega arith, omega (arith, length-append (route .turns) (f .0 ∷ [])))
 
-  run-nearer : (left : ℕ) (route : Route) → isStack kind n (route .stack) ≡ true → Nearer left route (planRun kind n table wanted left route)
+  run-nearer : (left : ℕ) (route : Route) → isStack kind n (route .stack) ≡ true → far (route .stack) ≤ planLimit
+      → Nearer left route (planRun kind n table wanted moves left route)
   unfolding planRun
-  run-nearer zero route stack = (stack, omega arith, refl)
-  run-nearer (suc left) route stack =
-      let a = step-nearer route stack in
-      let r = run-nearer left (planStep kind n table wanted route) (a .0) in
+  run-nearer zero route stack near = (stack, omega arith, refl)
+  run-nearer (suc left) route stack near =
+      let a = step-nearer route stack near in
+      let r = run-nearer left (planStep kind n table wanted moves route) (a .0) (omega (arith, a .1)) in
       (r .0, omega (arith, a .1, r .1), omega (arith, a .2, r .2))
 
-  module _ (given : List ℤ) (start : isStack kind n given ≡ true) where
-    route-nearer : Nearer planLimit (record { stack = given; turns = [] }) (routeFrom kind n table wanted given)
+  -- from a stack that has a road of at most as many moves as a plan may have
+  module _ (given : List ℤ) (start : isStack kind n given ≡ true) (near : far given ≤ planLimit) where
+    route-nearer : Nearer planLimit (record { stack = given; turns = [] }) (routeFrom kind n table wanted moves given)
     unfolding routeFrom
-    route-nearer = run-nearer planLimit (record { stack = given; turns = [] }) start
+    route-nearer = run-nearer planLimit (record { stack = given; turns = [] }) start near
 
-    route-ends : far (routeFrom kind n table wanted given .stack) ≡ 0
-    unfolding planLimit
-    route-ends =
-        let r = route-nearer in
-        omega (arith, r .1, stack-depth kind n wanted b in-range goal bound given start, turn-bound-30 kind n in-range)
+    route-ends : far (routeFrom kind n table wanted moves given .stack) ≡ 0
+    route-ends = let r = route-nearer in omega (arith, r .1)
 
-    pub plan-there : hasPlan kind n table wanted given ≡ true
+    pub plan-there : hasPlan kind n table wanted moves given ≡ true
     unfolding hasPlan entryOf unseen
     plan-there =
         rw (
-          ne-eqb (entryAt table (rankOf kind n given)) 3 (λ e. omega (arith, right given start)),
-          eq-eqb (entryAt table (rankOf kind n wanted)) 0 (omega (arith, right wanted goal, depths .goal)),
-          near-wanted (routeFrom kind n table wanted given .stack) (route-nearer .0) route-ends,
+          ne-eqb (entryAt table (rankOf kind n given)) 3 (λ e. omega (arith, right given start (omega arith))),
+          eq-eqb (entryAt table (rankOf kind n wanted)) 0 (omega (arith, right wanted goal (omega (arith, depths .goal)), depths .goal)),
+          near-wanted (routeFrom kind n table wanted moves given .stack) (route-nearer .0) route-ends,
         )
 
-    pub plan-length : length (routeFrom kind n table wanted given .turns) ≡ depth kind n wanted b (rankOf kind n given)
+    plan-length : length (routeFrom kind n table wanted moves given .turns) ≡ far given
     plan-length = omega (arith, route-nearer .2, route-ends)
 
     -- so no road is shorter than the plan
-    pub plan-fewest : Fewest kind n given wanted (length (routeFrom kind n table wanted given .turns))
-    plan-fewest = subst (Fewest kind n given wanted) (sym plan-length) (depth-fewest kind n wanted b in-range goal bound given start)
-
-    pub plan-accepts : (slots : ℕ) → isKind kind ≡ true → length table ≡ bytesFor (stackCount kind n) → planLimit ≤ slots
-        → planRefusal kind n wanted given table slots ≡ 0
-    plan-accepts slots known bytes wide =
-        facts-plan kind n wanted given table slots
-        (record {
-          row = record { of-kind = known; of-panes = in-range; goal = goal; start = start; long = bytes; wide = wide };
-          plan = plan-there;
-        })
+    pub plan-fewest : FewestBy kind (isMove moves) given wanted (length (routeFrom kind n table wanted moves given .turns))
+    plan-fewest =
+        subst (FewestBy kind (isMove moves) given wanted) (sym plan-length)
+        (depth-fewest kind n wanted b in-range goal laws given start (omega arith))

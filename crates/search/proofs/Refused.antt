@@ -8,7 +8,7 @@ use lib.ListN.{length, getD, set}
 use lib.Seq.{set-getD}
 use Rattle.base.proofs.Tests.{and-both}
 use Rattle.search.specs.Blank.{blankRefusal}
-use Rattle.search.specs.Build.{World, Lent, Call, own, other, doBlank, doExpand, doSettle, doLook, doClose, lent, kept, isOwn, isLentOwn, outcome}
+use Rattle.search.specs.Build.{World, withJob, withSegment, withLog, Lengths, Lent, Call, own, other, doBlank, doExpand, doSettle, doLook, doClose, lent, kept, isOwn, isLentOwn, outcome}
 use Rattle.search.specs.Close.{closeRefusal, closeOf}
 use Rattle.search.specs.Entries.{bytesFor}
 use Rattle.search.specs.Expand.{expandRefusal}
@@ -21,7 +21,7 @@ use Rattle.search.specs.declared.Expanded.{Expanded}
 use Rattle.search.proofs.Accepted.{LevelFacts, blank-facts, expand-facts, settle-facts, look-facts, blank-refused, blank-refusal, expand-refused, expand-refusal, settle-refused, settle-refusal, close-refused}
 use Rattle.search.proofs.Invariant.{Shaped}
 use Rattle.search.proofs.Shapes.{stacks-is, area-is}
-use Rattle.search.proofs.Terms.{Terms, bytesOf, wordsOf}
+use Rattle.search.proofs.Terms.{Terms, lengthsOf}
 
 -- what a call gives back as it was lent it, the build keeps
 kept-lent : {right : ℕ} (buffer : Lent right) (mine : List ℕ) → kept buffer mine (lent buffer mine) ≡ mine
@@ -35,17 +35,16 @@ keeps-segment segments j buffer =
     ap (λ (s : List ℕ). set segments j s) (kept-lent buffer (getD segments j [])) ∙ set-getD segments j []
 
 -- a world with what a call on segment j has given back
-abbrev withSegment : {right : ℕ} → World → ℕ → Lent right → List ℕ × Answer → World
-withSegment w j segment out =
-    record {
-      job = out .1 .job;
-      segments = set (w .segments) j (kept segment (getD (w .segments) j []) (out .0));
-      log = w .log;
-    }
+abbrev given-back : {right : ℕ} → World → ℕ → Lent right → List ℕ × Answer → World
+given-back w j segment out = withJob (out .1 .job) (withSegment j (kept segment (getD (w .segments) j []) (out .0)) w)
 
-module _ {bytes : ℕ → ℕ} {words : ℕ} (w : World) where
+-- a world with all segments replaced
+abbrev withSegments : World → List (List ℕ) → World
+withSegments w segments = record { job = w .job; segments = segments; log = w .log }
+
+module _ {right : Lengths} (w : World) where
   -- the refusal that a call meets
-  unfoldable pub refusalOf : Call bytes words → ℕ
+  unfoldable pub refusalOf : Call right → ℕ
   refusalOf (doBlank j segment) = blankRefusal (w .job) j (length (lent segment (getD (w .segments) j [])))
   refusalOf (doExpand j segment log) =
       expandRefusal (w .job) j (length (lent segment (getD (w .segments) j []))) (length (lent log (w .log)))
@@ -54,7 +53,7 @@ module _ {bytes : ℕ → ℕ} {words : ℕ} (w : World) where
   refusalOf (doLook j log) = lookRefusal (w .job) j (length (lent log (w .log)))
   refusalOf doClose = closeRefusal (w .job)
 
-  pub refusal-is : (call : Call bytes words) → outcome w call .refusal ≡ refusalOf call
+  pub refusal-is : (call : Call right) → outcome w call .refusal ≡ refusalOf call
   unfolding outcome refusalOf lookOf closeOf
   refusal-is (doBlank j segment) = blank-refusal (w .job) j (lent segment (getD (w .segments) j []))
   refusal-is (doExpand j segment log) = expand-refusal (w .job) j (lent segment (getD (w .segments) j [])) (lent log (w .log))
@@ -62,58 +61,54 @@ module _ {bytes : ℕ → ℕ} {words : ℕ} (w : World) where
   refusal-is (doLook j log) = refl
   refusal-is doClose = refl
 
-  same-world : (call : Call bytes words) → (refusalOf call ≡ 0 → ⊥) → outcome w call .world ≡ w
+  same-world : (call : Call right) → (refusalOf call ≡ 0 → ⊥) → outcome w call .world ≡ w
   unfolding outcome refusalOf
   same-world (doBlank j segment) h =
-      ap (withSegment w j segment) (blank-refused (w .job) j (lent segment (getD (w .segments) j [])) h)
-      ∙ ap (λ (x : List (List ℕ)). record { job = w .job; segments = x; log = w .log }) (keeps-segment (w .segments) j segment)
+      ap (given-back w j segment) (blank-refused (w .job) j (lent segment (getD (w .segments) j [])) h)
+      ∙ ap (withSegments w) (keeps-segment (w .segments) j segment)
   same-world (doExpand j segment log) h =
-      ap (λ (o : List ℕ × List ℕ × Expanded). record {
-        job = o .2 .job;
-        segments = set (w .segments) j (kept segment (getD (w .segments) j []) (o .0));
-        log = kept log (w .log) (o .1);
-      }) (expand-refused (w .job) j (lent segment (getD (w .segments) j [])) (lent log (w .log)) h)
-      ∙ ap (λ (x : List (List ℕ)). record { job = w .job; segments = x; log = kept log (w .log) (lent log (w .log)) })
-      (keeps-segment (w .segments) j segment)
-      ∙ ap (λ (x : List ℕ). record { job = w .job; segments = w .segments; log = x }) (kept-lent log (w .log))
+      ap (λ (o : List ℕ × List ℕ × Expanded). withJob (o .2 .job)
+      (withLog (kept log (w .log) (o .1)) (withSegment j (kept segment (getD (w .segments) j []) (o .0)) w))) (expand-refused (w .job) j (lent segment (getD (w .segments) j [])) (lent log (w .log)) h)
+      ∙ ap (λ (x : List (List ℕ)). withLog (kept log (w .log) (lent log (w .log))) (withSegments w x)) (keeps-segment (w .segments) j segment)
+      ∙ ap (λ (x : List ℕ). withLog x w) (kept-lent log (w .log))
   same-world (doSettle j segment log) h =
-      ap (withSegment w j segment) (settle-refused (w .job) j (lent segment (getD (w .segments) j [])) (lent log (w .log)) h)
-      ∙ ap (λ (x : List (List ℕ)). record { job = w .job; segments = x; log = w .log }) (keeps-segment (w .segments) j segment)
+      ap (given-back w j segment) (settle-refused (w .job) j (lent segment (getD (w .segments) j [])) (lent log (w .log)) h)
+      ∙ ap (withSegments w) (keeps-segment (w .segments) j segment)
   same-world (doLook j log) h = refl
-  same-world doClose h = ap (λ (o : Answer). record { job = o .job; segments = w .segments; log = w .log }) (close-refused (w .job) h)
+  same-world doClose h = ap (λ (o : Answer). withJob (o .job) w) (close-refused (w .job) h)
 
-  pub refused-same : (call : Call bytes words) → (outcome w call .refusal ≡ 0 → ⊥) → outcome w call .world ≡ w
+  pub refused-same : (call : Call right) → (outcome w call .refusal ≡ 0 → ⊥) → outcome w call .world ≡ w
   refused-same call h = same-world call (λ e. h (refusal-is call ∙ e))
 
 -- ---- wrong arguments are refused
 
 module _ {terms : Terms} {w : World} (shaped : Shaped terms w) where
-  own-segment : (j : ℕ) (segment : Lent (bytesOf terms j))
+  own-segment : (j : ℕ) (segment : Lent (lengthsOf terms .bytes j))
       → length (lent segment (getD (w .segments) j [])) ≡ bytesFor (stackCountAt (w .job) j) → isOwn segment ≡ true
   unfolding rightBytes lent isOwn
   own-segment j own h = refl
   own-segment j (other xs wrong) h = absurd (wrong (h ∙ ap bytesFor (stacks-is shaped j)))
 
-  own-log : (log : Lent (wordsOf terms)) → length (lent log (w .log)) ≡ logLength (w .job) → isOwn log ≡ true
+  own-log : (log : Lent (lengthsOf terms .words)) → length (lent log (w .log)) ≡ logLength (w .job) → isOwn log ≡ true
   unfolding rightWords lent isOwn
   own-log own h = refl
   own-log (other xs wrong) h = absurd (wrong (h ∙ area-is shaped))
 
-  own-both : (j : ℕ) (segment : Lent (bytesOf terms j)) (log : Lent (wordsOf terms))
+  own-both : (j : ℕ) (segment : Lent (lengthsOf terms .bytes j)) (log : Lent (lengthsOf terms .words))
       → LevelFacts (w .job) j (length (lent segment (getD (w .segments) j []))) (length (lent log (w .log)))
       → (isOwn segment && isOwn log) ≡ true
   own-both j segment log f = and-both (isOwn segment) (isOwn log) (own-segment j segment (f .long)) (own-log log (f .wide))
 
-  own-accepted : (call : Call (bytesOf terms) (wordsOf terms)) → refusalOf w call ≡ 0 → isLentOwn call ≡ true
+  own-accepted : (call : Call (lengthsOf terms)) → refusalOf w call ≡ 0 → isLentOwn call ≡ true
   unfolding refusalOf isLentOwn
   own-accepted (doBlank j segment) e = own-segment j segment (blank-facts (w .job) j (length (lent segment (getD (w .segments) j []))) e .long)
   own-accepted (doExpand j segment log) e =
       own-both j segment log (expand-facts (w .job) j (length (lent segment (getD (w .segments) j []))) (length (lent log (w .log))) e .0)
   own-accepted (doSettle j segment log) e =
       own-both j segment log (settle-facts (w .job) j (length (lent segment (getD (w .segments) j []))) (lent log (w .log)) e .0)
-  own-accepted (doLook j log) e = own-log log (look-facts (w .job) j (length (lent log (w .log))) e .wide)
+  own-accepted (doLook j log) e = own-log log (look-facts (w .job) j (length (lent log (w .log))) e .1)
   own-accepted doClose e = refl
 
   -- a call lent another buffer is refused
-  pub accepted-own : (call : Call (bytesOf terms) (wordsOf terms)) → outcome w call .refusal ≡ 0 → isLentOwn call ≡ true
+  pub accepted-own : (call : Call (lengthsOf terms)) → outcome w call .refusal ≡ 0 → isLentOwn call ≡ true
   accepted-own call h = own-accepted call (sym (refusal-is w call) ∙ h)

@@ -14,42 +14,42 @@ use lib.Seq.{take-take, getD-take, getD-drop, getD-append-add}
 use borrow.Author.Tests.{leb-true, eqb-true}
 use Rattle.base.proofs.Tests.{and-left, and-right, lt-or-ge}
 use Rattle.search.specs.Entries.{entryAt, bytesFor, digit}
-use Rattle.search.specs.Segments.{segmentLimit, segmentCount, stackCountIn, isSegmentSize, isLogRoom, joined}
+use Rattle.search.specs.Segments.{segmentLimit, leastSize, mostSize, leastRoom, mostRoom, segmentCount, stackCountIn, isSegmentSize, isLogRoom, joined}
 use Rattle.search.specs.Logs.{logPart}
 
 -- what the tests of S and C say
 pub record SegmentSizeFacts (N S : ℕ) : Type 0 where
   pub four : S % 4 ≡ 0
-  pub least : 4 ≤ S
-  pub most : S ≤ 67108864
-  pub few : segmentCount N S ≤ 64
+  pub least : leastSize ≤ S
+  pub most : S ≤ mostSize
+  pub few : segmentCount N S ≤ segmentLimit
 
 pub segment-size-facts : (N S : ℕ) → isSegmentSize N S ≡ true → SegmentSizeFacts N S
-unfolding isSegmentSize segmentLimit
+unfolding isSegmentSize
 segment-size-facts N S h =
     let a = eqb (S % 4) 0 in
-    let b = leb 4 S in
-    let c = leb S 67108864 in
-    let d = leb (segmentCount N S) 64 in
+    let b = leb leastSize S in
+    let c = leb S mostSize in
+    let d = leb (segmentCount N S) segmentLimit in
     let three = and-left (a && b && c) d h in
     let two = and-left (a && b) c three in
     record {
       four = eqb-true (S % 4) 0 (and-left a b two);
-      least = leb-true 4 S (and-right a b two);
-      most = leb-true S 67108864 (and-right (a && b) c three);
-      few = leb-true (segmentCount N S) 64 (and-right (a && b && c) d h);
+      least = leb-true leastSize S (and-right a b two);
+      most = leb-true S mostSize (and-right (a && b) c three);
+      few = leb-true (segmentCount N S) segmentLimit (and-right (a && b && c) d h);
     }
 
 pub record LogRoomFacts (C : ℕ) : Type 0 where
-  pub least : 16 ≤ C
-  pub most : C ≤ 1048576
+  pub least : leastRoom ≤ C
+  pub most : C ≤ mostRoom
 
 pub log-room-facts : (C : ℕ) → isLogRoom C ≡ true → LogRoomFacts C
 unfolding isLogRoom
 log-room-facts C h =
     record {
-      least = leb-true 16 C (and-left (leb 16 C) (leb C 1048576) h);
-      most = leb-true C 1048576 (and-right (leb 16 C) (leb C 1048576) h);
+      least = leb-true leastRoom C (and-left (leb leastRoom C) (leb C mostRoom) h);
+      most = leb-true C mostRoom (and-right (leb leastRoom C) (leb C mostRoom) h);
     }
 
 pub four-mul : (j S : ℕ) → S % 4 ≡ 0 → j * S ≡ j * (S / 4) * 4

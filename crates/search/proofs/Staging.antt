@@ -19,9 +19,10 @@ use Rattle.base.proofs.Tests.{eq-or-ne, lt-or-ge}
 use Rattle.graph.specs.Walks.{isMove}
 use Rattle.graph.proofs.Counts.{found}
 use Rattle.graph.proofs.Levels.{Level, Marked, level-mark, level-log, level-look, level-unlog}
-use Rattle.search.specs.Build.{World}
+use Rattle.search.specs.Build.{World, withJob, withSegment, withLog}
 use Rattle.search.specs.Entries.{entryAt, bytesFor}
-use Rattle.search.specs.JobState.{passedOf, waitingOf, countOf, progressed, lastLevel}
+use Rattle.search.specs.JobState.{passedOf, waitingOf, countOf, progressed}
+use Rattle.search.specs.Segments.{segmentLimit}
 use Rattle.search.specs.Marks.{Marks, markOne}
 use Rattle.search.specs.Logs.{Logs, logOne}
 use Rattle.search.proofs.Invariant.{Shaped, Searches, Looked, Logged, entryIn}
@@ -34,7 +35,7 @@ pub record MarksFit (terms : Terms) (j : ℕ) (marks : Marks) : Type 0 where
   pub spare : (i : ℕ) → m terms j ≤ i → i < 4 * bytesFor (m terms j) → entryAt (marks .segment) i ≡ 3
 
 pub record LogsFit (terms : Terms) (logs : Logs) : Type 0 where
-  pub waiting-length : length (logs .waiting) ≡ 64
+  pub waiting-length : length (logs .waiting) ≡ segmentLimit
   pub log-length : length (logs .log) ≡ G terms * terms .C
   pub waiting-fits : (t : ℕ) → getD (logs .waiting) t 0 ≤ terms .C
   pub waiting-beyond : (t : ℕ) → G terms ≤ t → getD (logs .waiting) t 0 ≡ 0
@@ -49,15 +50,16 @@ abbrev pub Met : Terms → List ℕ → ℕ → ℕ → Type 0
 Met terms passed u v =
     (u % terms .S < getD passed (u / terms .S) 0) × ((k : ℕ) × (isMove (moves terms) k ≡ true) × (step terms k u ≡ v))
 
-pub mark-fits : (terms : Terms) (j d i : ℕ) (marks : Marks) → i < m terms j → MarksFit terms j marks → MarksFit terms j (markOne d i marks)
-mark-fits terms j d i marks h fit =
+pub mark-fits : (terms : Terms) (j d v : ℕ) (marks : Marks) → v % terms .S < m terms j → MarksFit terms j marks
+    → MarksFit terms j (markOne (terms .S) d v marks)
+mark-fits terms j d v marks h fit =
     record {
-      bytes = mark-length d i marks ∙ fit .bytes;
-      spare = λ l g k. mark-other d i marks l (λ e. omega arith) ∙ fit .spare l g k;
+      bytes = mark-length (terms .S) d v marks ∙ fit .bytes;
+      spare = λ l g k. mark-other (terms .S) d v marks l (λ e. omega arith) ∙ fit .spare l g k;
     }
 
 -- an offset appended to the log of segment t, which has room
-module _ (terms : Terms) (few : G terms ≤ 64) (logs : Logs) (fit : LogsFit terms logs) (t i : ℕ) (inside : t < G terms)
+module _ (terms : Terms) (few : G terms ≤ segmentLimit) (logs : Logs) (fit : LogsFit terms logs) (t i : ℕ) (inside : t < G terms)
     (room : getD (logs .waiting) t 0 < terms .C) where
   pub log-waiting : getD (logOne (terms .C) t i logs .waiting) t 0 ≡ getD (logs .waiting) t 0 + 1
   unfolding logOne
@@ -156,11 +158,8 @@ module _ (terms : Terms) (few : G terms ≤ 64) (logs : Logs) (fit : LogsFit ter
 -- the world that a call on segment j, in level d, has come to
 unfoldable pub stage : World → ℕ → ℕ → Marks → Logs → ℕ → World
 stage w d j marks logs at =
-    record {
-      job = progressed (w .job) (w .job .phase) (set (w .job .passed) j at) (logs .waiting) (set (w .job .counts) d (marks .count));
-      segments = set (w .segments) j (marks .segment);
-      log = logs .log;
-    }
+    withJob (progressed (w .job) (w .job .phase) (set (w .job .passed) j at) (logs .waiting) (set (w .job .counts) d (marks .count)))
+    (withLog (logs .log) (withSegment j (marks .segment) w))
 
 module _ (terms : Terms) where
   pub record Searching (w : World) (d : ℕ) : Type 0 where
@@ -179,7 +178,6 @@ module _ {terms : Terms} (given : Given terms) {w : World} {d : ℕ} (search : S
   listed = omega (arith, search .shaped .segments-length)
 
   counted : d < length (w .job .counts)
-  unfolding lastLevel
   counted = omega (arith, search .shaped .counts-length, search .searches .last)
 
   passed-here : (at t : ℕ) → t ≡ j → getD (set (w .job .passed) j at) t 0 ≡ at
@@ -207,23 +205,23 @@ module _ {terms : Terms} (given : Given terms) {w : World} {d : ℕ} (search : S
       }
 
   module _ {marks : Marks} {logs : Logs} {at : ℕ} (staged : Staged terms w d j marks logs at) where
-    pub stage-marked : (i : ℕ) → i < m terms j
-        → Marked (N terms) d (entryIn (terms .S) (set (w .segments) j (marks .segment)))
-        (entryIn (terms .S) (set (w .segments) j (markOne d i marks .segment))) (j * terms .S + i)
-    stage-marked i h = mark-marked (N terms) (terms .S) (some given) (w .segments) j listed d i marks h (staged .marks-fit .bytes)
+    module _ (v : ℕ) (h : v < N terms) (here : v / terms .S ≡ j) where
+      pub stage-marked : Marked (N terms) d (entryIn (terms .S) (set (w .segments) j (marks .segment)))
+          (entryIn (terms .S) (set (w .segments) j (markOne (terms .S) d v marks .segment))) v
+      stage-marked = mark-marked (N terms) (terms .S) (some given) (w .segments) j listed d v marks h here (staged .marks-fit .bytes)
 
-    -- a stack of this segment that is no deeper than d is marked
-    pub stage-mark : (i : ℕ) → i < m terms j → D terms (j * terms .S + i) ≤ d
-        → Staged terms w d j (markOne d i marks) logs at
-    stage-mark i h near =
-        record {
-          at-fits = staged .at-fits;
-          marks-fit = mark-fits terms j d i marks h (staged .marks-fit);
-          logs-fit = staged .logs-fit;
-          level = level-mark (staged .level) near (stage-marked i h);
-          count = mark-count (N terms) (terms .S) (some given) (w .segments) j listed d i marks h (staged .marks-fit .bytes) (staged .level) near
-              (staged .count);
-        }
+      -- a stack of this segment that is no deeper than d is marked
+      pub stage-mark : D terms v ≤ d → Staged terms w d j (markOne (terms .S) d v marks) logs at
+      stage-mark near =
+          record {
+            at-fits = staged .at-fits;
+            marks-fit = mark-fits terms j d v marks
+                (subst (λ (t : ℕ). v % terms .S < m terms t) here (stack-offset (N terms) (terms .S) (some given) v h)) (staged .marks-fit);
+            logs-fit = staged .logs-fit;
+            level = level-mark (staged .level) near stage-marked;
+            count = mark-count (N terms) (terms .S) (some given) (w .segments) j listed d v marks h here (staged .marks-fit .bytes) (staged .level)
+                near (staged .count);
+          }
 
     -- a stack elsewhere that is no deeper than d is logged
     pub stage-log : (v : ℕ) → v < N terms → D terms v ≤ d → getD (logs .waiting) (v / terms .S) 0 < terms .C

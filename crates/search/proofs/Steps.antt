@@ -16,7 +16,7 @@ use Rattle.search.proofs.Invariant.{Invariant, InPhase, blanking, searc
 use Rattle.search.proofs.Refused.{refusalOf, refusal-is, refused-same, accepted-own}
 use Rattle.search.proofs.SettleKeeps.{settle-keeps}
 use Rattle.search.proofs.Staging.{Searching}
-use Rattle.search.proofs.Terms.{Terms, Given, bytesOf, wordsOf}
+use Rattle.search.proofs.Terms.{Terms, Given, lengthsOf}
 
 module _ {terms : Terms} {w : World} where
   -- in a level the invariant is that of the search
@@ -36,32 +36,32 @@ module _ {terms : Terms} {w : World} where
 module _ {terms : Terms} (given : Given terms) where
   module _ {w : World} (invariant : Invariant terms w) where
     -- a call lent the build's own, and accepted
-    own-keeps : (call : Call (bytesOf terms) (wordsOf terms)) → refusalOf w call ≡ 0 → isLentOwn call ≡ true
+    own-keeps : (call : Call (lengthsOf terms)) → refusalOf w call ≡ 0 → isLentOwn call ≡ true
         → Invariant terms (outcome w call .world)
     unfolding outcome refusalOf isLentOwn isOwn lent kept
     own-keeps (doBlank j own) h o = subst (Invariant terms) (sym (blank-world w j h)) (blank-keeps given invariant j h)
     own-keeps (doBlank j (other xs wrong)) h o = absurd (false≢true o)
     own-keeps (doExpand j own own) h o =
-        let s = invariant-searching invariant (expand-facts (w .job) j (length (getD (w .segments) j [])) (length (w .log)) h .0 .level) in
-        searching-invariant (expand-keeps given (s .1) (bytesOf terms) (wordsOf terms) j h)
+        let s = invariant-searching invariant (expand-facts (w .job) j (length (getD (w .segments) j [])) (length (w .log)) h .0 .called .in-phase) in
+        searching-invariant (expand-keeps given (s .1) (lengthsOf terms) j h)
     own-keeps (doExpand j own (other xs wrong)) h o = absurd (false≢true o)
     own-keeps (doExpand j (other xs wrong) log) h o = absurd (false≢true o)
     own-keeps (doSettle j own own) h o =
-        let s = invariant-searching invariant (settle-facts (w .job) j (length (getD (w .segments) j [])) (w .log) h .0 .level) in
-        searching-invariant (settle-keeps given (s .1) (bytesOf terms) (wordsOf terms) j h)
+        let s = invariant-searching invariant (settle-facts (w .job) j (length (getD (w .segments) j [])) (w .log) h .0 .called .in-phase) in
+        searching-invariant (settle-keeps given (s .1) (lengthsOf terms) j h)
     own-keeps (doSettle j own (other xs wrong)) h o = absurd (false≢true o)
     own-keeps (doSettle j (other xs wrong) log) h o = absurd (false≢true o)
     own-keeps (doLook j log) h o = invariant
     own-keeps doClose h o = subst (Invariant terms) (sym (close-world w h)) (close-keeps given invariant h)
 
-    pub step-keeps : (call : Call (bytesOf terms) (wordsOf terms)) → Invariant terms (outcome w call .world)
+    pub step-keeps : (call : Call (lengthsOf terms)) → Invariant terms (outcome w call .world)
     step-keeps call = go (eq-or-ne (outcome w call .refusal) 0)
       where
         go : (outcome w call .refusal ≡ 0) ⊎ (outcome w call .refusal ≡ 0 → ⊥) → Invariant terms (outcome w call .world)
         go (inl e) = own-keeps call (sym (refusal-is w call) ∙ e) (accepted-own (invariant .shaped) call e)
         go (inr ne) = subst (Invariant terms) (sym (refused-same w call ne)) invariant
 
-  pub after-keeps : {w : World} → Invariant terms w → (calls : List (Call (bytesOf terms) (wordsOf terms)))
+  pub after-keeps : {w : World} → Invariant terms w → (calls : List (Call (lengthsOf terms)))
       → Invariant terms (after w calls)
   unfolding after
   after-keeps invariant [] = invariant

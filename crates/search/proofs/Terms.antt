@@ -1,11 +1,12 @@
 -- What an accepted Begin was given, as one value, with document 01's letters for what follows from it.
 --   N, G, m       the stacks, the segments, the stacks of segment j
---   bytesOf, wordsOf   the right lengths of segment j and of the log area
---   moves, step   the turns, and the child by a turn, as an index
+--   lengthsOf     the right lengths of what calls are lent
+--   moves, step   the moves, and the child by a move, as an index
 --   goal          the wanted stack's index
---   D             the fewest turns from the stack at an index, cut above the last level
---   levelCount    how many stacks are at exactly d turns
---   Given         what Begin saw to, and what follows: some stacks in a segment, few segments, no stack as deep as the last level
+--   D             the fewest moves from the stack at an index, cut beyond the last level
+--   levelCount    how many stacks are at exactly d moves
+--   Given         what Begin saw to, and what follows: some stacks in a segment, few segments, and the laws of the moves
+-- That every stack has a road, shorter than the last level, is a fact about all turns; it enters here alone, as `depth-last`.
 use mathlib.Core.Path.{_≡_}
 use mathlib.Core.Bool.{true}
 use mathlib.Core.List.{List}
@@ -17,15 +18,16 @@ use Rattle.base.specs.Words.{tally, from}
 use Rattle.graph.proofs.Depths.{Depths}
 use Rattle.stacks.specs.Index.{rankOf}
 use Rattle.stacks.specs.Stack.{isKind, isPaneCount, isStack, stackCount}
-use Rattle.stacks.specs.Turn.{turnsOf, turnBound}
+use Rattle.stacks.specs.Turn.{turnsOf}
 use Rattle.stacks.proofs.TurnBound.{turn-bound-30}
+use Rattle.search.specs.Build.{Lengths}
 use Rattle.search.specs.JobState.{lastLevel}
-use Rattle.search.specs.Promise.{rightBytes, rightWords}
-use Rattle.search.specs.Segments.{segmentCount, stackCountIn, isSegmentSize, isLogRoom}
+use Rattle.search.specs.Promise.{rightLengths}
+use Rattle.search.specs.Segments.{segmentLimit, segmentCount, stackCountIn, isSegmentSize, isLogRoom}
 use Rattle.search.specs.declared.Job.{Job}
-use Rattle.search.proofs.Fewest.{depth, levels-bound, turn-depths, goal-inside, depth-small}
+use Rattle.search.proofs.Fewest.{depth, move-depths, goal-inside, turns-depth}
 use Rattle.search.proofs.SegmentLaws.{SegmentSizeFacts, segment-size-facts}
-use Rattle.search.proofs.Turning.{childAt}
+use Rattle.search.proofs.Turning.{childAt, Moves, all-turns}
 
 pub record Terms : Type 0 where
   pub kind : ℕ
@@ -50,11 +52,8 @@ G terms = segmentCount (N terms) (terms .S)
 abbrev pub m : Terms → ℕ → ℕ
 m terms = stackCountIn (N terms) (terms .S)
 
-abbrev pub bytesOf : Terms → ℕ → ℕ
-bytesOf terms = rightBytes (terms .kind) (terms .n) (terms .S)
-
-abbrev pub wordsOf : Terms → ℕ
-wordsOf terms = rightWords (terms .kind) (terms .n) (terms .S) (terms .C)
+abbrev pub lengthsOf : Terms → Lengths
+lengthsOf terms = rightLengths (terms .kind) (terms .n) (terms .S) (terms .C)
 
 abbrev pub moves : Terms → List ℕ
 moves terms = turnsOf (terms .kind) (terms .n)
@@ -65,8 +64,12 @@ step terms = childAt (terms .kind) (terms .n)
 abbrev pub goal : Terms → ℕ
 goal terms = rankOf (terms .kind) (terms .n) (terms .wanted)
 
+-- the depth of a stack that has no road of at most lastLevel moves
+abbrev pub beyond : ℕ
+beyond = suc lastLevel
+
 abbrev pub D : Terms → ℕ → ℕ
-D terms = depth (terms .kind) (terms .n) (terms .wanted) (suc lastLevel)
+D terms = depth (terms .kind) (terms .n) (moves terms) (terms .wanted) beyond
 
 abbrev pub levelCount : Terms → ℕ → ℕ
 levelCount terms d = tally (λ v. eqb (D terms v) d) (from 0 (N terms))
@@ -85,25 +88,23 @@ module _ {terms : Terms} (given : Given terms) where
   pub some : 0 < terms .S
   some = omega (arith, sizes .least)
 
-  pub few : G terms ≤ 64
+  pub few : G terms ≤ segmentLimit
   few = sizes .few
 
-  -- the levels that are searched reach past every stack
-  pub bound : turnBound (terms .kind) (terms .n) < suc lastLevel
-  bound = levels-bound (terms .kind) (terms .n) (given .in-range)
+  pub laws : Moves (terms .kind) (terms .n) (moves terms)
+  laws = all-turns (terms .kind) (terms .n) (given .in-range)
 
-  pub depths : Depths (N terms) (moves terms) (step terms) (goal terms) (suc lastLevel) (D terms)
-  depths = turn-depths (terms .kind) (terms .n) (terms .wanted) (suc lastLevel) (given .in-range) (given .stack) bound
+  pub depths : Depths (N terms) (moves terms) (step terms) (goal terms) beyond (D terms)
+  depths = move-depths (terms .kind) (terms .n) (terms .wanted) beyond (given .in-range) (given .stack) laws (omega arith)
 
   pub goal-here : goal terms < N terms
-  goal-here = goal-inside (terms .kind) (terms .n) (terms .wanted) (suc lastLevel) (given .in-range) (given .stack) bound
+  goal-here = goal-inside (terms .kind) (terms .n) (terms .wanted) beyond (given .in-range) (given .stack) laws
 
-  -- no stack is as deep as the last level
+  -- by all turns, no stack is as deep as the last level
   pub depth-last : (v : ℕ) → v < N terms → D terms v < lastLevel
-  unfolding lastLevel
   depth-last v h =
       omega (
         arith,
-        depth-small (terms .kind) (terms .n) (terms .wanted) (suc lastLevel) (given .in-range) (given .stack) bound v h,
+        turns-depth (terms .kind) (terms .n) (terms .wanted) beyond (given .in-range) (given .stack) v h,
         turn-bound-30 (terms .kind) (terms .n) (given .in-range),
       )

@@ -9,7 +9,7 @@ use native.Mathlib.Omega.{arith}
 use lib.ListN.{length, getD}
 use Rattle.base.proofs.Tests.{test-cases, never, eq-or-ne}
 use Rattle.search.specs.Begin.{begun}
-use Rattle.search.specs.Build.{World, Call, doBlank, doExpand, doSettle, doLook, doClose, lent, outcome, after}
+use Rattle.search.specs.Build.{World, Lengths, Call, doBlank, doExpand, doSettle, doLook, doClose, lent, outcome, after}
 use Rattle.search.specs.JobState.{isBlanking, isLevel, isFinished, levelOf, lastLevel}
 use Rattle.search.specs.Promise.{Finishes, FinishedByClose, WholeBuild}
 use Rattle.search.specs.declared.Phase.{Phase}
@@ -24,7 +24,7 @@ use Rattle.search.proofs.Invariant.{Invariant, InPhase, blanking, searc
 use Rattle.search.proofs.Refused.{refusalOf, refusal-is, refused-same}
 use Rattle.search.proofs.Steps.{step-keeps, after-keeps}
 use Rattle.search.proofs.WorkLeft.{workLeft}
-use Rattle.search.proofs.Terms.{Terms, termsWith, Given, N, bytesOf, wordsOf}
+use Rattle.search.proofs.Terms.{Terms, termsWith, Given, N, lengthsOf}
 
 -- ---- what has finished stays so
 
@@ -40,45 +40,45 @@ finished-level Blanking h = refl
 finished-level (Level d) h = absurd (false≢true h)
 finished-level (Finished d) h = refl
 
-module _ {bytes : ℕ → ℕ} {words : ℕ} where
-  finished-refuses : (w : World) (call : Call bytes words) → isFinished (w .job .phase) ≡ true
+module _ {right : Lengths} where
+  finished-refuses : (w : World) (call : Call right) → isFinished (w .job .phase) ≡ true
       → (refusalOf w call ≡ 0 → ⊥) ⊎ (outcome w call .world ≡ w)
   unfolding refusalOf outcome
   finished-refuses w (doBlank j segment) h =
-      inl (λ e. never (blank-facts (w .job) j (length (lent segment (getD (w .segments) j []))) e .blanking) (finished-blanking (w .job .phase) h))
+      inl (λ e. never (blank-facts (w .job) j (length (lent segment (getD (w .segments) j []))) e .called .in-phase) (finished-blanking (w .job .phase) h))
   finished-refuses w (doExpand j segment log) h =
       inl (λ e. never
-      (expand-facts (w .job) j (length (lent segment (getD (w .segments) j []))) (length (lent log (w .log))) e .0 .level)
+      (expand-facts (w .job) j (length (lent segment (getD (w .segments) j []))) (length (lent log (w .log))) e .0 .called .in-phase)
       (finished-level (w .job .phase) h))
   finished-refuses w (doSettle j segment log) h =
       inl (λ e. never
-      (settle-facts (w .job) j (length (lent segment (getD (w .segments) j []))) (lent log (w .log)) e .0 .level)
+      (settle-facts (w .job) j (length (lent segment (getD (w .segments) j []))) (lent log (w .log)) e .0 .called .in-phase)
       (finished-level (w .job .phase) h))
   finished-refuses w (doLook j log) h = inr refl
   finished-refuses w doClose h = inl (λ e. never h (close-facts (w .job) e .unfinished))
 
-  pub finished-same : (w : World) (call : Call bytes words) → isFinished (w .job .phase) ≡ true → outcome w call .world ≡ w
+  pub finished-same : (w : World) (call : Call right) → isFinished (w .job .phase) ≡ true → outcome w call .world ≡ w
   finished-same w call h = go (finished-refuses w call h)
     where
       go : (refusalOf w call ≡ 0 → ⊥) ⊎ (outcome w call .world ≡ w) → outcome w call .world ≡ w
       go (inl ne) = refused-same w call (λ e. ne (sym (refusal-is w call) ∙ e))
       go (inr e) = e
 
-  pub finished-stays : (w : World) (calls : List (Call bytes words)) → isFinished (w .job .phase) ≡ true → after w calls ≡ w
+  pub finished-stays : (w : World) (calls : List (Call right)) → isFinished (w .job .phase) ≡ true → after w calls ≡ w
   unfolding after
   finished-stays w [] h = refl
   finished-stays w (call ∷ calls) h = ap (λ (x : World). after x calls) (finished-same w call h) ∙ finished-stays w calls h
 
-  pub after-append : (w : World) (calls more : List (Call bytes words)) → after w (calls ++ more) ≡ after (after w calls) more
+  pub after-append : (w : World) (calls more : List (Call right)) → after w (calls ++ more) ≡ after (after w calls) more
   unfolding after
   after-append w [] more = refl
   after-append w (call ∷ calls) more = after-append (outcome w call .world) calls more
 
 -- ---- only Close finishes a build
 
-module _ {bytes : ℕ → ℕ} {words : ℕ} where
+module _ {right : Lengths} where
   -- Blank, Expand and Settle answer a job of the same phase, accepted or refused
-  pub only-close-finishes : (w : World) (call : Call bytes words) → isFinished (w .job .phase) ≡ false
+  pub only-close-finishes : (w : World) (call : Call right) → isFinished (w .job .phase) ≡ false
       → isFinished (outcome w call .world .job .phase) ≡ true → call ≡ doClose
   unfolding outcome
   only-close-finishes w (doBlank j segment) u f =
@@ -91,7 +91,7 @@ module _ {bytes : ℕ → ℕ} {words : ℕ} where
   only-close-finishes w doClose u f = refl
 
   -- a call that finishes a build is accepted
-  finishing-accepted : (w : World) (call : Call bytes words) → isFinished (w .job .phase) ≡ false → isFinished (outcome w call .world .job .phase) ≡ true
+  finishing-accepted : (w : World) (call : Call right) → isFinished (w .job .phase) ≡ false → isFinished (outcome w call .world .job .phase) ≡ true
       → outcome w call .refusal ≡ 0
   finishing-accepted w call u f = go (eq-or-ne (outcome w call .refusal) 0)
     where
@@ -99,7 +99,7 @@ module _ {bytes : ℕ → ℕ} {words : ℕ} where
       go (inl e) = e
       go (inr ne) = never f (ap (λ (x : World). isFinished (x .job .phase)) (refused-same w call ne) ∙ u)
 
-  finished-by-close : (w : World) (calls : List (Call bytes words)) → isFinished (w .job .phase) ≡ false → isFinished (after w calls .job .phase) ≡ true
+  finished-by-close : (w : World) (calls : List (Call right)) → isFinished (w .job .phase) ≡ false → isFinished (after w calls .job .phase) ≡ true
       → FinishedByClose w calls
   unfolding after
   finished-by-close w [] u f = never f u
@@ -108,13 +108,13 @@ module _ {bytes : ℕ → ℕ} {words : ℕ} where
     where
       -- what holds of the call, as one of Close
       close : isFinished (outcome w call .world .job .phase) ≡ true
-          → (call ≡ doClose) × (outcome {bytes = bytes} {words = words} w doClose .refusal ≡ 0)
-          × (isFinished (outcome {bytes = bytes} {words = words} w doClose .world .job .phase) ≡ true)
+          → (call ≡ doClose) × (outcome {right = right} w doClose .refusal ≡ 0)
+          × (isFinished (outcome {right = right} w doClose .world .job .phase) ≡ true)
       close e =
           let c = only-close-finishes w call u e in (
             c,
-            subst (λ (x : Call bytes words). outcome w x .refusal ≡ 0) c (finishing-accepted w call u e),
-            subst (λ (x : Call bytes words). isFinished (outcome w x .world .job .phase) ≡ true) c e,
+            subst (λ (x : Call right). outcome w x .refusal ≡ 0) c (finishing-accepted w call u e),
+            subst (λ (x : Call right). isFinished (outcome w x .world .job .phase) ≡ true) c e,
           )
 
       go : (isFinished (outcome w call .world .job .phase) ≡ false → FinishedByClose (outcome w call .world) calls)
@@ -124,7 +124,7 @@ module _ {bytes : ℕ → ℕ} {words : ℕ} where
           record {
             before = [];
             later = calls;
-            place = ap (λ (c : Call bytes words). c ∷ calls) (close e .0);
+            place = ap (λ (c : Call right). c ∷ calls) (close e .0);
             unfinished = u;
             accepted = close e .1;
             finished = close e .2;
@@ -134,17 +134,17 @@ module _ {bytes : ℕ → ℕ} {words : ℕ} where
           record {
             before = call ∷ r .before;
             later = r .later;
-            place = ap (λ (cs : List (Call bytes words)). call ∷ cs) (r .place);
+            place = ap (λ (cs : List (Call right)). call ∷ cs) (r .place);
             unfinished = r .unfinished;
             accepted = r .accepted;
             finished = r .finished;
           }
 
-  closed-is-finished : (w : World) (calls : List (Call bytes words)) → FinishedByClose w calls → isFinished (after w calls .job .phase) ≡ true
+  closed-is-finished : (w : World) (calls : List (Call right)) → FinishedByClose w calls → isFinished (after w calls .job .phase) ≡ true
   unfolding after
   closed-is-finished w calls f =
-      let end : World = outcome {bytes = bytes} {words = words} (after w (f .before)) doClose .world in
-      ap (λ (cs : List (Call bytes words)). isFinished (after w cs .job .phase)) (f .place)
+      let end : World = outcome {right = right} (after w (f .before)) doClose .world in
+      ap (λ (cs : List (Call right)). isFinished (after w cs .job .phase)) (f .place)
       ∙ ap (λ (x : World). isFinished (x .job .phase)) (after-append w (f .before) (doClose ∷ f .later) ∙ finished-stays end (f .later) (f .finished))
       ∙ f .finished
 
@@ -153,20 +153,20 @@ module _ {bytes : ℕ → ℕ} {words : ℕ} where
 module _ {terms : Terms} (given : Given terms) where
   -- as many calls as there is work left bring it to an end
   ends-within : (left : ℕ) (w : World) → Invariant terms w → workLeft (N terms) (terms .S) (w .job) ≤ left
-      → (more : List (Call (bytesOf terms) (wordsOf terms))) × (isFinished (after w more .job .phase) ≡ true)
+      → (more : List (Call (lengthsOf terms))) × (isFinished (after w more .job .phase) ≡ true)
   unfolding after
   ends-within zero w invariant h = go (test-cases (isFinished (w .job .phase)))
     where
       go : (isFinished (w .job .phase) ≡ true) ⊎ (isFinished (w .job .phase) ≡ false)
-          → (more : List (Call (bytesOf terms) (wordsOf terms))) × (isFinished (after w more .job .phase) ≡ true)
+          → (more : List (Call (lengthsOf terms))) × (isFinished (after w more .job .phase) ≡ true)
       go (inl e) = ([], e)
       go (inr e) = absurd (omega (arith, invariant-advances given invariant e .falls))
   ends-within (suc left) w invariant h = go (λ x i l. ends-within left x i l) (test-cases (isFinished (w .job .phase)))
     where
       go : ((x : World) → Invariant terms x → workLeft (N terms) (terms .S) (x .job) ≤ left
-          → (more : List (Call (bytesOf terms) (wordsOf terms))) × (isFinished (after x more .job .phase) ≡ true))
+          → (more : List (Call (lengthsOf terms))) × (isFinished (after x more .job .phase) ≡ true))
           → (isFinished (w .job .phase) ≡ true) ⊎ (isFinished (w .job .phase) ≡ false)
-          → (more : List (Call (bytesOf terms) (wordsOf terms))) × (isFinished (after w more .job .phase) ≡ true)
+          → (more : List (Call (lengthsOf terms))) × (isFinished (after w more .job .phase) ≡ true)
       go rest (inl e) = ([], e)
       go rest (inr e) =
           let a = invariant-advances given invariant e in

@@ -1,4 +1,5 @@
--- How much a build has left to do, as a number that falls: levels first, then stacks not passed, then logs with entries.
+-- How much a build has left to do, as a number that falls: levels first, then what is left of the phase: stacks not passed, then logs with
+-- entries.
 use mathlib.Core.Path.{_≡_, sym, ap}
 use mathlib.Core.Bool.{Bool}
 use Prim.Native.Nat.{ℕ, suc, _+_, _-_, _*_, _/_, _%_, _≤_, _<_}
@@ -32,45 +33,44 @@ module _ (N S : ℕ) where
   unfoldable pub logsLeft : Job → ℕ
   logsLeft job = tally (isPending job) (from 0 (segmentCount N S))
 
+  -- what is left of the phase that the job is in, and a number that it stays below
+  unfoldable pub phaseLeft : Job → ℕ
+  phaseLeft job = stacksLeft job * suc (segmentCount N S) + logsLeft job
+
+  unfoldable pub phaseMost : ℕ
+  phaseMost = suc N * suc (segmentCount N S)
+
   unfoldable pub workLeft : Job → ℕ
-  workLeft job = (levelsLeft (job .phase) * suc N + stacksLeft job) * suc (segmentCount N S) + logsLeft job
+  workLeft job = levelsLeft (job .phase) * phaseMost + phaseLeft job
 
-  pub stacks-le : (job : Job) → stacksLeft job ≤ N
-  unfolding stacksLeft
-  stacks-le job = tally-le (isLeft S job) N
-
-  pub logs-le : (job : Job) → logsLeft job ≤ segmentCount N S
-  unfolding logsLeft
-  logs-le job = tally-le (isPending job) (segmentCount N S)
+  pub phase-less : (job : Job) → phaseLeft job < phaseMost
+  unfolding phaseLeft phaseMost stacksLeft logsLeft
+  phase-less job =
+      omega (
+        arith,
+        digits-less (suc (segmentCount N S)) (stacksLeft job) (logsLeft job) (suc N) 0
+            (omega (arith, tally-le (isPending job) (segmentCount N S)))
+            (omega (arith, tally-le (isLeft S job) N)),
+      )
 
   module _ (a b : Job) where
     pub levels-work : levelsLeft (b .phase) < levelsLeft (a .phase) → workLeft b < workLeft a
     unfolding workLeft
-    levels-work h =
-        digits-less (suc (segmentCount N S)) (levelsLeft (b .phase) * suc N + stacksLeft b) (logsLeft b)
-        (levelsLeft (a .phase) * suc N + stacksLeft a)
-        (logsLeft a)
-        (omega (arith, logs-le b))
-        (digits-less (suc N) (levelsLeft (b .phase)) (stacksLeft b) (levelsLeft (a .phase)) (stacksLeft a) (omega (arith, stacks-le b)) h)
+    levels-work h = digits-less phaseMost (levelsLeft (b .phase)) (phaseLeft b) (levelsLeft (a .phase)) (phaseLeft a) (phase-less b) h
+
+    phase-work : b .phase ≡ a .phase → phaseLeft b < phaseLeft a → workLeft b < workLeft a
+    unfolding workLeft
+    phase-work e h = omega (arith, ap (λ (p : Phase). levelsLeft p * phaseMost) e)
 
     pub stacks-work : b .phase ≡ a .phase → stacksLeft b < stacksLeft a → workLeft b < workLeft a
-    unfolding workLeft
+    unfolding phaseLeft logsLeft
     stacks-work e h =
-        digits-less (suc (segmentCount N S)) (levelsLeft (b .phase) * suc N + stacksLeft b) (logsLeft b)
-        (levelsLeft (a .phase) * suc N + stacksLeft a)
-        (logsLeft a)
-        (omega (arith, logs-le b))
-        (omega (arith, ap (λ (p : Phase). levelsLeft p * suc N) e))
+        phase-work e
+        (digits-less (suc (segmentCount N S)) (stacksLeft b) (logsLeft b) (stacksLeft a) (logsLeft a) (omega (arith, tally-le (isPending b) (segmentCount N S))) h)
 
     pub logs-work : b .phase ≡ a .phase → stacksLeft b ≡ stacksLeft a → logsLeft b < logsLeft a → workLeft b < workLeft a
-    unfolding workLeft
-    logs-work e s h =
-        omega (
-          arith,
-          ap (λ (x : ℕ). x * suc (segmentCount N S))
-              (let q : levelsLeft (b .phase) * suc N + stacksLeft b ≡ levelsLeft (a .phase) * suc N + stacksLeft a =
-              omega (arith, ap (λ (p : Phase). levelsLeft p * suc N) e) in q),
-        )
+    unfolding phaseLeft
+    logs-work e s h = phase-work e (omega (arith, ap (λ (x : ℕ). x * suc (segmentCount N S)) s))
 
     pub stacks-fall : 0 < S → (j : ℕ) → passedOf a j < stackCountIn N S j → passedOf a j < passedOf b j
         → ((i : ℕ) → passedOf a i ≤ passedOf b i) → stacksLeft b < stacksLeft a

@@ -5,7 +5,9 @@ use Prim.Native.Nat.{ℕ}
 use lib.Dec.{eqb}
 use lib.IntN.{ℤ, pos}
 use lib.ListN.{replicate}
-use Rattle.search.specs.JobState.{beginRefusal}
+use Rattle.stacks.specs.Stack.{stackPlaces}
+use Rattle.search.specs.JobState.{countPlaces, beginRefusal}
+use Rattle.search.specs.Segments.{segmentLimit}
 use Rattle.search.specs.declared.Answer.{Answer}
 use Rattle.search.specs.declared.Job.{Job}
 use Rattle.search.specs.declared.Phase.the-variants.{Blanking}
@@ -20,13 +22,13 @@ begun kind n wanted S C =
       size = S;
       room = C;
       phase = Blanking;
-      passed = replicate 64 0;
-      waiting = replicate 64 0;
-      counts = replicate 32 0;
+      passed = replicate segmentLimit 0;
+      waiting = replicate segmentLimit 0;
+      counts = replicate countPlaces 0;
     }
 
 -- refused, a job of zeros, of which every later call says 7
 unfoldable pub beginOf : ℕ → ℕ → List ℤ → ℕ → ℕ → Answer
 beginOf kind n wanted S C =
     let r = beginRefusal kind n wanted S C in
-    record { refusal = r; job = cond (eqb r 0) (begun kind n wanted S C) (begun 0 0 (replicate 12 (pos 0)) 0 0) }
+    record { refusal = r; job = cond (eqb r 0) (begun kind n wanted S C) (begun 0 0 (replicate stackPlaces (pos 0)) 0 0) }

@@ -6,18 +6,15 @@ use lib.Dec.{ltb, eqb}
 use lib.ListN.{length, set}
 use Rattle.base.specs.Words.{unless}
 use Rattle.stacks.specs.Index.{rankOf}
-use Rattle.search.specs.Entries.{bytesFor, blank, setEntry}
-use Rattle.search.specs.JobState.{isCoherent, isBlanking, segmentCountOf, stackCountAt, passedOf, progressed}
+use Rattle.search.specs.Entries.{blank, setEntry}
+use Rattle.search.specs.JobState.{isBlanking, stackCountAt, passedOf, progressed}
+use Rattle.search.specs.Refusals.{segmentRefusal}
 use Rattle.search.specs.declared.Answer.{Answer}
 use Rattle.search.specs.declared.Job.{Job}
 
 unfoldable pub blankRefusal : Job → ℕ → ℕ → ℕ
 blankRefusal job j bytes =
-    unless (isCoherent job) 7
-    (unless (isBlanking (job .phase)) 8
-    (unless (ltb j (segmentCountOf job)) 9
-    (unless (eqb bytes (bytesFor (stackCountAt job j))) 10
-    (unless (ltb (passedOf job j) (stackCountAt job j)) 11 0))))
+    segmentRefusal (isBlanking (job .phase)) job j bytes (unless (ltb (passedOf job j) (stackCountAt job j)) 11 0)
 
 -- the index of the wanted stack
 unfoldable pub goalOf : Job → ℕ

@@ -3,9 +3,10 @@ use mathlib.Core.Bool.{Bool, not, _&&_, cond}
 use mathlib.Core.List.{List}
 use Prim.Native.Nat.{ℕ, _+_, _-_}
 use lib.Dec.{eqb}
-use lib.ListN.{set, replicate}
+use lib.ListN.{getD, set, replicate}
 use Rattle.base.specs.Words.{unless, all, from}
 use Rattle.search.specs.JobState.{isCoherent, isFinished, levelOf, lastLevel, segmentCountOf, stackCountAt, passedOf, waitingOf, countOf, progressed}
+use Rattle.search.specs.Segments.{segmentLimit}
 use Rattle.search.specs.declared.Answer.{Answer}
 use Rattle.search.specs.declared.Job.{Job}
 use Rattle.search.specs.declared.Phase.{Phase}
@@ -26,21 +27,22 @@ unfoldable pub closeRefusal : Job → ℕ
 closeRefusal job =
     unless (isCoherent job) 7 (unless (not (isFinished (job .phase))) 8 (unless (isReady job) 13 (unless (not (isPastLast job)) 14 0)))
 
--- the phase after one that closes: a level that brought nothing new ends the search
-unfoldable pub nextPhase : Job → Phase → Phase
-nextPhase job Blanking = Level 1
-nextPhase job (Level d) = cond (eqb (countOf job d) 0) (Finished (d - 1)) (Level (d + 1))
-nextPhase job (Finished d) = Finished d
+-- the phase after one that closes, by the counts: a level that brought nothing new ends the search
+unfoldable pub nextPhase : List ℕ → Phase → Phase
+nextPhase counts Blanking = Level 1
+nextPhase counts (Level d) = cond (eqb (getD counts d 0) 0) (Finished (d - 1)) (Level (d + 1))
+nextPhase counts (Finished d) = Finished d
 
 -- when Blanking closes, count 0 is set to 1
-unfoldable pub nextCounts : Job → Phase → List ℕ
-nextCounts job Blanking = set (job .counts) 0 1
-nextCounts job (Level d) = job .counts
-nextCounts job (Finished d) = job .counts
+unfoldable pub nextCounts : List ℕ → Phase → List ℕ
+nextCounts counts Blanking = set counts 0 1
+nextCounts counts (Level d) = counts
+nextCounts counts (Finished d) = counts
 
 -- each close sets all passed numbers to 0
 unfoldable pub closed : Job → Job
-closed job = progressed job (nextPhase job (job .phase)) (replicate 64 0) (job .waiting) (nextCounts job (job .phase))
+closed job =
+    progressed job (nextPhase (job .counts) (job .phase)) (replicate segmentLimit 0) (job .waiting) (nextCounts (job .counts) (job .phase))
 
 unfoldable pub closeOf : Job → Answer
 closeOf job =

@@ -12,12 +12,12 @@ use lib.Dec.{ltb, eqb}
 use lib.IntN.{ℤ, pos}
 use lib.ListN.{length, take, drop, replicate}
 use Rattle.base.specs.Words.{unless, from, firstFrom}
-use Rattle.stacks.specs.Stack.{stackCount}
+use Rattle.stacks.specs.Stack.{stackPlaces, stackCount}
 use Rattle.search.specs.Begin.{begun}
-use Rattle.search.specs.Build.{World, Call, own, doBlank, doExpand, doSettle, doClose, outcome}
+use Rattle.search.specs.Build.{World, Lengths, Call, own, doBlank, doExpand, doSettle, doClose, outcome}
 use Rattle.search.specs.Entries.{bytesFor}
 use Rattle.search.specs.JobState.{lastLevel, beginRefusal, stackCountOf, segmentCountOf, stackCountAt, passedOf, waitingOf, isBlanking, isFinished}
-use Rattle.search.specs.Promise.{rightBytes, rightWords, Finishes}
+use Rattle.search.specs.Promise.{rightWords, rightLengths, Finishes}
 use Rattle.search.specs.Segments.{segmentCount, stackCountIn, joined}
 use Rattle.search.specs.declared.Answer.{Answer}
 use Rattle.search.specs.declared.Job.{Job}
@@ -40,7 +40,7 @@ firstPending job = firstFrom (isPending job) 0 (segmentCountOf job)
 
 -- in Blanking the first open segment is blanked; in a level the first pending one is settled, and where there is none the first open one
 -- is expanded; with nothing left the phase is closed
-unfoldable pub nextCall : {bytes : ℕ → ℕ} {words : ℕ} → Job → Call bytes words
+unfoldable pub nextCall : {right : Lengths} → Job → Call right
 nextCall job =
     cond (isBlanking (job .phase))
     (cond (ltb (firstOpen job) (segmentCountOf job)) (doBlank (firstOpen job) own) doClose)
@@ -50,11 +50,7 @@ nextCall job =
 
 unfoldable pub advanced : World → World
 advanced w =
-    outcome {bytes = rightBytes (w .job .kind) (w .job .n) (w .job .size)}
-    {words = rightWords (w .job .kind) (w .job .n) (w .job .size) (w .job .room)}
-    w
-    (nextCall (w .job))
-    .world
+    outcome {right = rightLengths (w .job .kind) (w .job .n) (w .job .size) (w .job .room)} w (nextCall (w .job)) .world
 
 -- at most as many calls as are named; the let waits until the test is known
 unfoldable pub drive : ℕ → World → World
@@ -63,7 +59,7 @@ drive (suc calls) w = let rest = drive calls (advanced w) in cond (isFinished (w
 
 -- each call leaves less to do, levels first, then stacks not passed, then logs with entries, so that no build makes more calls
 unfoldable pub mostCalls : ℕ → ℕ → ℕ
-mostCalls N G = suc (suc lastLevel) * suc N * suc G
+mostCalls N G = suc (suc lastLevel) * (suc N * suc G)
 
 -- ---- the whole table
 
@@ -101,7 +97,7 @@ module _ (kind n : ℕ) (wanted : List ℤ) (S C : ℕ) (table log : List ℕ) w
       let end = built in
       cond (eqb r 0)
       (joined (end .segments), end .log, record { refusal = 0; job = end .job })
-      (table, log, record { refusal = r; job = begun 0 0 (replicate 12 (pos 0)) 0 0 })
+      (table, log, record { refusal = r; job = begun 0 0 (replicate stackPlaces (pos 0)) 0 0 })
 
   -- not refused, it ends, in a finished build, and the buffers keep their lengths
   pub record Builds : Type 0 where

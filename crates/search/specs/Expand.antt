@@ -7,12 +7,12 @@ use lib.Dec.{ltb, eqb}
 use lib.ListN.{length, set}
 use Rattle.base.specs.Words.{unless, firstFrom}
 use Rattle.stacks.specs.Index.{rankOf, stackAt}
-use Rattle.stacks.specs.Turn.{turnOf, turnsOf}
+use Rattle.stacks.specs.Turn.{turnOf}
 use Rattle.search.specs.Entries.{entryAt}
-use Rattle.search.specs.JobState.{levelOf, segmentCountOf, stackCountAt, passedOf, countOf, progressed}
-use Rattle.search.specs.Level.{levelRefusal}
+use Rattle.search.specs.JobState.{levelOf, segmentCountOf, stackCountAt, movesOf, passedOf}
+use Rattle.search.specs.Refusals.{levelRefusal}
 use Rattle.search.specs.Logs.{Logs, logOne, lacksRoom}
-use Rattle.search.specs.Marks.{Marks, markOne}
+use Rattle.search.specs.Marks.{Marks, markOne, marksFrom, markedJob}
 use Rattle.search.specs.declared.Expanded.{Expanded}
 use Rattle.search.specs.declared.Job.{Job}
 
@@ -30,9 +30,9 @@ expandRefusal job j bytes words = levelRefusal job j bytes words (unless (ltb (p
 unfoldable pub isParent : ℕ → ℕ → Bool
 isParent d entry = eqb entry ((d - 1) % 3)
 
--- the children of the stack at an index, by rising k, as indexes
-unfoldable pub childrenOf : ℕ → ℕ → ℕ → List ℕ
-childrenOf kind n i = map (λ k. rankOf kind n (turnOf kind k (stackAt kind n i))) (turnsOf kind n)
+-- the children of the stack at an index by some moves, in their order, as indexes
+unfoldable pub childrenOf : ℕ → ℕ → List ℕ → ℕ → List ℕ
+childrenOf kind n moves i = map (λ k. rankOf kind n (turnOf kind k (stackAt kind n i))) moves
 
 module _ (job : Job) (j : ℕ) where
   -- a child of this segment is marked, a child elsewhere is logged, seen or not
@@ -43,7 +43,7 @@ module _ (job : Job) (j : ℕ) where
         at = e .at;
         waits = e .waits;
         on = e .on;
-        marks = cond here (markOne (levelOf (job .phase)) (c % job .size) (e .marks)) (e .marks);
+        marks = cond here (markOne (job .size) (levelOf (job .phase)) c (e .marks)) (e .marks);
         logs = cond here (e .logs) (logOne (job .room) (c / job .size) (c % job .size) (e .logs));
       }
 
@@ -68,7 +68,7 @@ module _ (job : Job) (j : ℕ) where
   expandNext e =
       cond (e .waits) e
       (cond (isParent (levelOf (job .phase)) (entryAt (e .marks .segment) (e .at)))
-      (expandStack (childrenOf (job .kind) (job .n) (j * job .size + e .at)) e)
+      (expandStack (childrenOf (job .kind) (job .n) (movesOf job) (j * job .size + e .at)) e)
       (passOne e))
 
   -- as many stacks as are left
@@ -84,14 +84,12 @@ module _ (job : Job) (j : ℕ) where
         at = passedOf job j;
         waits = false;
         on = 0;
-        marks = record { segment = segment; count = countOf job (levelOf (job .phase)) };
+        marks = marksFrom job segment;
         logs = record { log = log; waiting = job .waiting };
       })
 
   unfoldable pub expandedJob : Expansion → Job
-  expandedJob e =
-      progressed job (job .phase) (set (job .passed) j (e .at)) (e .logs .waiting)
-      (set (job .counts) (levelOf (job .phase)) (e .marks .count))
+  expandedJob e = markedJob job (set (job .passed) j (e .at)) (e .logs .waiting) (e .marks)
 
   unfoldable pub expandOf : List ℕ → List ℕ → List ℕ × List ℕ × Expanded
   expandOf segment log =

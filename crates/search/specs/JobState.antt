@@ -1,6 +1,7 @@
 -- The job: what its fields mean, and when it is coherent (document 01, "The job").
 --   beginRefusal   of kind, n, wanted stack, S and C: what Begin is given
 --   stackCountAt   m of segment j
+--   movesOf        the moves that make children: the turns of its kind and n, rising
 --   progressed     the job with another phase, passed, waiting and counts
 use mathlib.Core.Bool.{Bool, true, false, _&&_, cond}
 use mathlib.Core.List.{List}
@@ -11,14 +12,19 @@ use lib.ListN.{getD}
 use Rattle.base.specs.Words.{unless, all, from}
 use Rattle.stacks.specs.Stack.{isStack, stackCount}
 use Rattle.stacks.specs.Operations.{kindRefusal}
+use Rattle.stacks.specs.Turn.{turnsOf}
 use Rattle.search.specs.Segments.{segmentLimit, segmentCount, stackCountIn, isSegmentSize, isLogRoom}
 use Rattle.search.specs.declared.Job.{Job}
 use Rattle.search.specs.declared.Phase.{Phase}
 use Rattle.search.specs.declared.Phase.the-variants.{Blanking, Level, Finished}
 
--- the limits: the last level that is searched, and the most that a count may be in a coherent job
-unfoldable pub lastLevel : ℕ
+-- the limits: the last level that is searched, the places that the counts of the levels take, and the most that a count may be in a
+-- coherent job
+abbrev pub lastLevel : ℕ
 lastLevel = 31
+
+abbrev pub countPlaces : ℕ
+countPlaces = 32
 
 unfoldable pub countLimit : ℕ
 countLimit = 2 ^ 60
@@ -41,6 +47,9 @@ stackCountAt job j = stackCountIn (stackCountOf job) (job .size) j
 
 unfoldable pub logLength : Job → ℕ
 logLength job = segmentCountOf job * job .room
+
+abbrev pub movesOf : Job → List ℕ
+movesOf job = turnsOf (job .kind) (job .n)
 
 unfoldable pub passedOf : Job → ℕ → ℕ
 passedOf job j = getD (job .passed) j 0

@@ -5,8 +5,8 @@ pub mod JobState
 pub mod Marks
 pub mod Logs
 pub mod Begin
+pub mod Refusals
 pub mod Blank
-pub mod Level
 pub mod Expand
 pub mod Settle
 pub mod Look

@@ -2,7 +2,7 @@
 --   Logs       the log area, and the entries waiting in each log
 --   pending    the waiting part of a job's log
 use mathlib.Core.Bool.{Bool, not, _&&_}
-use mathlib.Core.List.{List}
+use mathlib.Core.List.{List, map}
 use Prim.Native.Nat.{ℕ, _+_, _-_, _*_, _/_}
 use lib.Dec.{ltb, eqb}
 use lib.ListN.{getD, set, take, drop}
@@ -17,6 +17,10 @@ pub record Logs : Type 0 where
 -- the first w entries of segment t's log
 unfoldable pub logPart : ℕ → ℕ → ℕ → List ℕ → List ℕ
 logPart C t w log = take w (drop (t * C) log)
+
+-- the stacks, as indexes, that offsets of segment t stand for
+unfoldable pub indexesOf : ℕ → ℕ → List ℕ → List ℕ
+indexesOf S t offsets = map (λ i. t * S + i) offsets
 
 unfoldable pub pending : Job → ℕ → List ℕ → List ℕ
 pending job j log = logPart (job .room) j (waitingOf job j) log

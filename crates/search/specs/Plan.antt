@@ -14,7 +14,7 @@ use Rattle.search.specs.Entries.{bytesFor, entryAt, unseen, nextEntry}
 use Rattle.search.specs.declared.Planned.{Planned}
 
 -- as many turns as a plan may have, and as the list must hold
-unfoldable pub planLimit : ℕ
+abbrev pub planLimit : ℕ
 planLimit = 30
 
 -- a plan in the making: the stack that it has come to, and its turns so far
@@ -44,21 +44,22 @@ module _ (kind n : ℕ) (table : List ℕ) where
     unfoldable pub isWanted : List ℤ → Bool
     isWanted s = eqb (rankOf kind n s) (rankOf kind n wanted)
 
-    -- it ends at the wanted stack; before it, the smallest k whose child has entry (v + 2) mod 3
-    unfoldable pub planStep : Route → Route
-    planStep route = cond (isWanted (route .stack)) route (follow (turnsOf kind n) route)
+    module _ (moves : List ℕ) where
+      -- it ends at the wanted stack; before it, the first move whose child has entry (v + 2) mod 3
+      unfoldable pub planStep : Route → Route
+      planStep route = cond (isWanted (route .stack)) route (follow moves route)
 
-    unfoldable pub planRun : ℕ → Route → Route
-    planRun zero route = route
-    planRun (suc left) route = planRun left (planStep route)
+      unfoldable pub planRun : ℕ → Route → Route
+      planRun zero route = route
+      planRun (suc left) route = planRun left (planStep route)
 
-    unfoldable pub routeFrom : List ℤ → Route
-    routeFrom given = planRun planLimit (record { stack = given; turns = [] })
+      unfoldable pub routeFrom : List ℤ → Route
+      routeFrom given = planRun planLimit (record { stack = given; turns = [] })
 
-    -- 15 when the given stack's entry is 3, the wanted entry is not 0, no k leads on or 30 turns do not suffice
-    unfoldable pub hasPlan : List ℤ → Bool
-    hasPlan given =
-        not (eqb (entryOf given) unseen) && eqb (entryOf wanted) 0 && isWanted (routeFrom given .stack)
+      -- 15 when the given stack's entry is 3, the wanted entry is not 0, no k leads on or 30 turns do not suffice
+      unfoldable pub hasPlan : List ℤ → Bool
+      hasPlan given =
+          not (eqb (entryOf given) unseen) && eqb (entryOf wanted) 0 && isWanted (routeFrom given .stack)
 
 -- 1, 2, 3 for the wanted stack, 3 for the given one, 10 for the table, 10 for the turn list, and then the rest
 unfoldable pub planRow : ℕ → ℕ → List ℤ → List ℤ → ℕ → ℕ → ℕ → ℕ
@@ -68,16 +69,16 @@ planRow kind n wanted given bytes slots rest =
     (unless (isStack kind n given) 3
     (unless (eqb bytes (bytesFor (stackCount kind n))) 10 (unless (leb planLimit slots) 10 rest))))
 
--- then 15
-unfoldable pub planRefusal : ℕ → ℕ → List ℤ → List ℤ → List ℕ → ℕ → ℕ
-planRefusal kind n wanted given table slots =
-    planRow kind n wanted given (length table) slots (unless (hasPlan kind n table wanted given) 15 0)
+-- then 15, and then the rest
+unfoldable pub planRefusal : ℕ → ℕ → List ℤ → List ℤ → List ℕ → ℕ → ℕ → ℕ
+planRefusal kind n wanted given table slots rest =
+    planRow kind n wanted given (length table) slots (unless (hasPlan kind n table wanted (turnsOf kind n) given) 15 rest)
 
--- the bytes of the list past the plan are unchanged
+-- the moves are all turns, rising, so that the first is the smallest k; the bytes of the list past the plan are unchanged
 unfoldable pub planOf : ℕ → ℕ → List ℤ → List ℤ → List ℕ → List ℕ → List ℕ × Planned
 planOf kind n wanted given table list =
-    let r = planRefusal kind n wanted given table (length list) in
-    let turns = routeFrom kind n table wanted given .turns in
+    let r = planRefusal kind n wanted given table (length list) 0 in
+    let turns = routeFrom kind n table wanted (turnsOf kind n) given .turns in
     cond (eqb r 0)
     (turns ++ drop (length turns) list, record { refusal = 0; turns = length turns })
     (list, record { refusal = r; turns = 0 })

@@ -12,7 +12,7 @@ use Rattle.stacks.specs.Index.{rankOf}
 use Rattle.stacks.specs.Stack.{isStack, stackCount}
 use Rattle.stacks.specs.Turn.{Road, Fewest}
 use Rattle.search.specs.Begin.{begun}
-use Rattle.search.specs.Build.{World, Call, outcome, after, isLentOwn, CarriesOn, doClose}
+use Rattle.search.specs.Build.{World, Lengths, Call, outcome, after, isLentOwn, CarriesOn, doClose}
 use Rattle.search.specs.Entries.{entryAt, seenIn, bytesFor}
 use Rattle.search.specs.JobState.{beginRefusal, countOf, isFinished, levelOf, lastLevel}
 use Rattle.search.specs.Plan.{planOf, planLimit}
@@ -26,6 +26,9 @@ rightBytes kind n S j = bytesFor (stackCountIn (stackCount kind n) S j)
 
 unfoldable pub rightWords : ℕ → ℕ → ℕ → ℕ → ℕ
 rightWords kind n S C = segmentCount (stackCount kind n) S * C
+
+abbrev pub rightLengths : ℕ → ℕ → ℕ → ℕ → Lengths
+rightLengths kind n S C = record { bytes = rightBytes kind n S; words = rightWords kind n S C }
 
 -- Plan as a finished build is asked for it: the job's own kind, n and wanted stack, and its segments joined
 abbrev pub planIn : World → List ℤ → List ℕ → List ℕ × Planned
@@ -59,35 +62,35 @@ pub record Finishes (kind n : ℕ) (wanted : List ℤ) (w : World) : Type 0 wher
   pub plans : (given : List ℤ) (list : List ℕ) → isStack kind n given ≡ true → planLimit ≤ length list → Plans w given list
 
 -- some call, lent what it should get, is not refused and carries the build on
-pub record Continues (bytes : ℕ → ℕ) (words : ℕ) (w : World) : Type 0 where
-  pub call : Call bytes words
+pub record Continues (right : Lengths) (w : World) : Type 0 where
+  pub call : Call right
   pub lent-own : isLentOwn call ≡ true
   pub accepted : outcome w call .refusal ≡ 0
   pub carries : CarriesOn w (outcome w call .world)
 
 -- a Close of the list, accepted, has returned a job in Finished
-pub record FinishedByClose {bytes : ℕ → ℕ} {words : ℕ} (start : World) (calls : List (Call bytes words)) : Type 0 where
-  pub before : List (Call bytes words)
-  pub later : List (Call bytes words)
+pub record FinishedByClose {right : Lengths} (start : World) (calls : List (Call right)) : Type 0 where
+  pub before : List (Call right)
+  pub later : List (Call right)
   pub place : calls ≡ before ++ (doClose ∷ later)
   pub unfinished : isFinished (after start before .job .phase) ≡ false
-  pub accepted : outcome {bytes = bytes} {words = words} (after start before) doClose .refusal ≡ 0
-  pub finished : isFinished (outcome {bytes = bytes} {words = words} (after start before) doClose .world .job .phase) ≡ true
+  pub accepted : outcome {right = right} (after start before) doClose .refusal ≡ 0
+  pub finished : isFinished (outcome {right = right} (after start before) doClose .world .job .phase) ≡ true
 
 -- the claim, for one list of calls
-pub record Promise (kind n : ℕ) (wanted : List ℤ) (bytes : ℕ → ℕ) (words : ℕ) (start : World) (calls : List (Call bytes words))
+pub record Promise (kind n : ℕ) (wanted : List ℤ) (right : Lengths) (start : World) (calls : List (Call right))
     : Type 0 where
   -- the job is in Finished exactly where a Close of the list has finished the build
   pub by-close : isFinished (after start calls .job .phase) ≡ true → FinishedByClose start calls
   pub since-close : FinishedByClose start calls → isFinished (after start calls .job .phase) ≡ true
   pub finishes : isFinished (after start calls .job .phase) ≡ true → Finishes kind n wanted (after start calls)
-  pub continues : isFinished (after start calls .job .phase) ≡ false → Continues bytes words (after start calls)
+  pub continues : isFinished (after start calls .job .phase) ≡ false → Continues right (after start calls)
   -- no list brings the job past the last level, or has a Close refused 14
   pub levels : (d : ℕ) → after start calls .job .phase ≡ Level d → d ≤ lastLevel
-  pub closes : outcome {bytes = bytes} {words = words} (after start calls) doClose .refusal ≡ 14 → ⊥
+  pub closes : outcome {right = right} (after start calls) doClose .refusal ≡ 14 → ⊥
   -- every list can be continued to one that has finished; what has finished stays so
-  pub ends : (more : List (Call bytes words)) × (isFinished (after start (calls ++ more) .job .phase) ≡ true)
-  pub stays : (more : List (Call bytes words)) → isFinished (after start calls .job .phase) ≡ true
+  pub ends : (more : List (Call right)) × (isFinished (after start (calls ++ more) .job .phase) ≡ true)
+  pub stays : (more : List (Call right)) → isFinished (after start calls .job .phase) ≡ true
       → isFinished (after start (calls ++ more) .job .phase) ≡ true
 
 -- the buffers that a build starts with: right lengths, any contents
@@ -102,8 +105,8 @@ WholeBuild =
     (kind n : ℕ) (wanted : List ℤ) (S C : ℕ) (segments : List (List ℕ)) (log : List ℕ)
     → beginRefusal kind n wanted S C ≡ 0
     → Buffers kind n S C segments log
-    → (calls : List (Call (rightBytes kind n S) (rightWords kind n S C)))
-    → Promise kind n wanted (rightBytes kind n S) (rightWords kind n S C)
+    → (calls : List (Call (rightLengths kind n S C)))
+    → Promise kind n wanted (rightLengths kind n S C)
     (record { job = begun kind n wanted S C; segments = segments; log = log }) calls
 
 -- an accepted plan arrives, also from a spoilt table: as many turns from the front of the list as Plan answers, at most 30

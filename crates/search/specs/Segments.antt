@@ -4,8 +4,21 @@ use mathlib.Core.List.{List, [], _∷_, _++_}
 use Prim.Native.Nat.{ℕ, _+_, _-_, _*_, _/_, _%_, min}
 use lib.Dec.{leb, eqb}
 
-unfoldable pub segmentLimit : ℕ
+-- the most segments, and the range of S and of C
+abbrev pub segmentLimit : ℕ
 segmentLimit = 64
+
+abbrev pub leastSize : ℕ
+leastSize = 4
+
+abbrev pub mostSize : ℕ
+mostSize = 67108864
+
+abbrev pub leastRoom : ℕ
+leastRoom = 16
+
+abbrev pub mostRoom : ℕ
+mostRoom = 1048576
 
 -- G, the count of segments, ⌈N/S⌉
 unfoldable pub segmentCount : ℕ → ℕ → ℕ
@@ -18,10 +31,10 @@ stackCountIn N S j = min S (N - j * S)
 -- a multiple of 4 from 4 to 67,108,864 that makes at most 64 segments
 unfoldable pub isSegmentSize : ℕ → ℕ → Bool
 isSegmentSize N S =
-    eqb (S % 4) 0 && leb 4 S && leb S 67108864 && leb (segmentCount N S) segmentLimit
+    eqb (S % 4) 0 && leb leastSize S && leb S mostSize && leb (segmentCount N S) segmentLimit
 
 unfoldable pub isLogRoom : ℕ → Bool
-isLogRoom C = leb 16 C && leb C 1048576
+isLogRoom C = leb leastRoom C && leb C mostRoom
 
 -- the whole table: the segments joined in order
 unfoldable pub joined : List (List ℕ) → List ℕ

@@ -5,10 +5,10 @@ use Prim.Native.Nat.{ℕ}
 use lib.Dec.{ltb, eqb}
 use lib.ListN.{length, set}
 use Rattle.base.specs.Words.{unless, all}
-use Rattle.search.specs.JobState.{levelOf, stackCountAt, countOf, progressed}
-use Rattle.search.specs.Level.{levelRefusal}
-use Rattle.search.specs.Logs.{pending}
-use Rattle.search.specs.Marks.{markAll}
+use Rattle.search.specs.JobState.{levelOf, stackCountAt}
+use Rattle.search.specs.Refusals.{levelRefusal}
+use Rattle.search.specs.Logs.{indexesOf, pending}
+use Rattle.search.specs.Marks.{markAll, marksFrom, markedJob}
 use Rattle.search.specs.declared.Answer.{Answer}
 use Rattle.search.specs.declared.Job.{Job}
 
@@ -21,13 +21,7 @@ settleRefusal job j bytes log =
 unfoldable pub settleOf : Job → ℕ → List ℕ → List ℕ → List ℕ × Answer
 settleOf job j segment log =
     let r = settleRefusal job j (length segment) log in
-    let d = levelOf (job .phase) in
-    let marks = markAll d (pending job j log) (record { segment = segment; count = countOf job d }) in
-    cond (eqb r 0) (
-      marks .segment,
-      record {
-        refusal = 0;
-        job = progressed job (job .phase) (job .passed) (set (job .waiting) j 0) (set (job .counts) d (marks .count));
-      },
-    )
+    let marks = markAll (job .size) (levelOf (job .phase)) (indexesOf (job .size) j (pending job j log)) (marksFrom job segment) in
+    cond (eqb r 0)
+    (marks .segment, record { refusal = 0; job = markedJob job (job .passed) (set (job .waiting) j 0) marks })
     (segment, record { refusal = r; job = job })

@@ -1,6 +1,28 @@
 // The job, its phases and what each call answers, as types: no code, only specs/ and proofs/.
 // In each answer, refusal is the refusal's number, and 0 where the call did its work.
 
+use stacks::PLACES;
+
+// The limits, by the definitions' names: the segments of a job, the range of S and of C, the last level, the places that the counts of the
+// levels take, the most that a count may be, and the turns of a plan.
+pub const SEGMENT_LIMIT: usize = 64;
+
+pub const LEAST_SIZE: u32 = 4;
+
+pub const MOST_SIZE: u32 = 67108864;
+
+pub const LEAST_ROOM: u32 = 16;
+
+pub const MOST_ROOM: u32 = 1048576;
+
+pub const LAST_LEVEL: u8 = 31;
+
+pub const COUNT_PLACES: usize = 32;
+
+pub const COUNT_LIMIT: u64 = 1152921504606846976;
+
+pub const PLAN_LIMIT: usize = 30;
+
 // A phase carries its own level: the one being searched, or the deepest.
 pub enum Phase {
     Blanking,
@@ -12,15 +34,15 @@ pub enum Phase {
 pub struct Job {
     pub kind: u8,
     pub n: u8,
-    pub wanted: [i8; 12],
+    pub wanted: [i8; PLACES],
     pub size: u32,
     pub room: u32,
     pub phase: Phase,
     // Of each segment: its stacks passed in this phase (scanned), and its log entries waiting (pending).
-    pub passed: [u32; 64],
-    pub waiting: [u32; 64],
+    pub passed: [u32; SEGMENT_LIMIT],
+    pub waiting: [u32; SEGMENT_LIMIT],
     // Of each level: how many stacks are at exactly that many turns.
-    pub counts: [u64; 32],
+    pub counts: [u64; COUNT_PLACES],
 }
 
 // What Begin, Blank, Settle and Close answer: the job after the call. Refused, the job as it was; of Begin, a job of zeros.

@@ -1,7 +1,7 @@
 -- What a report means: the table of an accepted first frame is that of a finished build, so the levels are its levels and the plans are shortest.
 use mathlib.Core.Path.{_≡_, refl, sym, ap, ap₂, subst, _∙_}
 use mathlib.Core.Logic.{_⊎_, inl, inr}
-use mathlib.Core.Bool.{Bool, true, false, _&&_, cond}
+use mathlib.Core.Bool.{Bool, true, false, cond}
 use mathlib.Core.List.{List, [], _∷_, _++_}
 use Prim.Native.Nat.{ℕ, suc, _+_, _/_, _%_, _<_, _≤_}
 use native.Mathlib.Nat.{mod-eq-of-lt}
@@ -10,15 +10,17 @@ use lib.Dec.{leb, ltb, eqb}
 use lib.IntN.{ℤ}
 use lib.ListN.{length, getD, take, drop, replicate, length-replicate, take-append-drop, List·getD-eq-default}
 use lib.Seq.{take-at, take-append-seam, length-take-le, getD-take, getD-drop}
-use borrow.Author.Tests.{eq-eqb, ne-eqb, lt-ltb, leb-true, le-leb}
+use borrow.Author.Tests.{eq-eqb, ne-eqb, lt-ltb, le-leb}
 use Rattle.base.specs.Words.{unless, all, tally, total}
 use Rattle.base.proofs.Counting.{tally-le, tally-at, total-append}
 use Rattle.base.proofs.Tests.{unless-zero, and-left, and-right, and-both, lt-or-ge}
 use Rattle.stacks.specs.Counts.{CountsAt}
 use Rattle.stacks.specs.Index.{rankOf, allStacks}
-use Rattle.stacks.specs.Stack.{isPaneCount, isStack, stackCount}
-use Rattle.stacks.specs.Turn.{firstTurn, lastTurn, isTurn, Road, Fewest}
+use Rattle.stacks.specs.Stack.{stackPlaces, isPaneCount, isStack, stackCount}
+use Rattle.stacks.specs.Turn.{isTurn, turnsOf, Road, Fewest}
 use Rattle.stacks.proofs.Numbering.{rank-lt}
+use Rattle.stacks.proofs.TurnBound.{road-bound, turn-bound-30}
+use Rattle.stacks.proofs.TurnLaws.{turn-last}
 use Rattle.search.specs.Build.{World}
 use Rattle.search.specs.Drive.{buildRefusal, built, Builds}
 use Rattle.search.specs.Entries.{bytesFor}
@@ -31,7 +33,6 @@ use Rattle.search.specs.declared.Job.{Job}
 use Rattle.search.specs.declared.Planned.{Planned}
 use Rattle.search.proofs.AllStacks.{all-stacks-length, all-stacks-each}
 use Rattle.search.proofs.Coherence.{given-begin}
-use Rattle.search.proofs.Fewest.{levels-bound, stack-depth, fewest-depth}
 use Rattle.search.proofs.Terms.{termsWith, Given}
 use Rattle.search.proofs.Finishing.{plan-arrives}
 use Rattle.search.proofs.WholeTable.{build-finishes}
@@ -57,8 +58,8 @@ plan-count : (kind n : ℕ) (wanted given : List ℤ) (table list : List ℕ)
     → (let out = planOf kind n wanted given table list in length (take (out .1 .turns) (out .0)) ≡ out .1 .turns)
 unfolding planOf
 plan-count kind n wanted given table list =
-    let r = planRefusal kind n wanted given table (length list) in
-    front-count (eqb r 0) r (routeFrom kind n table wanted given .turns) list
+    let r = planRefusal kind n wanted given table (length list) 0 in
+    front-count (eqb r 0) r (routeFrom kind n table wanted (turnsOf kind n) given .turns) list
 
 later-stack : (kind n : ℕ) (cs : List ℕ) → laterRefusal kind n cs ≡ 0 → laterOf kind n cs .stack ≡ placesOf (bytesOf cs)
 unfolding laterOf
@@ -72,17 +73,16 @@ later-is-stack kind n cs h =
     unless-zero (isStack kind n (placesOf (bytesOf cs))) 2 0 (unless-zero (eqb (length (bytesOf cs)) n) 15 stack (a .1) .1) .0
 
 -- turns fit their byte, and so does the number of a plan's turns
-turns-fit : (kind n : ℕ) (ks : List ℕ) → n ≤ 12 → all (isTurn kind n) ks ≡ true → all isByte ks ≡ true
-unfolding all isTurn lastTurn isByte
+turns-fit : (kind n : ℕ) (ks : List ℕ) → n ≤ stackPlaces → all (isTurn kind n) ks ≡ true → all isByte ks ≡ true
+unfolding all isByte
 turns-fit kind n [] h t = refl
 turns-fit kind n (k ∷ ks) h t =
-    let low = leb (firstTurn kind) k in
-    let high = leb-true k n (and-right low (leb k n) (and-left (low && leb k n) (all (isTurn kind n) ks) t)) in
-    and-both (ltb k 256) (all isByte ks) (lt-ltb k 256 (omega arith)) (turns-fit kind n ks h (and-right (low && leb k n) (all (isTurn kind n) ks) t))
+    let last = turn-last kind n k (and-left (isTurn kind n k) (all (isTurn kind n) ks) t) in
+    and-both (ltb k 256) (all isByte ks) (lt-ltb k 256 (omega arith)) (turns-fit kind n ks h (and-right (isTurn kind n k) (all (isTurn kind n) ks) t))
 
-plan-fits : (kind n : ℕ) (turns : List ℕ) → n ≤ 12 → length turns ≤ planLimit → all (isTurn kind n) turns ≡ true
+plan-fits : (kind n : ℕ) (turns : List ℕ) → n ≤ stackPlaces → length turns ≤ planLimit → all (isTurn kind n) turns ≡ true
     → all isByte (length turns ∷ turns) ≡ true
-unfolding all isByte planLimit
+unfolding all isByte
 plan-fits kind n turns h l t =
     and-both (ltb (length turns) 256) (all isByte turns) (lt-ltb (length turns) 256 (omega arith)) (turns-fit kind n turns h t)
 
@@ -121,7 +121,6 @@ plans-in w kind n wanted given a b c p =
 -- A later frame that is not refused is answered a road of fewest turns, from its stack to the wanted one.
 later-means : (w : World) (kind n : ℕ) (wanted : List ℤ) (cs : List ℕ) → Finishes kind n wanted w → laterRefusal kind n cs ≡ 0
     → Answers kind n wanted (joined (w .segments)) cs
-unfolding planLimit
 later-means w kind n wanted cs f h =
     answers kind n wanted (joined (w .segments)) cs h
     (plans-in w kind n wanted (placesOf (bytesOf cs)) (f .given-kind) (f .given-n) (f .given-wanted)
@@ -215,12 +214,8 @@ module _ (cs table : List ℕ) (h : firstRefusal cs ≡ 0) (long : length table 
   deepest-low : deepest ≤ lastLevel
   deepest-low =
       let s = finishes .deepest in
-      omega (
-        arith,
-        levels-bound kind n (given .in-range),
-        stack-depth kind n wanted (suc lastLevel) (given .in-range) (given .stack) (levels-bound kind n (given .in-range)) (s .0) (s .1),
-        fewest-depth kind n wanted (suc lastLevel) (given .in-range) (given .stack) (levels-bound kind n (given .in-range)) (s .0) (s .1) (s .2),
-      )
+      let r = road-bound kind n (given .in-range) (s .0) wanted (s .1) (given .stack) in
+      omega (arith, s .2 .least (r .0) (r .1), r .2, turn-bound-30 kind n (given .in-range))
 
   counts-at : (d : ℕ) → d ≤ deepest → CountsAt kind n wanted d (countOf (end .job) d)
   counts-at d l = finishes .counts d (omega (arith, deepest-low))
@@ -279,7 +274,7 @@ module _ (cs table : List ℕ) (h : firstRefusal cs ≡ 0) (long : length table 
   reports : (lines : List (List ℕ)) (text : List ℕ)
       → text ≡ headText (builtIn kind n wanted S table .1) ++ laterTexts kind n wanted (take (tableBytes kind n) (builtIn kind n wanted S table .0)) lines
       → Reports kind n wanted lines text
-  unfolding laterOf lastLevel
+  unfolding laterOf
   reports lines text e =
       record {
         deepest = deepest;

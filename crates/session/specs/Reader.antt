@@ -13,6 +13,7 @@ use Prim.Native.Nat.{ℕ}
 use lib.Dec.{ltb, eqb}
 use lib.IntN.{pos}
 use lib.ListN.{take, replicate}
+use Rattle.stacks.specs.Stack.{stackPlaces}
 use Rattle.frames.specs.Frame.{firstOf}
 use Rattle.frames.specs.Kept.{newLine, pushed, textOf}
 use Rattle.frames.specs.Output.{refusalLine}
@@ -44,7 +45,7 @@ isOver Later = false
 isOver Over = true
 
 unfoldable pub newReader : Reader
-newReader = record { stage = Start; kind = 0; n = 0; wanted = replicate 12 (pos 0); line = newLine }
+newReader = record { stage = Start; kind = 0; n = 0; wanted = replicate stackPlaces (pos 0); line = newLine }
 
 -- the reader with another line in the making
 unfoldable pub withLine : Reader → Line → Reader

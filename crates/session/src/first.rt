@@ -19,9 +19,10 @@ use frames::lines;
 use frames::output;
 use job::phase;
 use search::Job;
+use stacks::PLACES;
 
 // The build of a frame's table in the part of the table that it uses.
-fn build_in(kind: u8, n: u8, wanted: [i8; 12], size: u32, table: &mut [u8]) -> Job
+fn build_in(kind: u8, n: u8, wanted: [i8; PLACES], size: u32, table: &mut [u8]) -> Job
     requires { ⌜ length (now table) ≡ tableLimit ⌝ }
     ensures { λ r. ⌜ (now (table .exit), r) ≡ builtIn kind n wanted size (now (table .entry)) ⌝ }
 {

@@ -12,6 +12,7 @@ use crate::lent;
 use frames::Line;
 use frames::TEXT_LIMIT;
 use frames::lines;
+use stacks::PLACES;
 
 fn is_start(stage: Stage) -> bool
     ensures { λ r. ⌜ r ≡ isStart stage ⌝ }
@@ -36,7 +37,7 @@ pub fn is_over(stage: Stage) -> bool
 pub fn new_reader() -> Reader
     ensures { λ r. ⌜ r ≡ newReader ⌝ }
 {
-    let wanted = [0i8; 12];
+    let wanted = [0i8; PLACES];
     Reader {
         stage: Stage::Start,
         kind: 0,

@@ -6,19 +6,21 @@ use frames::Line;
 use frames::TEXT_LIMIT;
 use frames::frame;
 use frames::output;
+use search::PLAN_LIMIT;
+use stacks::PLACES;
 
 // The plan of a stack, or Plan's refusal.
 fn plan_text(
     kind: u8,
     n: u8,
-    wanted: [i8; 12],
+    wanted: [i8; PLACES],
     table: &[u8],
-    given: [i8; 12],
+    given: [i8; PLACES],
     out: &mut [u8; TEXT_LIMIT],
 ) -> usize
     ensures { λ r. ⌜ Wrote (planText kind n wanted (now (table .entry)) given) (now (out .entry)) (now (out .exit)) r ⌝ }
 {
-    let mut turns = [0u8; 30];
+    let mut turns = [0u8; PLAN_LIMIT];
     let planned = plan::plan::plan(kind, n, wanted, given, table, &mut turns);
     if planned.refusal != 0 {
         return output::write_refusal(out, planned.refusal);
@@ -30,7 +32,7 @@ fn plan_text(
 pub(crate) fn later_text(
     kind: u8,
     n: u8,
-    wanted: [i8; 12],
+    wanted: [i8; PLACES],
     table: &[u8],
     line: Line,
     out: &mut [u8; TEXT_LIMIT],

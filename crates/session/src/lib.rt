@@ -5,8 +5,9 @@ mod later;
 mod lent;
 
 use frames::Line;
+use stacks::PLACES;
 
-// The places of the most logs, one for each of 64 segments.
+// The places of the most logs, one for each segment that a job may have.
 pub(crate) const LOG_LIMIT: usize = 1024;
 
 // Which frame comes next: the first (Start), a later one, or none, as the first was refused and the run is over.
@@ -21,7 +22,7 @@ pub struct Reader {
     pub stage: Stage,
     pub kind: u8,
     pub n: u8,
-    pub wanted: [i8; 12],
+    pub wanted: [i8; PLACES],
     pub line: Line,
 }
 

@@ -18,7 +18,7 @@ use Rattle.base.proofs.Counting.{tally-append, tally-map, tally-true, tally-fal
 use Rattle.base.specs.Words.{all, tally, from}
 use Rattle.stacks.specs.Stack.{isCoated, fewestPanes, mostPanes, isPaneCount, isStack, orderOf}
 use Rattle.stacks.specs.Index.{smaller}
-use Rattle.stacks.specs.Turn.{firstTurn, flip, turnOf, turnBound, Road}
+use Rattle.stacks.specs.Turn.{firstTurn, isTurn, flip, turnOf, turnBound, Road}
 use Rattle.stacks.proofs.Panes.{stack-facts, smaller-suc}
 use Rattle.stacks.proofs.Numbering.{panes-length, stack-panes, stack-is}
 use Rattle.stacks.proofs.TurnLaws.{flip-involutive, flip-magnitude, flip-coated, flip-fits, coatFits, coats-fit, turn-at, turn-whole, turn-top, turns-tally, turns-all, turns-keep-length}
@@ -58,7 +58,7 @@ record Alike (kind m : ℕ) (a b : List ℤ) : Type 0 where
 module _ (kind : ℕ) where
   -- turn a pane to the top
   raise : (n : ℕ) (p : List ℤ) (x : ℤ) (r : List ℤ) → length p < n
-      → RoadWithin kind n (turnCost kind (suc (length p))) (p ++ (x ∷ r)) (flip kind x ∷ (map (flip kind) (reverse p) ++ r))
+      → RoadWithin kind (isTurn kind n) (turnCost kind (suc (length p))) (p ++ (x ∷ r)) (flip kind x ∷ (map (flip kind) (reverse p) ++ r))
   raise n p x r h =
       turn-within kind n (suc (length p)) (p ++ (x ∷ r)) (flip kind x ∷ (map (flip kind) (reverse p) ++ r)) (omega arith) h
       (ap (turnOf kind (suc (length p))) (sym (append-snoc p x r))
@@ -74,14 +74,14 @@ module _ (kind : ℕ) where
   same-number (negsuc x) (negsuc y) e f g = inl (ap negsuc (suc-inj e))
 
   -- lay the top pane so that a flip makes it y
-  lay : (n : ℕ) (x y : ℤ) (w : List ℤ) → 1 ≤ n → (x ≡ y) ⊎ (flip kind x ≡ y) → (z : ℤ) × (flip kind z ≡ y) × RoadWithin kind n (turnCost kind 1) (flip kind x ∷ w) (z ∷ w)
+  lay : (n : ℕ) (x y : ℤ) (w : List ℤ) → 1 ≤ n → (x ≡ y) ⊎ (flip kind x ≡ y) → (z : ℤ) × (flip kind z ≡ y) × RoadWithin kind (isTurn kind n) (turnCost kind 1) (flip kind x ∷ w) (z ∷ w)
   lay n x y w h (inl e) = (flip kind x, flip-involutive kind x ∙ e, within-none (flip kind x ∷ w))
   lay n x y w h (inr e) =
       (x, e, turn-within kind n 1 (flip kind x ∷ w) (x ∷ w) (le-refl 1) h (turn-top kind (flip kind x) w ∙ ap (λ (z : ℤ). z ∷ w) (flip-involutive kind x)))
 
   -- turn the top pane down to the lowest place
   sink : (n : ℕ) (z y : ℤ) (w : List ℤ) → suc (length w) ≡ n → flip kind z ≡ y
-      → RoadWithin kind n (turnCost kind n) (z ∷ w) (map (flip kind) (reverse w) ++ (y ∷ []))
+      → RoadWithin kind (isTurn kind n) (turnCost kind n) (z ∷ w) (map (flip kind) (reverse w) ++ (y ∷ []))
   sink n z y w e f =
       turn-within kind n n (z ∷ w) (map (flip kind) (reverse w) ++ (y ∷ [])) (omega arith) (le-refl n)
       (turn-whole kind n (z ∷ w) e
@@ -108,7 +108,7 @@ module _ (kind : ℕ) where
       go false = omega arith
 
   settle : (n : ℕ) (a : List ℤ) (y : ℤ) → length a ≡ n → Cut (natAbs y) a → all (coatFits kind) a ≡ true → coatFits kind y ≡ true
-      → (b : List ℤ) × RoadWithin kind n (settleCost n) a (b ++ (y ∷ []))
+      → (b : List ℤ) × RoadWithin kind (isTurn kind n) (settleCost n) a (b ++ (y ∷ []))
   settle n a y l c f g =
       let p : List ℤ = c .above in
       let x : ℤ = c .pane in
@@ -151,7 +151,7 @@ module _ (kind : ℕ) where
         right-fits = and-left (all (coatFits kind) b) (all (coatFits kind) (y ∷ [])) (sym (all-split (coatFits kind) b (y ∷ [])) ∙ f .right-fits);
       }
 
-  sort : (m : ℕ) (a b : List ℤ) → Alike kind m a b → RoadWithin kind m (turnBound kind m) a b
+  sort : (m : ℕ) (a b : List ℤ) → Alike kind m a b → RoadWithin kind (isTurn kind m) (turnBound kind m) a b
   sort zero [] [] f = within-none []
   sort zero [] (y ∷ b) f = absurd (suc-ne-zero (length b) (f .right-length))
   sort zero (x ∷ a) b f = absurd (suc-ne-zero (length a) (f .left-length))
@@ -163,7 +163,7 @@ module _ (kind : ℕ) where
       let settled = settle (suc m) a y (g .left-length) (alike-cut a (take m b) y g) (g .left-fits) fits in
       let rest : Alike kind m (settled .0) (take m b) = alike-settled {ks = settled .1 .0} a (settled .0) (take m b) y g (settled .1 .1) in
       let others = within-below (y ∷ []) (le-suc m) (omega (arith, rest .left-length)) (sort m (settled .0) (take m b) rest) in
-      subst (RoadWithin kind (suc m) (turnBound kind (suc m)) a) (sym e) (within-more (cost-bound m) (within-append (settled .1) others))
+      subst (RoadWithin kind (isTurn kind (suc m)) (turnBound kind (suc m)) a) (sym e) (within-more (cost-bound m) (within-append (settled .1) others))
 
 module _ (kind n : ℕ) (in-range : isPaneCount kind n ≡ true) where
   -- the top n places of a stack hold each pane as often as 1 to n does
@@ -191,7 +191,7 @@ module _ (kind n : ℕ) (in-range : isPaneCount kind n ≡ true) where
   road-bound s w hs hw =
       let alike : Alike kind n (take n s) (take n w) = stacks-alike s w hs hw in
       let unused : List ℤ = replicate (12 - n) (pos 0) in
-      subst₂ (RoadWithin kind n (turnBound kind n)) (sym (stack-is kind n s in-range hs)) (sym (stack-is kind n w in-range hw))
+      subst₂ (RoadWithin kind (isTurn kind n) (turnBound kind n)) (sym (stack-is kind n s in-range hs)) (sym (stack-is kind n w in-range hw))
       (within-below unused (le-refl n) (omega (arith, alike .left-length)) (sort kind n (take n s) (take n w) alike))
 
 pub turn-bound-30 : (kind n : ℕ) → isPaneCount kind n ≡ true → turnBound kind n ≤ 30

@@ -9,17 +9,17 @@ use native.Mathlib.Omega.{arith}
 use borrow.Author.Tests.{leb-true, le-leb}
 use lib.Dec.{leb}
 use lib.IntN.{ℤ, pos, negsuc, negℤ, natAbs, negℤ-negℤ}
-use lib.ListN.{length, getD, take, drop, length-append, length-map, length-reverse, length-take, length-drop, take-append-drop, drop-of-length-le}
+use lib.ListN.{length, take, drop, length-append, length-map, length-reverse, length-take, length-drop, take-append-drop, drop-of-length-le}
 use lib.Seq.{length-take-le, take-all, take-at, drop-at, take-append-le, drop-append-le}
 use lib.Signed.{nonNeg}
 use Rattle.base.proofs.Tests.{and-left, and-right, and-both, lt-or-ge}
-use Rattle.base.proofs.Lists.{map-append, map-reverse, map-take, map-drop, map-map, map-id, from-length, getD-from}
+use Rattle.base.proofs.Lists.{map-append, map-reverse, map-take, map-drop, map-map, map-id, from-length}
 use Rattle.base.proofs.Counting.{tally-append, tally-reverse, tally-map, all-split, all-reverse, all-map}
 use Rattle.base.specs.Words.{all, tally, from}
 use Rattle.stacks.specs.Stack.{isCoated, isPaneCount, isStack, isUnused, orderOf}
 use Rattle.stacks.specs.Index.{smaller}
-use Rattle.stacks.specs.Turn.{firstTurn, lastTurn, isTurn, turnsOf, flip, turnOf, turnsFrom}
-use Rattle.stacks.proofs.KindLaws.{panes-least}
+use Rattle.stacks.specs.Turn.{firstTurn, lastTurn, isTurn, turnsOf, undoOf, flip, turnOf, turnsFrom}
+use Rattle.stacks.proofs.KindLaws.{panes-least, panes-twelve}
 use Rattle.stacks.proofs.Panes.{StackFacts, stack-facts, facts-stack, smaller-append, smaller-reverse, smaller-once}
 use Rattle.stacks.proofs.Numbering.{stack-panes}
 
@@ -57,30 +57,13 @@ first-two kind = go (isCoated kind)
 pub first-inside : (kind n : ℕ) → isPaneCount kind n ≡ true → firstTurn kind ≤ n + 1
 first-inside kind n in-range = omega (arith, first-two kind, panes-least kind n in-range)
 
--- the list of turns holds the turns and nothing else
+-- how many turns there are
 pub turns-length : (kind n : ℕ) → length (turnsOf kind n) ≡ suc n - firstTurn kind
 unfolding turnsOf lastTurn
 turns-length kind n = from-length (firstTurn kind) (suc n - firstTurn kind)
 
 pub turns-count : (kind n : ℕ) → length (turnsOf kind n) ≤ n
 turns-count kind n = omega (arith, turns-length kind n, first-pos kind)
-
-turns-at : (kind n i : ℕ) → i < suc n - firstTurn kind → getD (turnsOf kind n) i 0 ≡ firstTurn kind + i
-unfolding turnsOf lastTurn
-turns-at kind n i h = getD-from (firstTurn kind) (suc n - firstTurn kind) i 0 h
-
-pub turns-listed : (kind n k : ℕ) → isTurn kind n k ≡ true → (i : ℕ) × (i < length (turnsOf kind n)) × (getD (turnsOf kind n) i 0 ≡ k)
-turns-listed kind n k h =
-    let first : firstTurn kind ≤ k = turn-first kind n k h in
-    let last : k ≤ n = turn-last kind n k h in
-    let e : length (turnsOf kind n) ≡ suc n - firstTurn kind = turns-length kind n in
-    (k - firstTurn kind, omega arith, turns-at kind n (k - firstTurn kind) (omega arith) ∙ omega arith)
-
-pub listed-turn : (kind n i : ℕ) → i < length (turnsOf kind n) → isTurn kind n (getD (turnsOf kind n) i 0) ≡ true
-listed-turn kind n i h =
-    let e : length (turnsOf kind n) ≡ suc n - firstTurn kind = turns-length kind n in
-    let l : i < suc n - firstTurn kind = omega arith in
-    rw (turns-at kind n i l) (turn-between kind n (firstTurn kind + i) (omega arith) (omega arith))
 
 -- what the kind says of its first turn and of a flip
 module _ (kind : ℕ) where
@@ -295,9 +278,12 @@ module _ (kind n : ℕ) (in-range : isPaneCount kind n ≡ true) where
   pub turned-stack : (k : ℕ) (s : List ℤ) → isTurn kind n k ≡ true → isStack kind n s ≡ true → isStack kind n (turnOf kind k s) ≡ true
   turned-stack k s t h = turn-stack k s (turn-last kind n k t) h
 
-  pub turns-stack : (ks : List ℕ) (s : List ℤ) → all (isTurn kind n) ks ≡ true → isStack kind n s ≡ true → isStack kind n (turnsFrom kind ks s) ≡ true
-  unfolding turnsFrom all
-  turns-stack [] s t h = h
-  turns-stack (k ∷ ks) s t h =
-      turns-stack ks (turnOf kind k s) (and-right (isTurn kind n k) (all (isTurn kind n) ks) t)
-      (turned-stack k s (and-left (isTurn kind n k) (all (isTurn kind n) ks) t) h)
+  -- what undoes a turn is a turn, and takes the stack back
+  pub undo-turn : (k : ℕ) → isTurn kind n k ≡ true → isTurn kind n (undoOf kind k) ≡ true
+  unfolding undoOf
+  undo-turn k t = t
+
+  pub turn-undone : (k : ℕ) (s : List ℤ) → isTurn kind n k ≡ true → isStack kind n s ≡ true → turnOf kind (undoOf kind k) (turnOf kind k s) ≡ s
+  unfolding undoOf
+  turn-undone k s t h =
+      turn-involutive kind k s (rw (stack-facts kind n s h .twelve) (le-trans (turn-last kind n k t) (panes-twelve kind n in-range)))

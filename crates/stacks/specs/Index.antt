@@ -5,7 +5,7 @@ use lib.Dec.{ltb}
 use lib.IntN.{ℤ, pos, negsuc, negℤ}
 use lib.ListN.{length, getD, take, replicate}
 use Rattle.base.specs.Words.{tally, fact, from, without}
-use Rattle.stacks.specs.Stack.{orderOf, coatings, stackCount}
+use Rattle.stacks.specs.Stack.{stackPlaces, orderOf, coatings, stackCount}
 
 -- how many panes of a list have a smaller number than x
 unfoldable pub smaller : ℕ → List ℕ → ℕ
@@ -49,7 +49,7 @@ coatedBy (x ∷ xs) bits = paneWith x (bits / 2 ^ length xs % 2) ∷ coatedBy xs
 
 -- the stack at an index
 unfoldable pub stackAt : ℕ → ℕ → ℕ → List ℤ
-stackAt kind n i = coatedBy (orderAt n (from 1 n) (i / coatings kind n)) (i % coatings kind n) ++ replicate (12 - n) (pos 0)
+stackAt kind n i = coatedBy (orderAt n (from 1 n) (i / coatings kind n)) (i % coatings kind n) ++ replicate (stackPlaces - n) (pos 0)
 
 -- all stacks in the order of their index
 unfoldable pub allStacks : ℕ → ℕ → List (List ℤ)

@@ -6,7 +6,7 @@ use lib.Dec.{ltb, eqb}
 use lib.IntN.{ℤ, pos}
 use lib.ListN.{replicate}
 use Rattle.base.specs.Words.{unless}
-use Rattle.stacks.specs.Stack.{isKind, isPaneCount, isStack, stackCount}
+use Rattle.stacks.specs.Stack.{stackPlaces, isKind, isPaneCount, isStack, stackCount}
 use Rattle.stacks.specs.Index.{rankOf, stackAt}
 use Rattle.stacks.specs.Turn.{isTurn, turnOf}
 use Rattle.stacks.specs.declared.Indexed.{Indexed}
@@ -30,7 +30,7 @@ abbrev pub indexed : ℕ → ℕ → Indexed
 indexed r i = record { refusal = r; index = cond (eqb r 0) i 0 }
 
 abbrev pub stacked : ℕ → List ℤ → Stacked
-stacked r s = record { refusal = r; stack = cond (eqb r 0) s (replicate 12 (pos 0)) }
+stacked r s = record { refusal = r; stack = cond (eqb r 0) s (replicate stackPlaces (pos 0)) }
 
 -- Index of a stack
 unfoldable pub indexOf : ℕ → ℕ → List ℤ → Indexed

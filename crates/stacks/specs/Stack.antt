@@ -12,6 +12,10 @@ use lib.ListN.{length, take, drop}
 use lib.Signed.{nonNeg}
 use Rattle.base.specs.Words.{all, tally, fact}
 
+-- the places of a stack
+abbrev pub stackPlaces : ℕ
+stackPlaces = 12
+
 unfoldable pub isKind : ℕ → Bool
 isKind kind = ltb kind 2
 
@@ -39,9 +43,9 @@ eachOnce n met (x ∷ xs) = leb 1 x && leb x n && eqb (tally (eqb x) met) 0 && e
 unfoldable pub isUnused : ℤ → Bool
 isUnused x = eqb (natAbs x) 0
 
--- twelve places: n panes, 1 to n, each once; a plain one has no coat; unused places are zero
+-- its places: n panes, 1 to n, each once; a plain one has no coat; unused places are zero
 unfoldable pub isStack : ℕ → ℕ → List ℤ → Bool
-isStack kind n s = eqb (length s) 12 && eachOnce n [] (orderOf n s) && (isCoated kind || all nonNeg s) && all isUnused (drop n s)
+isStack kind n s = eqb (length s) stackPlaces && eachOnce n [] (orderOf n s) && (isCoated kind || all nonNeg s) && all isUnused (drop n s)
 
 unfoldable pub coatings : ℕ → ℕ → ℕ
 coatings kind n = cond (isCoated kind) (2 ^ n) 1

@@ -23,6 +23,10 @@ isTurn kind n k = leb (firstTurn kind) k && leb k (lastTurn kind n)
 unfoldable pub turnsOf : ℕ → ℕ → List ℕ
 turnsOf kind n = from (firstTurn kind) (suc (lastTurn kind n) - firstTurn kind)
 
+-- the turn that undoes turn k: each turn undoes itself
+unfoldable pub undoOf : ℕ → ℕ → ℕ
+undoOf kind k = k
+
 -- what a turn does to a pane of its group: a coated one changes sign
 unfoldable pub flip : ℕ → ℤ → ℤ
 flip kind x = cond (isCoated kind) (negℤ x) x
@@ -36,17 +40,24 @@ unfoldable pub turnsFrom : ℕ → List ℕ → List ℤ → List ℤ
 turnsFrom kind [] s = s
 turnsFrom kind (k ∷ ks) s = turnsFrom kind ks (turnOf kind k s)
 
--- a road: turns of that kind and n that take stack s to stack w
-pub record Road (kind n : ℕ) (ks : List ℕ) (s w : List ℤ) : Type 0 where
-  pub turns : all (isTurn kind n) ks ≡ true
+-- a road by some moves: turns that the test lets by, and that take stack s to stack w
+pub record RoadBy (kind : ℕ) (isMove : ℕ → Bool) (ks : List ℕ) (s w : List ℤ) : Type 0 where
+  pub turns : all isMove ks ≡ true
   pub arrives : turnsFrom kind ks s ≡ w
 
--- the fewest turns from s to w are d: a road of that length is there, and every road has at least as many
-pub record Fewest (kind n : ℕ) (s w : List ℤ) (d : ℕ) : Type 0 where
+-- the fewest of them from s to w are d: a road of that length is there, and every road has at least as many
+pub record FewestBy (kind : ℕ) (isMove : ℕ → Bool) (s w : List ℤ) (d : ℕ) : Type 0 where
   pub road : List ℕ
-  pub leads : Road kind n road s w
+  pub leads : RoadBy kind isMove road s w
   pub long : length road ≡ d
-  pub least : (ks : List ℕ) → Road kind n ks s w → d ≤ length ks
+  pub least : (ks : List ℕ) → RoadBy kind isMove ks s w → d ≤ length ks
+
+-- a road and the fewest turns by all turns of that kind and n
+abbrev pub Road : ℕ → ℕ → List ℕ → List ℤ → List ℤ → Type 0
+Road kind n = RoadBy kind (isTurn kind n)
+
+abbrev pub Fewest : ℕ → ℕ → List ℤ → List ℤ → ℕ → Type 0
+Fewest kind n = FewestBy kind (isTurn kind n)
 
 -- as many turns as any stack needs at most: 2 (n - 1) if plain, 3 n if coated
 unfoldable pub turnBound : ℕ → ℕ → ℕ

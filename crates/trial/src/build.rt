@@ -5,6 +5,7 @@ use job::phase;
 use perm::kind;
 use perm::operations;
 use search::Answer;
+use stacks::PLACES;
 use twobit::segment;
 
 // N; 0 where the kind or n is refused.
@@ -24,8 +25,8 @@ pub fn segments_for(stacks: u32, size: u32) -> u32 {
 }
 
 // The ordered stack.
-pub fn ordered(n: u8) -> [i8; 12] {
-    let mut stack: [i8; 12] = [1, 2, 3, 4, 5, 6, 7, 8, 9, 10, 11, 12];
+pub fn ordered(n: u8) -> [i8; PLACES] {
+    let mut stack: [i8; PLACES] = [1, 2, 3, 4, 5, 6, 7, 8, 9, 10, 11, 12];
     let mut p: usize = 12;
     while p > n as usize {
         p -= 1;
@@ -98,7 +99,7 @@ fn run_in(begun: Answer, order: u8, stacks: u32, table: &mut [u8], log: &mut [u3
 pub fn build(
     kind: u8,
     n: u8,
-    wanted: [i8; 12],
+    wanted: [i8; PLACES],
     size: u32,
     room: u32,
     order: u8,

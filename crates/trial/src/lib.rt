@@ -3,3 +3,6 @@ pub mod build;
 pub mod part;
 pub mod print;
 pub mod step;
+
+// As many segments as a job has.
+pub(crate) const SEGMENTS: u32 = search::SEGMENT_LIMIT as u32;

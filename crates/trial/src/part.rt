@@ -1,5 +1,6 @@
 // Calls on one segment, each lent that segment's part of the whole table.
 ghost use Prim.Native.Nat.{_≤_};
+use crate::SEGMENTS;
 use calls::blank;
 use calls::settle;
 use search::Answer;
@@ -10,7 +11,7 @@ use twobit::segment;
 fn part_start(size: u32, j: u32) -> usize
     ensures { λ r. ⌜ r ≤ 4194304 ⌝ }
 {
-    if j > 64 {
+    if j > SEGMENTS {
         return 0;
     }
     if size > 262144 {

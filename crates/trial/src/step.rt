@@ -1,4 +1,5 @@
 // The next call of a build, with the segments taken in a chosen order.
+use crate::SEGMENTS;
 use crate::part;
 use calls::close;
 use job::phase;
@@ -24,7 +25,7 @@ fn segment_at(order: u8, segments: u32, i: u32) -> u32 {
 // Whether segment j has stacks that are not passed.
 fn is_open(job: Job, stacks: u32, j: u32) -> bool {
     let passed = job.passed;
-    if j >= 64 {
+    if j >= SEGMENTS {
         return false;
     }
     passed[j as usize] < segment::stack_count_in(stacks, job.size, j)
@@ -33,7 +34,7 @@ fn is_open(job: Job, stacks: u32, j: u32) -> bool {
 // Whether segment j has log entries waiting.
 fn is_pending(job: Job, j: u32) -> bool {
     let waiting = job.waiting;
-    if j >= 64 {
+    if j >= SEGMENTS {
         return false;
     }
     waiting[j as usize] != 0

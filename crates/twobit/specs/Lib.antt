@@ -1,2 +1,2 @@
--- What the leaf that marks promises.
+-- What the leaves that mark ask for and promise.
 pub mod Mark

@@ -3,6 +3,11 @@ ghost use mathlib.Core.Path.{_≡_};
 ghost use Prim.Native.Nat.{_<_};
 ghost use Rattle.search.specs.Entries.{bytesFor};
 ghost use Rattle.search.specs.Segments.{segmentCount, stackCountIn, isSegmentSize, isLogRoom};
+use search::LEAST_ROOM;
+use search::LEAST_SIZE;
+use search::MOST_ROOM;
+use search::MOST_SIZE;
+use search::SEGMENT_LIMIT;
 
 pub fn bytes_for(m: u32) -> u32
     ensures { λ r. ⌜ r ≡ bytesFor m ⌝ }
@@ -37,20 +42,21 @@ pub fn is_segment_size(count: u32, size: u32) -> bool
     if size % 4 != 0 {
         return false;
     }
-    if size < 4 {
+    if size < LEAST_SIZE {
         return false;
     }
-    if size > 67108864 {
+    if size > MOST_SIZE {
         return false;
     }
-    segment_count(count, size) <= 64
+    let segments = segment_count(count, size) as usize;
+    segments <= SEGMENT_LIMIT
 }
 
 pub fn is_log_room(room: u32) -> bool
     ensures { λ r. ⌜ r ≡ isLogRoom room ⌝ }
 {
-    if room < 16 {
+    if room < LEAST_ROOM {
         return false;
     }
-    room <= 1048576
+    room <= MOST_ROOM
 }

@@ -21,7 +21,7 @@ use Rattle.stacks.proofs.TurnBound
 use Rattle.stacks.proofs.TurnLaws
 use Rattle.search.specs.Begin.{beginOf}
 use Rattle.search.specs.Blank.{blankOf}
-use Rattle.search.specs.Build.{World, Call, doClose, outcome}
+use Rattle.search.specs.Build.{World, Lengths, Call, doClose, outcome}
 use Rattle.search.specs.Close.{closeOf}
 use Rattle.search.specs.Drive.{buildRefusal, Builds}
 use Rattle.search.specs.Expand.{expandRefusal, expandOf}
@@ -127,6 +127,6 @@ build-finishes : (kind n : ℕ) (wanted : List ℤ) (S C : ℕ) (table log : Lis
 build-finishes = WholeTable.build-finishes
 
 -- only Close finishes a build
-only-close-finishes : {bytes : ℕ → ℕ} {words : ℕ} (w : World) (call : Call bytes words) → isFinished (w .job .phase) ≡ false
+only-close-finishes : {right : Lengths} (w : World) (call : Call right) → isFinished (w .job .phase) ≡ false
     → isFinished (outcome w call .world .job .phase) ≡ true → call ≡ doClose
 only-close-finishes = WholeBuild.only-close-finishes

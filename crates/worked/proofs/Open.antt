@@ -11,7 +11,7 @@ use Rattle.search.specs.Begin
 use Rattle.search.specs.Blank
 use Rattle.search.specs.Marks
 use Rattle.search.specs.Logs
-use Rattle.search.specs.Level
+use Rattle.search.specs.Refusals
 use Rattle.search.specs.Expand
 use Rattle.search.specs.Settle
 use Rattle.search.specs.Look
@@ -48,7 +48,7 @@ unfolding Entries.digit Entries.withDigit Entries.entryAt Entries.setEntry Entri
 entries = tt
 
 segments : Unit {0}
-unfolding Segments.segmentLimit Segments.segmentCount Segments.stackCountIn Segments.isSegmentSize Segments.isLogRoom Segments.joined
+unfolding Segments.segmentCount Segments.stackCountIn Segments.isSegmentSize Segments.isLogRoom Segments.joined
 segments = tt
 
 jobs : Unit {0}
@@ -56,7 +56,7 @@ unfolding JobState.stackCountOf JobState.segmentCountOf JobState.stackCountAt Jo
 jobs = tt
 
 phases : Unit {0}
-unfolding JobState.lastLevel JobState.isBlanking JobState.isLevel JobState.isFinished JobState.levelOf JobState.phaseFits
+unfolding JobState.isBlanking JobState.isLevel JobState.isFinished JobState.levelOf JobState.phaseFits
 phases = tt
 
 coherence : Unit {0}
@@ -76,11 +76,11 @@ unfolding Marks.markOne Marks.markAll
 marks = tt
 
 logs : Unit {0}
-unfolding Logs.logPart Logs.pending Logs.logOne Logs.fallingIn Logs.lacksRoom
+unfolding Logs.logPart Logs.indexesOf Logs.pending Logs.logOne Logs.fallingIn Logs.lacksRoom
 logs = tt
 
 expands : Unit {0}
-unfolding Level.levelRefusal Expand.expandRefusal Expand.isParent Expand.childrenOf Expand.expansion Expand.expandedJob Expand.expandOf
+unfolding Refusals.callRefusal Refusals.segmentRefusal Refusals.levelRefusal Expand.expandRefusal Expand.isParent Expand.childrenOf Expand.expansion Expand.expandedJob Expand.expandOf
 expands = tt
 
 expand-runs : Unit {0}
@@ -100,7 +100,7 @@ unfolding Close.isDone Close.isReady Close.isPastLast Close.closeRefusal Close.n
 closes = tt
 
 plans : Unit {0}
-unfolding Plan.planLimit Plan.planRow Plan.planRefusal Plan.hasPlan Plan.planOf
+unfolding Plan.planRow Plan.planRefusal Plan.hasPlan Plan.planOf
 plans = tt
 
 routes : Unit {0}

@@ -1,17 +1,73 @@
 -- What the whole-build theorem says of a build of plain 3, each clause drawn from it by its name: its premises, and the values, compute.
-use mathlib.Core.Path.{_≡_, refl}
+use mathlib.Core.Path.{_≡_, refl, sym, ap, subst, _∙_}
 use mathlib.Core.Bool.{true}
-use mathlib.Core.List.{[], _∷_}
-use Prim.Native.Nat.{ℕ, zero, suc, _<_}
+use mathlib.Core.List.{List, [], _∷_}
+use Prim.Native.Nat.{ℕ, zero, suc, _*_, _%_, _≤_, _<_}
 use native.Mathlib.Omega.{arith}
-use lib.ListN.{length, getD}
-use Rattle.search.specs.JobState.{isFinished}
-use Rattle.search.specs.Promise.{rightBytes, rightWords, Buffers, Promise, Continues, FinishedByClose, Plans, Finishes, WholeBuild, PlanArrives}
+use lib.IntN.{ℤ}
+use lib.ListN.{length, getD, take}
+use lib.Seq.{getD-take}
+use Rattle.base.specs.Words.{total}
+use Rattle.stacks.specs.Counts.{CountsAt}
+use Rattle.stacks.specs.Index.{rankOf}
+use Rattle.stacks.specs.Stack.{isStack, stackCount}
+use Rattle.stacks.specs.Turn.{Fewest}
+use Rattle.search.specs.Build.{World}
+use Rattle.search.specs.Entries.{entryAt, seenIn}
+use Rattle.search.specs.JobState.{countOf, isFinished, levelOf}
+use Rattle.search.specs.Segments.{joined}
+use Rattle.search.specs.declared.Phase.{Phase}
+use Rattle.search.specs.declared.Phase.the-variants.{Finished}
+use Rattle.search.specs.Plan.{planLimit}
+use Rattle.search.specs.Promise.{rightBytes, rightLengths, Buffers, Promise, Continues, FinishedByClose, Plans, Finishes, WholeBuild, PlanArrives}
 use Rattle.search.proofs.Finishing.{plan-arrives}
 use Rattle.search.proofs.WholeBuild.{whole-build}
 use Rattle.worked.specs.Cases.{plain, ordered, any}
-use Rattle.worked.specs.PlainThree.{Calls, start, part, end, early, calls, given, PlainThree}
+use Rattle.worked.specs.PlainThree.{Calls, start, part, end, early, calls, given, table, PlainThree}
 use Rattle.worked.proofs.Open.{all-open}
+
+-- The theorem's clauses over any world of which the table, the level and the counts are known: no clause computes the calls anew.
+module _ (w : World) (f : Finishes plain 3 (ordered 3) w) where
+  module _ (bytes : joined (w .segments) ≡ table) where
+    entries-of : (s : List ℤ) → isStack plain 3 s ≡ true → (d : ℕ) × Fewest plain 3 s (ordered 3) d × (entryAt table (rankOf plain 3 s) ≡ d % 3)
+    entries-of =
+        subst
+        (λ (t : List ℕ). (s : List ℤ) → isStack plain 3 s ≡ true → (d : ℕ) × Fewest plain 3 s (ordered 3) d × (entryAt t (rankOf plain 3 s) ≡ d % 3))
+        bytes
+        (f .entries)
+
+    spare-of : (i : ℕ) → 6 ≤ i → i < 8 → entryAt table i ≡ 3
+    unfolding all-open
+    spare-of = subst (λ (t : List ℕ). (i : ℕ) → stackCount plain 3 ≤ i → i < 4 * length t → entryAt t i ≡ 3) bytes (f .spare)
+
+    added-of : total (w .job .counts) ≡ seenIn table 6
+    unfolding all-open
+    added-of = f .added ∙ ap (λ (t : List ℕ). seenIn t 6) bytes
+
+    all-seen-of : seenIn table 6 ≡ 6
+    unfolding all-open
+    all-seen-of = sym (ap (λ (t : List ℕ). seenIn t 6) bytes) ∙ f .all-seen
+
+  module _ (level : w .job .phase ≡ Finished 3) where
+    past-of : (d : ℕ) → 3 < d → countOf (w .job) d ≡ 0
+    unfolding all-open
+    past-of = subst (λ (h : Phase). (d : ℕ) → levelOf h < d → countOf (w .job) d ≡ 0) level (f .past)
+
+    deepest-of : (s : List ℤ) × (isStack plain 3 s ≡ true) × Fewest plain 3 s (ordered 3) 3
+    unfolding all-open
+    deepest-of = subst (λ (h : Phase). (s : List ℤ) × (isStack plain 3 s ≡ true) × Fewest plain 3 s (ordered 3) (levelOf h)) level (f .deepest)
+
+    greatest-of : (s : List ℤ) (d : ℕ) → isStack plain 3 s ≡ true → Fewest plain 3 s (ordered 3) d → d ≤ 3
+    unfolding all-open
+    greatest-of =
+        subst (λ (h : Phase). (s : List ℤ) (d : ℕ) → isStack plain 3 s ≡ true → Fewest plain 3 s (ordered 3) d → d ≤ levelOf h) level (f .greatest)
+
+  module _ (some : List ℕ) (counted : take 5 (w .job .counts) ≡ some) where
+    counts-of : (d : ℕ) → d < 5 → CountsAt plain 3 (ordered 3) d (getD some d 0)
+    unfolding all-open
+    counts-of d h =
+        subst (λ (c : ℕ). CountsAt plain 3 (ordered 3) d c) (sym (getD-take 5 (w .job .counts) d 0 h) ∙ ap (λ (l : List ℕ). getD l d 0) counted)
+        (f .counts d (omega arith))
 
 module _ (first second : ℕ) (words : ℕ → ℕ) where
   buffers : Buffers plain 3 4 16 (start first second words .segments) (start first second words .log)
@@ -23,7 +79,7 @@ module _ (first second : ℕ) (words : ℕ → ℕ) where
       each (suc zero) h = refl
       each (suc (suc j)) h = absurd (omega arith)
 
-  promise : (list : Calls) → Promise plain 3 (ordered 3) (rightBytes plain 3 4) (rightWords plain 3 4 16) (start first second words) list
+  promise : (list : Calls) → Promise plain 3 (ordered 3) (rightLengths plain 3 4 16) (start first second words) list
   unfolding all-open WholeBuild
   promise = whole-build plain 3 (ordered 3) 4 16 (start first second words .segments) (start first second words .log) refl buffers
 
@@ -34,17 +90,32 @@ module _ (first second : ℕ) (words : ℕ → ℕ) where
   finishes : Finishes plain 3 (ordered 3) (end first second words)
   finishes = promise calls .finishes finished
 
+  leaves : joined (end first second words .segments) ≡ table
+  unfolding all-open
+  leaves = refl
+
+  level : end first second words .job .phase ≡ Finished 3
+  unfolding all-open
+  level = refl
+
+  counted : take 5 (end first second words .job .counts) ≡ 1 ∷ 2 ∷ 2 ∷ 1 ∷ 0 ∷ []
+  unfolding all-open
+  counted = refl
+
+  at : (d : ℕ) → d < 5 → CountsAt plain 3 (ordered 3) d (getD (1 ∷ 2 ∷ 2 ∷ 1 ∷ 0 ∷ []) d 0)
+  at = counts-of (end first second words) finishes (1 ∷ 2 ∷ 2 ∷ 1 ∷ 0 ∷ []) counted
+
   close : FinishedByClose (start first second words) calls
   close = promise calls .by-close finished
 
-  next : Continues (rightBytes plain 3 4) (rightWords plain 3 4 16) (part first second words)
+  next : Continues (rightLengths plain 3 4 16) (part first second words)
   unfolding all-open
   next = promise early .continues refl
 
   module _ (slots : ℕ → ℕ) where
-    plans : Plans (end first second words) given (any slots 30)
+    plans : Plans (end first second words) given (any slots planLimit)
     unfolding all-open
-    plans = finishes .plans given (any slots 30) refl (omega arith)
+    plans = finishes .plans given (any slots planLimit) refl (omega arith)
 
     pub plain-three : PlainThree first second words slots
     unfolding all-open PlanArrives
@@ -57,25 +128,25 @@ module _ (first second : ℕ) (words : ℕ → ℕ) where
           levels = promise early .levels;
           closes = promise early .closes;
           ends = promise early .ends;
-          finished = refl;
+          finished = level;
           by-close = (close .before, close .later, close .place, close .unfinished, close .accepted, close .finished);
           since-close = promise calls .since-close;
           stays = λ more. promise calls .stays more finished;
-          leaves = refl;
-          entries = finishes .entries;
-          spare-6 = finishes .spare 6 (omega arith) (omega arith);
-          spare-7 = finishes .spare 7 (omega arith) (omega arith);
-          counts = refl;
-          at-0 = finishes .counts 0 (omega arith);
-          at-1 = finishes .counts 1 (omega arith);
-          at-2 = finishes .counts 2 (omega arith);
-          at-3 = finishes .counts 3 (omega arith);
-          at-4 = finishes .counts 4 (omega arith);
-          past = finishes .past;
-          added = finishes .added;
-          all-seen = finishes .all-seen;
-          deepest = finishes .deepest;
-          greatest = finishes .greatest;
+          leaves = leaves;
+          entries = entries-of (end first second words) finishes leaves;
+          spare-6 = spare-of (end first second words) finishes leaves 6 (omega arith) (omega arith);
+          spare-7 = spare-of (end first second words) finishes leaves 7 (omega arith) (omega arith);
+          counts = counted;
+          at-0 = at 0 (omega arith);
+          at-1 = at 1 (omega arith);
+          at-2 = at 2 (omega arith);
+          at-3 = at 3 (omega arith);
+          at-4 = at 4 (omega arith);
+          past = past-of (end first second words) finishes level;
+          added = added-of (end first second words) finishes leaves;
+          all-seen = all-seen-of (end first second words) finishes leaves;
+          deepest = deepest-of (end first second words) finishes level;
+          greatest = greatest-of (end first second words) finishes level;
           same-kind = finishes .given-kind;
           same-n = finishes .given-n;
           same-wanted = finishes .given-wanted;
@@ -84,5 +155,5 @@ module _ (first second : ℕ) (words : ℕ → ℕ) where
           road = plans .arrives;
           fewest = plans .shortest;
           spoilt = refl;
-          spoilt-road = plan-arrives plain 3 (ordered 3) given (0x90 ∷ 0xf5 ∷ []) (any slots 30) refl .0;
+          spoilt-road = plan-arrives plain 3 (ordered 3) given (0x90 ∷ 0xf5 ∷ []) (any slots planLimit) refl .0;
         }

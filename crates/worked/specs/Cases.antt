@@ -13,11 +13,11 @@ use native.Mathlib.Omega.{arith}
 use lib.IntN.{ℤ, pos, negℤ}
 use lib.ListN.{take, replicate, length-replicate}
 use Rattle.base.specs.Words.{from}
-use Rattle.stacks.specs.Stack.{stackCount}
+use Rattle.stacks.specs.Stack.{stackPlaces, stackCount}
 use Rattle.search.specs.Begin.{beginOf}
-use Rattle.search.specs.Build.{World, Lent, Call, own, other, doBlank, doExpand, doSettle, doClose, outcome, after}
+use Rattle.search.specs.Build.{World, Lengths, Lent, Call, own, other, doBlank, doExpand, doSettle, doClose, outcome, after}
 use Rattle.search.specs.Drive.{buildOf}
-use Rattle.search.specs.Promise.{rightBytes, rightWords}
+use Rattle.search.specs.Promise.{rightBytes, rightWords, rightLengths}
 use Rattle.search.specs.Segments.{segmentCount}
 use Rattle.search.specs.declared.Answer.{Answer}
 
@@ -35,7 +35,7 @@ abbrev pub down : ℕ → ℤ
 down x = negℤ (pos x)
 
 abbrev pub places : List ℤ → List ℤ
-places panes = take 12 (panes ++ replicate 12 (pos 0))
+places panes = take stackPlaces (panes ++ replicate stackPlaces (pos 0))
 
 unfoldable pub ordered : ℕ → List ℤ
 ordered n = places (map up (from 1 n))
@@ -46,20 +46,20 @@ any number count = map number (from 0 count)
 unfoldable pub tooLong : {right : ℕ} → Lent right
 tooLong {right} = other (replicate (suc right) 0) (λ h. omega (arith, length-replicate {A = ℕ} (suc right) 0))
 
-module _ {bytes : ℕ → ℕ} {words : ℕ} where
-  unfoldable pub refusals : World → List (Call bytes words) → List ℕ
+module _ {right : Lengths} where
+  unfoldable pub refusals : World → List (Call right) → List ℕ
   refusals w [] = []
   refusals w (call ∷ calls) = outcome w call .refusal ∷ refusals (outcome w call .world) calls
 
   -- each of G segments is blanked, and the phase closed
-  unfoldable pub blankAll : ℕ → List (Call bytes words)
+  unfoldable pub blankAll : ℕ → List (Call right)
   blankAll G = map (λ j. doBlank j own) (from 0 G) ++ (doClose ∷ [])
 
   -- each is expanded, then each log settled, and the level closed
-  unfoldable pub searchLevel : ℕ → List (Call bytes words)
+  unfoldable pub searchLevel : ℕ → List (Call right)
   searchLevel G = map (λ j. doExpand j own own) (from 0 G) ++ (map (λ j. doSettle j own own) (from 0 G) ++ (doClose ∷ []))
 
-  unfoldable pub searchLevels : ℕ → ℕ → List (Call bytes words)
+  unfoldable pub searchLevels : ℕ → ℕ → List (Call right)
   searchLevels G zero = []
   searchLevels G (suc d) = searchLevel G ++ searchLevels G d
 
@@ -75,7 +75,7 @@ module _ (kind n S : ℕ) where
   unfoldable pub endOf : ℕ → World
   endOf d =
       let G = segmentCount (stackCount kind n) S in
-      after {bytes = rightBytes kind n S} {words = rightWords kind n S 16} startOf (blankAll G ++ searchLevels G d)
+      after {right = rightLengths kind n S 16} startOf (blankAll G ++ searchLevels G d)
 
   unfoldable pub whole : ℕ → ℕ → List ℕ × List ℕ × Answer
   whole bytes words = buildOf kind n (ordered n) S 16 (replicate bytes 0) (replicate words 0)

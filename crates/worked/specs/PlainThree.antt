@@ -20,14 +20,14 @@ use Rattle.search.specs.Build.{World, Call, own, doBlank, doExpand, doSettle, d
 use Rattle.search.specs.Close.{closeOf}
 use Rattle.search.specs.Entries.{entryAt, seenIn}
 use Rattle.search.specs.JobState.{countOf, isFinished, lastLevel}
-use Rattle.search.specs.Plan.{planOf}
-use Rattle.search.specs.Promise.{rightBytes, rightWords, FinishedByClose}
+use Rattle.search.specs.Plan.{planLimit, planOf}
+use Rattle.search.specs.Promise.{rightLengths, FinishedByClose}
 use Rattle.search.specs.Segments.{joined}
 use Rattle.search.specs.declared.Phase.the-variants.{Level, Finished}
 use Rattle.worked.specs.Cases.{plain, up, places, ordered, any, tooLong, refusals, searchLevels}
 
 abbrev pub Calls : Type 0
-Calls = List (Call (rightBytes plain 3 4) (rightWords plain 3 4 16))
+Calls = List (Call (rightLengths plain 3 4 16))
 
 unfoldable pub early : Calls
 early =
@@ -83,10 +83,10 @@ module _ (first second : ℕ) (words : ℕ → ℕ) where
     pub answers : refusals start early ≡ 9 ∷ 0 ∷ 13 ∷ 10 ∷ 8 ∷ 0 ∷ 11 ∷ 0 ∷ 0 ∷ 10 ∷ 0 ∷ []
     -- part of the list: no call has finished the build, so one carries it on; 31 levels suffice, and no Close says 14
     pub part-way : part .job .phase ≡ Level 1
-    pub continues : (call : Call (rightBytes plain 3 4) (rightWords plain 3 4 16)) × (isLentOwn call ≡ true) × (outcome part call .refusal ≡ 0)
+    pub continues : (call : Call (rightLengths plain 3 4 16)) × (isLentOwn call ≡ true) × (outcome part call .refusal ≡ 0)
         × CarriesOn part (outcome part call .world)
     pub levels : (d : ℕ) → part .job .phase ≡ Level d → d ≤ lastLevel
-    pub closes : outcome {bytes = rightBytes plain 3 4} {words = rightWords plain 3 4 16} part doClose .refusal ≡ 14 → ⊥
+    pub closes : outcome {right = rightLengths plain 3 4 16} part doClose .refusal ≡ 14 → ⊥
     pub ends : (more : Calls) × (isFinished (after start (early ++ more) .job .phase) ≡ true)
     -- the whole list: a Close of it has finished the build, and whatever follows leaves it so
     pub finished : end .job .phase ≡ Finished 3
@@ -117,10 +117,10 @@ module _ (first second : ℕ) (words : ℕ → ℕ) where
     pub same-n : end .job .n ≡ 3
     pub same-wanted : end .job .wanted ≡ ordered 3
     -- Plan takes 3 1 2 to the ordered stack by turns 3 and 2, and no road is shorter
-    pub accepts : planOf plain 3 (ordered 3) given table (any slots 30) .1 .refusal ≡ 0
-    pub turns : planOf plain 3 (ordered 3) given table (any slots 30) .1 .turns ≡ 2
+    pub accepts : planOf plain 3 (ordered 3) given table (any slots planLimit) .1 .refusal ≡ 0
+    pub turns : planOf plain 3 (ordered 3) given table (any slots planLimit) .1 .turns ≡ 2
     pub road : Road plain 3 (3 ∷ 2 ∷ []) given (ordered 3)
     pub fewest : Fewest plain 3 given (ordered 3) 2
     -- from a spoilt table, in which 3 1 2 has entry 1, the plan is longer, and arrives
-    pub spoilt : planOf plain 3 (ordered 3) given (0x90 ∷ 0xf5 ∷ []) (any slots 30) .1 ≡ record { refusal = 0; turns = 4 }
+    pub spoilt : planOf plain 3 (ordered 3) given (0x90 ∷ 0xf5 ∷ []) (any slots planLimit) .1 ≡ record { refusal = 0; turns = 4 }
     pub spoilt-road : Road plain 3 (2 ∷ 3 ∷ 2 ∷ 3 ∷ []) given (ordered 3)

@@ -1,14 +1,15 @@
--- `diameters::total` is safe and ends: the level grows up to 32.
+-- `diameters::total` is safe and ends: the level grows up to the number of places.
 use Prim.Native.Nat.{_≤_, _-_}
 use borrow.Author.Needs.{needs}
+use Rattle.search.specs.JobState.{countPlaces}
 use Rattle.diameters.proofs.total.Statement.{statement}
 use Rattle.diameters.proofs.total.Tie as tie
 
 abbrev Inv-loop : tie.InvT-loop
-Inv-loop counts sum₀ d₀ sum d = d ≤ 32
+Inv-loop counts sum₀ d₀ sum d = d ≤ countPlaces
 
 abbrev μ-loop : tie.MeasureT-loop
-μ-loop counts sum₀ d₀ sum d = 32 - d
+μ-loop counts sum₀ d₀ sum d = countPlaces - d
 
 loop-holds : tie.Need-loop-holds Inv-loop μ-loop
 loop-holds c = search needs

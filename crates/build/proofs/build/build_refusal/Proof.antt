@@ -7,7 +7,7 @@ use borrow.Author.Needs.{needs}
 use Rattle.stacks.specs.Stack.{stackCount}
 use Rattle.search.specs.Entries.{bytesFor}
 use Rattle.search.specs.Promise.{rightWords}
-use Rattle.search.specs.Segments.{segmentCount}
+use Rattle.search.specs.Segments.{segmentLimit, mostRoom, segmentCount}
 use Rattle.search.proofs.Coherence.{begin-given}
 use Rattle.search.proofs.Terms.{termsWith, Given}
 use Rattle.search.proofs.SegmentLaws.{segment-size-facts, log-room-facts}
@@ -70,13 +70,13 @@ mul-if3 : tie.Need-mul-if3
 mul-if3 c =
     let a = c .before .before .before .before .before .before .args in
     let g = given (c .before .before .before .before) in
-    let few : c .segment-count .result ≤ 64 =
+    let few : c .segment-count .result ≤ segmentLimit =
     omega (
       arith,
       c .segment-count .ensures ∙ ap (λ (N : ℕ). segmentCount N (a .size)) (c .before .before .before .stack-count .ensures),
       segment-size-facts (stackCount (a .kind) (a .n)) (a .size) (g .segments) .few,
     ) in
-    let narrow : a .room ≤ 1048576 = log-room-facts (a .room) (g .room) .most in
+    let narrow : a .room ≤ mostRoom = log-room-facts (a .room) (g .room) .most in
     omega (arith, mul-le-mul few narrow)
 
 returns-3 : tie.Need-returns-3

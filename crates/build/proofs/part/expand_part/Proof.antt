@@ -1,14 +1,18 @@
 -- `build::part::expand_part` meets its contract: the part lies in the table, and what Expand leaves in it, it leaves in the table.
 use borrow.Author.Needs.{needs}
-use Rattle.build.proofs.Parts.{part-within, expanded-in}
+use Rattle.job.proofs.Bounds.{coherent-bounds}
+use Rattle.build.proofs.Parts.{part-small, part-within, expanded-in}
 use Rattle.build.proofs.part.expand_part.Statement.{statement}
 use Rattle.build.proofs.part.expand_part.Tie as tie
 
 part-start-requires : tie.Need-part-start-requires
-part-start-requires c κs = search needs
+part-start-requires c κs = let s = c .before .before in part-small (s .args .job) (s .args .j) (s .pre .0) (s .pre .1)
 
 part-end-requires : tie.Need-part-end-requires
-part-end-requires c κs = search needs
+part-end-requires c κs =
+    let s = c .before .before .before in
+    let p = part-small (s .args .job) (s .args .j) (s .pre .0) (s .pre .1) in
+    (coherent-bounds (s .args .job) (s .pre .0) .is-pane-count, p .0, p .1)
 
 sub-expand : tie.Need-sub-expand
 sub-expand c = search needs

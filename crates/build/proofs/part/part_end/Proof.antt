@@ -9,10 +9,10 @@ use Rattle.build.proofs.part.part_end.Statement.{statement}
 use Rattle.build.proofs.part.part_end.Tie as tie
 
 part-start-requires : tie.Need-part-start-requires
-part-start-requires c κs = search needs
+part-start-requires c κs = (c .pre .1, c .pre .2)
 
 stack-count-at-requires : tie.Need-stack-count-at-requires
-stack-count-at-requires c κs = search needs
+stack-count-at-requires c κs = c .before .pre .0
 
 bytes-for-requires : tie.Need-bytes-for-requires
 bytes-for-requires c κs = search needs
@@ -23,13 +23,13 @@ cast-result c = search needs
 add-result : tie.Need-add-result
 add-result c =
     let s = c .before .before .before in
-    omega (arith, c .before .before .part-start .ensures, start-small (s .args .job) (s .args .j) (s .pre .0) (s .pre .1))
+    omega (arith, c .before .before .part-start .ensures, start-small (s .args .size) (s .args .j) (s .pre .1) (s .pre .2))
 
 returns : tie.Need-returns
 returns c =
     let s = c .before .before .before .args in
     ap (λ (a : ℕ). a + c .bytes-for .result) (c .before .before .part-start .ensures)
-    ∙ ap (λ (b : ℕ). s .j * (s .job .size / 4) + b) (c .bytes-for .ensures ∙ ap bytesFor (c .before .stack-count-at .ensures))
+    ∙ ap (λ (b : ℕ). s .j * (s .size / 4) + b) (c .bytes-for .ensures ∙ ap bytesFor (c .before .stack-count-at .ensures))
 
 pub part-end-spec : {M : Type 1} → statement M
 part-end-spec =

@@ -9,7 +9,7 @@ cast-result : tie.Need-cast-result
 cast-result c = search needs
 
 mul-result : tie.Need-mul-result
-mul-result c = omega (arith, start-small (c .before .args .job) (c .before .args .j) (c .before .pre .0) (c .before .pre .1))
+mul-result c = omega (arith, start-small (c .args .size) (c .args .j) (c .pre .0) (c .pre .1))
 
 returns : tie.Need-returns
 returns c = search needs

@@ -2,15 +2,19 @@
 use borrow.Author.Needs.{needs}
 use Rattle.search.specs.Settle.{settleOf}
 use Rattle.build.specs.Part.{settledIn}
-use Rattle.build.proofs.Parts.{part-within, answered-in}
+use Rattle.job.proofs.Bounds.{coherent-bounds}
+use Rattle.build.proofs.Parts.{part-small, part-within, answered-in}
 use Rattle.build.proofs.part.settle_part.Statement.{statement}
 use Rattle.build.proofs.part.settle_part.Tie as tie
 
 part-start-requires : tie.Need-part-start-requires
-part-start-requires c κs = search needs
+part-start-requires c κs = let s = c .before .before in part-small (s .args .job) (s .args .j) (s .pre .0) (s .pre .1)
 
 part-end-requires : tie.Need-part-end-requires
-part-end-requires c κs = search needs
+part-end-requires c κs =
+    let s = c .before .before .before in
+    let p = part-small (s .args .job) (s .args .j) (s .pre .0) (s .pre .1) in
+    (coherent-bounds (s .args .job) (s .pre .0) .is-pane-count, p .0, p .1)
 
 sub-settle : tie.Need-sub-settle
 sub-settle c = search needs

@@ -1,16 +1,17 @@
--- `bytewise::breadth::search` is safe and ends: the level grows up to 31, and no length changes.
+-- `bytewise::breadth::search` is safe and ends: the level grows up to the last, and no length changes.
 use Prim.Native.Nat.{_≤_, _-_}
 use lib.ListN.{length}
 use mathlib.Core.Path.{_≡_}
+use Rattle.search.specs.JobState.{lastLevel, countPlaces}
 use borrow.Author.Needs.{needs}
 use Rattle.bytewise.proofs.breadth.search.Statement.{statement}
 use Rattle.bytewise.proofs.breadth.search.Tie as tie
 
 abbrev Inv-loop : tie.InvT-loop
-Inv-loop kind n bytes₀ goal counts₀ d₀ bytes counts d = (d ≤ 31) × (length counts ≡ 32) × (length bytes ≡ length bytes₀)
+Inv-loop kind n bytes₀ goal counts₀ d₀ bytes counts d = (d ≤ lastLevel) × (length counts ≡ countPlaces) × (length bytes ≡ length bytes₀)
 
 abbrev μ-loop : tie.MeasureT-loop
-μ-loop kind n bytes₀ goal counts₀ d₀ bytes counts d = 31 - d
+μ-loop kind n bytes₀ goal counts₀ d₀ bytes counts d = lastLevel - d
 
 clear-requires : tie.Need-clear-requires Inv-loop μ-loop
 clear-requires c κs = search needs

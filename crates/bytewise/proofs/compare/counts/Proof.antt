@@ -1,14 +1,15 @@
--- `bytewise::compare::counts` is safe and ends: the level grows up to 32.
+-- `bytewise::compare::counts` is safe and ends: the level grows up to the number of places.
 use Prim.Native.Nat.{_≤_, _-_}
 use borrow.Author.Needs.{needs}
+use Rattle.search.specs.JobState.{countPlaces}
 use Rattle.bytewise.proofs.compare.counts.Statement.{statement}
 use Rattle.bytewise.proofs.compare.counts.Tie as tie
 
 abbrev Inv-loop : tie.InvT-loop
-Inv-loop a b differ₀ d₀ differ d = (d ≤ 32) × (differ ≤ d)
+Inv-loop a b differ₀ d₀ differ d = (d ≤ countPlaces) × (differ ≤ d)
 
 abbrev μ-loop : tie.MeasureT-loop
-μ-loop a b differ₀ d₀ differ d = 32 - d
+μ-loop a b differ₀ d₀ differ d = countPlaces - d
 
 loop-holds : tie.Need-loop-holds Inv-loop μ-loop
 loop-holds c = search needs

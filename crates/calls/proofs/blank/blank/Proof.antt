@@ -4,11 +4,12 @@ use mathlib.Core.List.{List}
 use Prim.Native.Nat.{ℕ}
 use borrow.Author.Needs.{needs}
 use lib.ListN.{length, set}
-use Rattle.search.specs.Blank.{blankRefusal, blanked, blankOf}
-use Rattle.search.specs.JobState.{stackCountAt, progressed}
+use Rattle.search.specs.Blank.{blankRefusal, goalOf, blanked, blankOf}
+use Rattle.search.specs.JobState.{stackCountOf, stackCountAt, progressed}
 use Rattle.search.specs.declared.Answer.{Answer}
 use Rattle.search.specs.declared.Job.{Job}
-use Rattle.search.proofs.Accepted.{blank-facts, blank-accepted, blank-refused}
+use Rattle.search.proofs.Accepted.{BlankFacts, blank-facts, blank-accepted, blank-refused}
+use Rattle.job.proofs.Bounds.{coherent-bounds}
 use Rattle.calls.proofs.blank.blank.Statement.{statement}
 use Rattle.calls.proofs.blank.blank.Tie as tie
 
@@ -31,30 +32,34 @@ returns c =
     let f = c .before .blank-refusal in
     refused (a .job) (a .j) (a .segment .now) (f .result) (f .ensures) (c .if1 .taken)
 
+-- what was given where nothing is refused
+facts : (c : tie.Else1) → let a = c .before .before .before .args in BlankFacts (a .job) (a .j) (length (a .segment .now))
+facts c =
+    let a = c .before .before .before .args in
+    blank-facts (a .job) (a .j) (length (a .segment .now)) (sym (c .before .blank-refusal .ensures) ∙ c .if1 .left)
+
 blank-entries-requires : tie.Need-blank-entries-requires
+unfolding stackCountAt stackCountOf
 blank-entries-requires c κs =
-    let e = c .before in
-    let a = e .before .before .before .args in
-    let f = blank-facts (a .job) (a .j) (length (a .segment .now)) (sym (e .before .blank-refusal .ensures) ∙ e .if1 .left) in
-    (f .coherent, f .long)
+    let e = c .before .before in
+    let f = facts e in
+    let b = coherent-bounds (e .before .before .before .args .job) (f .called .coherent) in
+    record { in-range = b .is-pane-count; goal = b .is-stack; some = b .some; long = f .long }
 
 pass-all-requires : tie.Need-pass-all-requires
-pass-all-requires c κs =
-    let e = c .before .before .before .before in
-    let a = e .before .before .before .args in
-    let f = blank-facts (a .job) (a .j) (length (a .segment .now)) (sym (e .before .blank-refusal .ensures) ∙ e .if1 .left) in
-    (f .coherent, f .inside)
+pass-all-requires c κs = let f = facts (c .before .before .before .before .before) in (f .called .coherent, f .called .inside)
 
 same-length : tie.Need-same-length
 same-length c = search needs
 
 returns-2 : tie.Need-returns-2
+unfolding blanked goalOf stackCountAt stackCountOf
 returns-2 c =
     let n = c .before .before .before in
-    let e = n .before .before in
+    let e = n .before .before .before in
     let a = e .before .before .before .args in
     let f = e .before .blank-refusal in
-    accepted (a .job) (a .j) (a .segment .now) (f .result) (f .ensures) (n .blank-entries .last .1 .1 .0) (c .pass-all .result) (e .if1 .left)
+    accepted (a .job) (a .j) (a .segment .now) (f .result) (f .ensures) (n .blank-entries .last .1 .1 .1 .1 .1 .0) (c .pass-all .result) (e .if1 .left)
     (n .blank-entries .ensures) (c .pass-all .ensures)
 
 pub blank-spec : {M : Type 1} → statement M

@@ -19,7 +19,7 @@ returns c =
 
 closed-job-requires : tie.Need-closed-job-requires
 closed-job-requires c κs =
-    close-facts (c .before .before .args .job) (sym (c .before .close-refusal .ensures) ∙ c .if1 .left) .coherent
+    let f = close-facts (c .before .before .args .job) (sym (c .before .close-refusal .ensures) ∙ c .if1 .left) in (f .coherent, f .fits)
 
 returns-2 : tie.Need-returns-2
 unfolding closeOf

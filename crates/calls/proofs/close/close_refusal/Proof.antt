@@ -3,8 +3,9 @@ use mathlib.Core.Path.{_≡_, sym, _∙_}
 use mathlib.Core.Bool.{true, false}
 use borrow.Author.Needs.{needs}
 use borrow.Author.Tests.{not-true, not-false}
-use Rattle.search.specs.Close.{isReady, closeRefusal}
-use Rattle.search.specs.JobState.{isCoherent, isFinished}
+use Rattle.search.specs.Close.{isDone, isReady, isPastLast, closeRefusal}
+use Rattle.search.specs.JobState.{isCoherent, isFinished, stackCountOf, segmentCountOf, stackCountAt, passedOf, waitingOf, countOf}
+use Rattle.job.proofs.Bounds.{coherent-sizes}
 use Rattle.calls.proofs.close.close_refusal.Statement.{statement}
 use Rattle.calls.proofs.close.close_refusal.Tie as tie
 
@@ -25,37 +26,44 @@ coherent c = sym (c .before .is-coherent .ensures) ∙ not-false (c .before .is-
 unfinished : (c : tie.Else2) → isFinished (c .before .before .before .before .args .job .phase) ≡ false
 unfinished c = sym (c .before .is-finished .ensures) ∙ c .if2 .left
 
-ready : (c : tie.Else3) → isReady (c .before .before .before .before .before .before .args .job) ≡ true
-ready c = sym (c .before .is-ready .ensures) ∙ not-false (c .before .is-ready .result) (c .if3 .left)
+-- what is_ready has answered
+told : (c : tie.After-is-ready) → c .is-ready .result ≡ isReady (c .before .before .before .before .before .before .before .args .job)
+unfolding isReady isDone passedOf waitingOf stackCountAt segmentCountOf stackCountOf
+told c = c .is-ready .ensures
+
+ready : (c : tie.Else3) → isReady (c .before .before .before .before .before .before .before .before .args .job) ≡ true
+ready c = sym (told (c .before)) ∙ not-false (c .before .is-ready .result) (c .if3 .left)
 
 returns-2 : tie.Need-returns-2
 unfolding closeRefusal
 returns-2 c = rw (coherent (c .before .before), ← c .before .is-finished .ensures, c .if2 .taken)
 
 is-ready-requires : tie.Need-is-ready-requires
-is-ready-requires c κs = coherent (c .before .before)
+is-ready-requires c κs =
+    let u = c .before .before in coherent-sizes (u .before .before .before .before .args .job) (coherent (u .before .before))
 
 returns-3 : tie.Need-returns-3
 unfolding closeRefusal
 returns-3 c =
-    let u = c .before .before in
-    rw (coherent (u .before .before), unfinished u, ← c .before .is-ready .ensures, not-true (c .before .is-ready .result) (c .if3 .taken))
+    let r = c .before in
+    let u = r .before .before .before in
+    rw (coherent (u .before .before), unfinished u, ← told r, not-true (r .is-ready .result) (c .if3 .taken))
 
 is-past-last-requires : tie.Need-is-past-last-requires
 is-past-last-requires c κs = search needs
 
 returns-4 : tie.Need-returns-4
-unfolding closeRefusal
+unfolding closeRefusal isPastLast countOf
 returns-4 c =
-    let r = c .before .before in
-    let u = r .before .before in
+    let r = c .before .before .before in
+    let u = r .before .before .before .before in
     rw (coherent (u .before .before), unfinished u, ready r, ← c .before .is-past-last .ensures, c .if4 .taken)
 
 returns-5 : tie.Need-returns-5
-unfolding closeRefusal
+unfolding closeRefusal isPastLast countOf
 returns-5 c =
-    let r = c .before .before in
-    let u = r .before .before in
+    let r = c .before .before .before in
+    let u = r .before .before .before .before in
     rw (coherent (u .before .before), unfinished u, ready r, ← c .before .is-past-last .ensures, c .if4 .left)
 
 pub close-refusal-spec : {M : Type 1} → statement M

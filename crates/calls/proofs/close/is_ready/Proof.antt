@@ -10,11 +10,9 @@ use lib.Dec.{eqb}
 use lib.ListN.{getD, drop}
 use Rattle.base.specs.Words.{all, from}
 use Rattle.stacks.specs.Stack.{stackCount}
-use Rattle.search.specs.Close.{isDone, isReady}
-use Rattle.search.specs.JobState.{stackCountOf, segmentCountOf, stackCountAt, passedOf, waitingOf}
-use Rattle.search.specs.Segments.{segmentCount, stackCountIn}
-use Rattle.search.specs.declared.Job.{Job}
-use Rattle.job.proofs.Bounds.{coherent-bounds}
+use Rattle.search.specs.Segments.{segmentLimit, segmentCount, stackCountIn}
+use Rattle.search.proofs.SegmentLaws.{segment-size-facts}
+use Rattle.calls.specs.Lent.{readyBy}
 use Rattle.job.proofs.Scans.{upto-on, upto-fails, upto-end}
 use Rattle.calls.proofs.close.is_ready.Statement.{statement}
 use Rattle.calls.proofs.close.is_ready.Tie as tie
@@ -23,36 +21,35 @@ use Rattle.calls.proofs.close.is_ready.Tie as tie
 abbrev done : ℕ → ℕ → List ℕ → List ℕ → ℕ → Bool
 done N S passed waiting j = eqb (getD passed j 0) (stackCountIn N S j) && eqb (getD waiting j 0) 0
 
-ready-is : (job : Job) (N G : ℕ) → N ≡ stackCount (job .kind) (job .n) → G ≡ segmentCount N (job .size)
-    → all (done N (job .size) (job .passed) (job .waiting)) (from 0 G) ≡ isReady job
-unfolding isReady isDone passedOf waitingOf stackCountAt segmentCountOf stackCountOf
-ready-is job N G e g =
-    ap (λ (m : ℕ). all (done N (job .size) (job .passed) (job .waiting)) (from 0 m)) g
-    ∙ ap (λ (m : ℕ). all (done m (job .size) (job .passed) (job .waiting)) (from 0 (segmentCount m (job .size)))) e
+ready-is : (kind n S : ℕ) (passed waiting : List ℕ) (N G : ℕ) → N ≡ stackCount kind n → G ≡ segmentCount N S
+    → all (done N S passed waiting) (from 0 G) ≡ readyBy (stackCount kind n) S passed waiting
+ready-is kind n S passed waiting N G e g =
+    ap (λ (m : ℕ). all (done N S passed waiting) (from 0 m)) g ∙ ap (λ (m : ℕ). readyBy m S passed waiting) e
 
 abbrev Inv-loop : tie.InvT-loop
-Inv-loop size count segments passed waiting j₀ j =
-    (segments ≤ 64)
+Inv-loop kind n size passed waiting count segments j₀ j =
+    (segments ≤ segmentLimit)
     × (j ≤ segments)
     × (all (done count size passed waiting) (from 0 segments) ≡ all (done count size passed waiting) (drop j (from 0 segments)))
 
 abbrev μ-loop : tie.MeasureT-loop
-μ-loop size count segments passed waiting j₀ j = segments - j
+μ-loop kind n size passed waiting count segments j₀ j = segments - j
 
 stack-count-requires : tie.Need-stack-count-requires Inv-loop μ-loop
-stack-count-requires c κs = coherent-bounds (c .args .job) (c .pre) .is-pane-count
+stack-count-requires c κs = c .pre .0
 
 segment-count-requires : tie.Need-segment-count-requires Inv-loop μ-loop
-segment-count-requires c κs = coherent-bounds (c .before .args .job) (c .before .pre) .some
+segment-count-requires c κs =
+    let s = c .before in
+    omega (arith, segment-size-facts (stackCount (s .args .kind) (s .args .n)) (s .args .size) (s .pre .1) .least)
 
 loop-holds : tie.Need-loop-holds Inv-loop μ-loop
-unfolding segmentCountOf stackCountOf
 loop-holds c =
-    let g = c .before .before in
-    let job = g .before .before .args .job in
-    let e : g .segment-count .result ≡ segmentCountOf job =
-    g .segment-count .ensures ∙ ap (λ (m : ℕ). segmentCount m (job .size)) (g .before .stack-count .ensures) in
-    (omega (arith, e, coherent-bounds job (g .before .before .pre) .few), search needs, refl)
+    let s = c .before .before in
+    let N : ℕ = stackCount (s .args .kind) (s .args .n) in
+    let e : c .segment-count .result ≡ segmentCount N (s .args .size) =
+    c .segment-count .ensures ∙ ap (λ (m : ℕ). segmentCount m (s .args .size)) (c .before .stack-count .ensures) in
+    (omega (arith, e, segment-size-facts N (s .args .size) (s .pre .1) .few), search needs, refl)
 
 cast-is-done : tie.Need-cast-is-done Inv-loop μ-loop
 cast-is-done c = omega arith
@@ -78,15 +75,15 @@ is-done-requires c κs = search needs
 returns : tie.Need-returns Inv-loop μ-loop
 returns c =
     let l = c .before .before .before in
-    let g = l .before .before .before in
-    let job = g .before .before .args .job in
+    let g = l .before in
+    let a = g .before .before .args in
     let N = g .before .stack-count in
     let G = g .segment-count in
-    let t = done (N .result) (job .size) (job .passed) (job .waiting) in
+    let t = done (N .result) (a .size) (a .t4) (a .t5) in
     let f = c .before .is-done in
     upto-fails t (G .result) (l .loop .j) (all t (from 0 (G .result))) (omega arith) (l .loop .inv .2)
     (sym (f .ensures) ∙ not-true (f .result) (c .if1 .taken))
-    ∙ ready-is job (N .result) (G .result) (N .ensures) (G .ensures)
+    ∙ ready-is (a .kind) (a .n) (a .size) (a .t4) (a .t5) (N .result) (G .result) (N .ensures) (G .ensures)
 
 add-j : tie.Need-add-j Inv-loop μ-loop
 add-j c = omega arith
@@ -97,9 +94,9 @@ loop-less c = omega arith
 loop-again : tie.Need-loop-again Inv-loop μ-loop
 loop-again c =
     let l = c .before .before .before in
-    let g = l .before .before .before in
-    let job = g .before .before .args .job in
-    let t = done (g .before .stack-count .result) (job .size) (job .passed) (job .waiting) in
+    let g = l .before in
+    let a = g .before .before .args in
+    let t = done (g .before .stack-count .result) (a .size) (a .t4) (a .t5) in
     let G = g .segment-count .result in
     let f = c .before .is-done in (
       l .loop .inv .0,
@@ -111,13 +108,13 @@ loop-again c =
 returns-2 : tie.Need-returns-2 Inv-loop μ-loop
 returns-2 c =
     let l = c .before in
-    let g = l .before .before .before in
-    let job = g .before .before .args .job in
+    let g = l .before in
+    let a = g .before .before .args in
     let N = g .before .stack-count in
     let G = g .segment-count in
-    let t = done (N .result) (job .size) (job .passed) (job .waiting) in
+    let t = done (N .result) (a .size) (a .t4) (a .t5) in
     upto-end t (G .result) (l .loop .j) (all t (from 0 (G .result))) (omega arith) (l .loop .inv .2)
-    ∙ ready-is job (N .result) (G .result) (N .ensures) (G .ensures)
+    ∙ ready-is (a .kind) (a .n) (a .size) (a .t4) (a .t5) (N .result) (G .result) (N .ensures) (G .ensures)
 
 pub is-ready-spec : {M : Type 1} → statement M
 is-ready-spec =

@@ -10,20 +10,20 @@ use Rattle.calls.proofs.close.next_counts.Tie as tie
 is-blanking-requires : tie.Need-is-blanking-requires
 is-blanking-requires c κs = search needs
 
-array-write-counts : tie.Need-array-write-counts
-array-write-counts c = search needs
+array-write-next : tie.Need-array-write-next
+array-write-next c = search needs
 
 returns : tie.Need-returns
 returns c =
     let b = c .before in
-    let job = b .before .before .args .job in
-    ap (λ (t : Bool). cond t (set (job .counts) 0 1) (job .counts)) (sym (c .if1 .taken) ∙ b .is-blanking .ensures) ∙ sym (counts-is job (job .phase))
+    let a = b .before .args in
+    ap (λ (t : Bool). cond t (set (a .counts) 0 1) (a .counts)) (sym (c .if1 .taken) ∙ b .is-blanking .ensures) ∙ sym (counts-is (a .counts) (a .phase))
 
 returns-2 : tie.Need-returns-2
 returns-2 c =
     let b = c .before in
-    let job = b .before .before .args .job in
-    ap (λ (t : Bool). cond t (set (job .counts) 0 1) (job .counts)) (sym (c .if1 .left) ∙ b .is-blanking .ensures) ∙ sym (counts-is job (job .phase))
+    let a = b .before .args in
+    ap (λ (t : Bool). cond t (set (a .counts) 0 1) (a .counts)) (sym (c .if1 .left) ∙ b .is-blanking .ensures) ∙ sym (counts-is (a .counts) (a .phase))
 
 pub next-counts-spec : {M : Type 1} → statement M
-next-counts-spec = tie.close (tie.spec is-blanking-requires array-write-counts returns returns-2)
+next-counts-spec = tie.close (tie.spec is-blanking-requires array-write-next returns returns-2)

@@ -32,7 +32,7 @@ unfolding progressed
 returns c =
     let a = c .before .args in
     let job = a .job in
-    ap (λ (d : ℕ). progressed job (job .phase) (job .passed) (set (job .waiting) (a .j) 0) (set (job .counts) d (a .count))) (c .level-of .ensures)
+    ap (λ (d : ℕ). progressed job (job .phase) (job .passed) (set (job .waiting) (a .j) 0) (set (job .counts) d (a .found .count))) (c .level-of .ensures)
 
 pub emptied-spec : {M : Type 1} → statement M
 emptied-spec =

@@ -1,14 +1,15 @@
--- `edges::counted::print_counts` is safe and ends: the level grows up to 32.
+-- `edges::counted::print_counts` is safe and ends: the level grows up to the number of places.
 use Prim.Native.Nat.{_≤_, _-_}
 use borrow.Author.Needs.{needs}
+use Rattle.search.specs.JobState.{countPlaces}
 use Rattle.edges.proofs.counted.print_counts.Statement.{statement}
 use Rattle.edges.proofs.counted.print_counts.Tie as tie
 
 abbrev Inv-loop : tie.InvT-loop
-Inv-loop deepest counts d₀ d = d ≤ 32
+Inv-loop deepest counts d₀ d = d ≤ countPlaces
 
 abbrev μ-loop : tie.MeasureT-loop
-μ-loop deepest counts d₀ d = 32 - d
+μ-loop deepest counts d₀ d = countPlaces - d
 
 level-of-requires : tie.Need-level-of-requires Inv-loop μ-loop
 level-of-requires c κs = search needs

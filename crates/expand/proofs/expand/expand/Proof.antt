@@ -5,11 +5,9 @@ use Prim.Native.Nat.{ℕ}
 use native.Mathlib.Omega.{arith}
 use borrow.Author.Needs.{needs}
 use lib.ListN.{length}
-use Rattle.job.proofs.Bounds.{segment-below, level-most}
+use Rattle.job.proofs.Bounds.{coherent-sizes, segment-below, level-least, level-most}
 use Rattle.search.specs.Expand.{expandRefusal}
 use Rattle.search.proofs.Accepted.{LevelFacts, expand-refused}
-use Rattle.expand.specs.Scan.{scanOf}
-use Rattle.expand.specs.declared.scan.Scan.{Scan}
 use Rattle.expand.proofs.Expanding.{call-facts, run-given, answer-is}
 use Rattle.expand.proofs.expand.expand.Statement.{statement}
 use Rattle.expand.proofs.expand.expand.Tie as tie
@@ -34,51 +32,57 @@ returns c =
     ap (λ (n : ℕ). (a .segment .now, a .log .now, record { refusal = n; waits = false; on = 0; job = a .job })) (r .ensures)
     ∙ sym (expand-refused (a .job) (a .j) (a .segment .now) (a .log .now) (λ e. c .if1 .taken (r .ensures ∙ e)))
 
+level-of-requires : tie.Need-level-of-requires
+level-of-requires c κs = search needs
+
 scan-of-requires : tie.Need-scan-of-requires
-scan-of-requires c κs = (given c .coherent, given c .level)
+scan-of-requires c κs =
+    let ok = c .before in
+    let job = ok .before .before .before .before .args .job in
+    let g = given ok .called in
+    let sizes = coherent-sizes job (g .coherent) in (sizes .0, sizes .1, rw (c .level-of .ensures) (level-least job (g .coherent) (g .in-phase)))
 
 stack-count-at-requires : tie.Need-stack-count-at-requires
-stack-count-at-requires c κs = given (c .before) .coherent
+stack-count-at-requires c κs =
+    let ok = c .before .before in
+    coherent-sizes (ok .before .before .before .before .args .job) (given ok .called .coherent) .0
+
+cast-count : tie.Need-cast-count
+cast-count c = search needs
+
+mul-count : tie.Need-mul-count
+mul-count c = search needs
+
+array-read-count : tie.Need-array-read-count
+array-read-count c =
+    let leveled = c .before .before .before .before in
+    let ok = leveled .before in
+    omega (arith, leveled .level-of .ensures, level-most (ok .before .before .before .before .args .job) (given ok .called .coherent))
 
 mul-expand-run : tie.Need-mul-expand-run
 mul-expand-run c = search needs
 
 array-read-expand-run : tie.Need-array-read-expand-run
 array-read-expand-run c =
-    let ok = c .before .before .before .before .before in
+    let ok = c .before .before .before .before .before .before in
     let a = ok .before .before .before .before .args in
-    segment-below (a .job) (given ok .coherent) (a .j) (given ok .inside)
-
-cast-expand-run : tie.Need-cast-expand-run
-cast-expand-run c = search needs
-
-mul-expand-run-2 : tie.Need-mul-expand-run-2
-mul-expand-run-2 c = search needs
-
-array-read-expand-run-2 : tie.Need-array-read-expand-run-2
-unfolding scanOf
-array-read-expand-run-2 c =
-    let scanned = c .before .before .before .before in
-    let ok = scanned .before in
-    omega (
-      arith,
-      ap (λ (s : Scan). s .level) (scanned .scan-of .ensures),
-      level-most (ok .before .before .before .before .args .job) (given ok .coherent),
-    )
+    segment-below (a .job) (given ok .called .coherent) (a .j) (given ok .called .inside)
 
 expand-run-requires : tie.Need-expand-run-requires
 expand-run-requires c κs =
     let counted = c .before .before .before .before .before .before in
     let scanned = counted .before in
-    let ok = scanned .before in
+    let leveled = scanned .before in
+    let ok = leveled .before in
     let s = ok .before .before .before .before in
     let a = s .args in
-    run-given (a .job) (a .j) (a .segment .now) (a .log .now) (accepted ok) (scanned .scan-of .ensures) (counted .stack-count-at .ensures)
+    run-given (a .job) (a .j) (a .segment .now) (a .log .now) (accepted ok) (leveled .level-of .ensures) (scanned .scan-of .ensures)
+    (counted .stack-count-at .ensures)
     (search (needs, s .good .0 .1 .1 .1 .1 .1 .1 .1 .1 .1 .0))
 
 expanded-job-requires : tie.Need-expanded-job-requires
 expanded-job-requires c κs =
-    let f = given (c .before .before .before .before .before .before .before .before .before .before .before .before .before) in
+    let f = given (c .before .before .before .before .before .before .before .before .before .before .before .before .before .before) .called in
     (f .coherent, f .inside)
 
 same-length : tie.Need-same-length
@@ -92,9 +96,11 @@ returns-2 c =
     let ran = c .before .before .before .before .before in
     let counted = ran .before .before .before .before .before .before .before in
     let scanned = counted .before in
-    let ok = scanned .before in
+    let leveled = scanned .before in
+    let ok = leveled .before in
     let a = ok .before .before .before .before .args in
-    answer-is (a .job) (a .j) (a .segment .now) (a .log .now) (accepted ok) (scanned .scan-of .ensures) (counted .stack-count-at .ensures)
+    answer-is (a .job) (a .j) (a .segment .now) (a .log .now) (accepted ok) (leveled .level-of .ensures) (scanned .scan-of .ensures)
+    (counted .stack-count-at .ensures)
     (ran .expand-run .result)
     (ran .expand-run .ensures)
     (c .expanded-job .ensures)
@@ -105,13 +111,14 @@ expand-spec =
     (tie.spec
     expand-refusal-requires
     returns
+    level-of-requires
     scan-of-requires
     stack-count-at-requires
+    cast-count
+    mul-count
+    array-read-count
     mul-expand-run
     array-read-expand-run
-    cast-expand-run
-    mul-expand-run-2
-    array-read-expand-run-2
     expand-run-requires
     expanded-job-requires
     same-length

@@ -1,7 +1,7 @@
 -- `expand::expand::expand_refusal` meets its contract.
 use mathlib.Core.Path.{sym, _∙_}
 use borrow.Author.Needs.{needs}
-use Rattle.job.proofs.Bounds.{segment-below}
+use Rattle.job.proofs.Bounds.{coherent-sizes, segment-below}
 use Rattle.search.specs.JobState.{passedOf}
 use Rattle.search.proofs.Accepted.{LevelFacts, level-facts}
 use Rattle.expand.proofs.Expanding.{refusal-level, refusal-passed, refusal-none}
@@ -23,7 +23,8 @@ returns c =
     refusal-level (a .job) (a .j) (a .bytes) (a .words) (c .before .level-refusal .ensures) (c .if1 .taken)
 
 stack-count-at-requires : tie.Need-stack-count-at-requires
-stack-count-at-requires c κs = given (c .before) .coherent
+stack-count-at-requires c κs =
+    let ok = c .before in coherent-sizes (ok .before .before .args .job) (given ok .called .coherent) .0
 
 mul-if2 : tie.Need-mul-if2
 mul-if2 c = search needs
@@ -32,7 +33,7 @@ array-read-if2 : tie.Need-array-read-if2
 array-read-if2 c =
     let ok = c .before .before in
     let a = ok .before .before .args in
-    segment-below (a .job) (given ok .coherent) (a .j) (given ok .inside)
+    segment-below (a .job) (given ok .called .coherent) (a .j) (given ok .called .inside)
 
 returns-2 : tie.Need-returns-2
 unfolding passedOf

@@ -7,13 +7,14 @@ use borrow.Author.Needs.{needs}
 use lib.ListN.{length, take}
 use Rattle.base.specs.Words.{tally}
 use Rattle.search.specs.Logs.{fallingIn}
+use Rattle.expand.specs.Scan.{mostMoves}
 use Rattle.expand.proofs.Lowest.{falling-hit, falling-miss}
 use Rattle.expand.proofs.logs.falling_in.Statement.{statement}
 use Rattle.expand.proofs.logs.falling_in.Tie as tie
 
 abbrev Inv-loop : tie.InvT-loop
 Inv-loop size turns t children falling₀ i₀ falling i =
-    (length children ≡ 12) × (i ≤ turns) × (falling ≤ i) × (falling ≡ fallingIn size t (take i children))
+    (length children ≡ mostMoves) × (i ≤ turns) × (falling ≤ i) × (falling ≡ fallingIn size t (take i children))
 
 abbrev μ-loop : tie.MeasureT-loop
 μ-loop size turns t children falling₀ i₀ falling i = turns - i

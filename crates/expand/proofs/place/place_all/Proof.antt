@@ -9,11 +9,11 @@ use Rattle.expand.proofs.place.place_all.Statement.{statement}
 use Rattle.expand.proofs.place.place_all.Tie as tie
 
 abbrev Inv-loop : tie.InvT-loop
-Inv-loop scan from-count segment₀ log₀ waiting₀ children turns count₀ i₀ segment log waiting count i =
-    ScanFacts scan × PlacedTo scan children segment₀ from-count log₀ waiting₀ segment count log waiting i
+Inv-loop scan segment₀ log₀ waiting₀ children turns found₀ i₀ segment log waiting found i =
+    ScanFacts scan × PlacedTo scan children segment₀ found₀ log₀ waiting₀ segment found log waiting i
 
 abbrev μ-loop : tie.MeasureT-loop
-μ-loop scan from-count segment₀ log₀ waiting₀ children turns count₀ i₀ segment log waiting count i = scan .turns - i
+μ-loop scan segment₀ log₀ waiting₀ children turns found₀ i₀ segment log waiting found i = scan .turns - i
 
 loop-holds : tie.Need-loop-holds Inv-loop μ-loop
 loop-holds c =

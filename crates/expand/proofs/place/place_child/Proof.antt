@@ -1,12 +1,10 @@
--- `expand::place::place_child` meets its contract: a child of this segment, newly marked or seen, and a child of another.
-use mathlib.Core.Path.{sym, ap}
-use mathlib.Core.Bool.{Bool, cond}
-use Prim.Native.Nat.{_+_}
+-- `expand::place::place_child` meets its contract: a child of this segment, and a child of another.
+use mathlib.Core.Path.{refl}
 use native.Mathlib.Omega.{arith}
 use lib.ListN.{length-take, length-drop}
 use borrow.Author.Needs.{needs}
 use Rattle.expand.proofs.Fitting.{scan-facts}
-use Rattle.expand.proofs.Placing.{LogPlace, child-byte, log-place, placed-here, placed-elsewhere}
+use Rattle.expand.proofs.Placing.{LogPlace, child-marks, log-place, placed-here, placed-elsewhere}
 use Rattle.expand.proofs.place.place_child.Statement.{statement}
 use Rattle.expand.proofs.place.place_child.Tie as tie
 
@@ -21,35 +19,21 @@ div-t c = scan-facts (c .before .before .args .scan) (c .before .before .pre .fi
 rem-offset : tie.Need-rem-offset
 rem-offset c = scan-facts (c .before .before .args .scan) (c .before .before .pre .fit) .some
 
-mark-requires : tie.Need-mark-requires
-mark-requires c κs =
+mark-stack-requires : tie.Need-mark-stack-requires
+mark-stack-requires c κs =
     let here = c .before in
-    let s = here .before .before .before .before in (omega (arith, s .pre .fit .mark-is), child-byte (s .pre) (here .if1 .taken))
-
-add-result : tie.Need-add-result
-add-result c = search needs
+    let s = here .before .before .before .before in
+    child-marks (s .pre) (here .if1 .taken)
 
 same-length : tie.Need-same-length
 same-length c = search needs
 
 returns : tie.Need-returns
 returns c =
-    let marked = c .before .before .before in
+    let marked = c .before .before in
     let here = marked .before .before in
     let s = here .before .before .before .before in
-    placed-here (s .pre) (here .if1 .taken) (marked .mark .ensures)
-    (ap (λ (b : Bool). cond b (s .args .count + 1) (s .args .count)) (sym (c .if2 .taken)))
-
-same-length-2 : tie.Need-same-length-2
-same-length-2 c = search needs
-
-returns-2 : tie.Need-returns-2
-returns-2 c =
-    let marked = c .before .before .before in
-    let here = marked .before .before in
-    let s = here .before .before .before .before in
-    placed-here (s .pre) (here .if1 .taken) (marked .mark .ensures)
-    (ap (λ (b : Bool). cond b (s .args .count + 1) (s .args .count)) (sym (c .if2 .left)))
+    placed-here (s .pre) (here .if1 .taken) (marked .mark-stack .ensures (s .args .scan .size) refl)
 
 cast-start : tie.Need-cast-start
 cast-start c = omega (arith, place c)
@@ -99,11 +83,11 @@ mul-waiting c = omega (arith, place (c .before .before .before .before .before .
 element-write-waiting : tie.Need-element-write-waiting
 element-write-waiting c = omega (arith, place (c .before .before .before .before .before .before))
 
-same-length-3 : tie.Need-same-length-3
-same-length-3 c = search needs
+same-length-2 : tie.Need-same-length-2
+same-length-2 c = search needs
 
-returns-3 : tie.Need-returns-3
-returns-3 c =
+returns-2 : tie.Need-returns-2
+returns-2 c =
     let appended = c .before .before in
     let elsewhere = appended .before .before .before .before in
     placed-elsewhere (elsewhere .before .before .before .before .pre) (elsewhere .if1 .left) (appended .append .ensures)
@@ -114,12 +98,9 @@ place-child-spec =
     (tie.spec
     div-t
     rem-offset
-    mark-requires
-    add-result
+    mark-stack-requires
     same-length
     returns
-    same-length-2
-    returns-2
     cast-start
     cast-start-2
     mul-start
@@ -136,5 +117,5 @@ place-child-spec =
     cast-waiting
     mul-waiting
     element-write-waiting
-    same-length-3
-    returns-3)
+    same-length-2
+    returns-2)

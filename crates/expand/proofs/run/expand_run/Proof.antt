@@ -10,11 +10,11 @@ use Rattle.expand.proofs.run.expand_run.Statement.{statement}
 use Rattle.expand.proofs.run.expand_run.Tie as tie
 
 abbrev Inv-loop : tie.InvT-loop
-Inv-loop scan first stacks from-count segment₀ log₀ waiting₀ base segments count₀ at₀ segment log waiting count at =
-    RunTo scan first stacks segment₀ from-count log₀ waiting₀ segment count log waiting at
+Inv-loop scan first stacks segment₀ log₀ waiting₀ base segments found₀ at₀ segment log waiting found at =
+    RunTo scan first stacks segment₀ found₀ log₀ waiting₀ segment found log waiting at
 
 abbrev μ-loop : tie.MeasureT-loop
-μ-loop scan first stacks from-count segment₀ log₀ waiting₀ base segments count₀ at₀ segment log waiting count at = stacks - at
+μ-loop scan first stacks segment₀ log₀ waiting₀ base segments found₀ at₀ segment log waiting found at = stacks - at
 
 mul-base : tie.Need-mul-base Inv-loop μ-loop
 mul-base c =

@@ -3,6 +3,7 @@ use mathlib.Core.Path.{_≡_, sym, _∙_}
 use Prim.Native.Nat.{_≤_}
 use native.Mathlib.Omega.{arith}
 use borrow.Author.Needs.{needs}
+use Rattle.stacks.specs.Stack.{stackPlaces}
 use Rattle.frames.specs.Frame.{firstRefusal, firstOf}
 use Rattle.frames.specs.Hex.{bytesOf}
 use Rattle.frames.specs.Kept.{textOf}
@@ -30,7 +31,7 @@ byte-at-requires c κs = search needs
 byte-at-requires-2 : tie.Need-byte-at-requires-2
 byte-at-requires-2 c κs = search needs
 
-fits : (c : tie.After-byte-at2) → c .byte-at2 .result ≤ 12
+fits : (c : tie.After-byte-at2) → c .byte-at2 .result ≤ stackPlaces
 fits c =
     let e = c .before .before .before in
     panes-fit (e .before .before .args .line) (search needs) (accepted e) (c .byte-at2 .result) (c .byte-at2 .ensures)

@@ -8,6 +8,7 @@ use native.Mathlib.Omega.{arith}
 use borrow.Author.Needs.{needs}
 use lib.ListN.{length, getD, take}
 use lib.Seq.{length-take-le}
+use Rattle.search.specs.JobState.{countPlaces}
 use Rattle.frames.specs.Output.{levelLine, levelsFrom}
 use Rattle.frames.specs.Written.{textLimit, over, Put, Wrote}
 use Rattle.frames.proofs.Writing.{wrote, put-after, levels-more, levels-length, levels-all}
@@ -15,11 +16,11 @@ use Rattle.frames.proofs.output.write_levels.Statement.{statement}
 use Rattle.frames.proofs.output.write_levels.Tie as tie
 
 abbrev Inv-loop : tie.InvT-loop
-Inv-loop out₀ deepest counts at₀ level₀ out at level =
-    (level ≤ 32) × (level ≤ deepest + 1) × (length counts ≡ 32) × Wrote (levelsFrom 0 (take level counts)) out₀ out at
+Inv-loop out₀ deepest counts last at₀ level₀ out at level =
+    (level ≤ countPlaces) × (level ≤ deepest + 1) × (length counts ≡ countPlaces) × Wrote (levelsFrom 0 (take level counts)) out₀ out at
 
 abbrev μ-loop : tie.MeasureT-loop
-μ-loop out₀ deepest counts at₀ level₀ out at level = 32 - level
+μ-loop out₀ deepest counts last at₀ level₀ out at level = countPlaces - level
 
 loop-holds : tie.Need-loop-holds Inv-loop μ-loop
 unfolding levelsFrom over
@@ -35,7 +36,7 @@ array-read-put-level : tie.Need-array-read-put-level Inv-loop μ-loop
 array-read-put-level c = search needs
 
 -- the lines so far are short of the buffer by a line
-lines-fit : (counts out₀ out : List ℕ) (at level : ℕ) → length counts ≡ 32 → level < 32 → Wrote (levelsFrom 0 (take level counts)) out₀ out at
+lines-fit : (counts out₀ out : List ℕ) (at level : ℕ) → length counts ≡ countPlaces → level < countPlaces → Wrote (levelsFrom 0 (take level counts)) out₀ out at
     → at + 10 < textLimit
 lines-fit counts out₀ out at level w h l =
     omega (arith, l .count, levels-length 0 (take level counts), length-take-le level counts (omega arith))
@@ -76,7 +77,7 @@ loop-again c =
 returns : tie.Need-returns Inv-loop μ-loop
 returns c =
     let a = c .before .before in
-    let last : 32 ≤ a .loop .level = search needs in
+    let last : countPlaces ≤ a .loop .level = search needs in
     subst (λ (t : List ℕ). Wrote t (a .before .args .out .now) (a .loop .out) (a .loop .at))
     (levels-all (a .before .args .t2) (a .before .args .deepest) (a .loop .level) (a .loop .inv .1) (inr (omega arith))) (a .loop .inv .3)
 

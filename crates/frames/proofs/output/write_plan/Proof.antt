@@ -8,6 +8,7 @@ use borrow.Author.Needs.{needs}
 use lib.ListN.{length, take}
 use lib.Seq.{length-take-le, take-all}
 use Rattle.base.proofs.Tests.{lt-or-ge}
+use Rattle.search.specs.Plan.{planLimit}
 use Rattle.frames.specs.Output.{planLine}
 use Rattle.frames.specs.Written.{Wrote}
 use Rattle.frames.proofs.output.write_plan.Statement.{statement}
@@ -27,20 +28,20 @@ slice-aggregate-write-turns c =
 write-turns-requires : tie.Need-write-turns-requires
 write-turns-requires c κs = omega (arith, slice-aggregate-write-turns c, c .before .before .least .ensures)
 
--- a list of 30 has no more than 30
-take-thirty : (xs : List ℕ) (k : ℕ) → length xs ≡ 30 → take (min k 30) xs ≡ take k xs
-take-thirty xs k e = go (lt-or-ge k 30)
+-- a list has no more than it is long
+take-least : (xs : List ℕ) (k : ℕ) → length xs ≡ planLimit → take (min k planLimit) xs ≡ take k xs
+take-least xs k e = go (lt-or-ge k planLimit)
   where
-    go : (k < 30) ⊎ (30 ≤ k) → take (min k 30) xs ≡ take k xs
-    go (inl h) = ap (λ (j : ℕ). take j xs) (let j : min k 30 ≡ k = omega arith in j)
-    go (inr h) = take-all (min k 30) xs (omega arith) ∙ sym (take-all k xs (omega arith))
+    go : (k < planLimit) ⊎ (planLimit ≤ k) → take (min k planLimit) xs ≡ take k xs
+    go (inl h) = ap (λ (j : ℕ). take j xs) (let j : min k planLimit ≡ k = omega arith in j)
+    go (inr h) = take-all (min k planLimit) xs (omega arith) ∙ sym (take-all k xs (omega arith))
 
 returns : tie.Need-returns
 returns c =
     let a = c .before .before .before .before .args in
     let f = c .before .before .before .least in
     subst (λ (l : List ℕ). Wrote (planLine l) (a .out .now) (c .write-turns .last .0) (c .write-turns .result))
-    (rw (f .ensures) (take-thirty (a .t2) (a .count) (search needs))) (c .write-turns .ensures)
+    (rw (f .ensures) (take-least (a .t2) (a .count) (search needs))) (c .write-turns .ensures)
 
 pub write-plan-spec : {M : Type 1} → statement M
 write-plan-spec =

@@ -7,15 +7,15 @@ use borrow.Author.Tests.{le-leb, lt-leb}
 use lib.ListN.{length, getD, drop}
 use Rattle.base.specs.Words.{all}
 use Rattle.perm.proofs.Places.{scan-on, scan-fails, scan-end}
-use Rattle.search.specs.JobState.{countLimit, countFits}
+use Rattle.search.specs.JobState.{countPlaces, countLimit, countFits}
 use Rattle.job.proofs.coherence.counts_fit.Statement.{statement}
 use Rattle.job.proofs.coherence.counts_fit.Tie as tie
 
 abbrev Inv-loop : tie.InvT-loop
-Inv-loop counts d₀ d = (length counts ≡ 32) × (d ≤ 32) × (all countFits counts ≡ all countFits (drop d counts))
+Inv-loop counts d₀ d = (length counts ≡ countPlaces) × (d ≤ countPlaces) × (all countFits counts ≡ all countFits (drop d counts))
 
 abbrev μ-loop : tie.MeasureT-loop
-μ-loop counts d₀ d = 32 - d
+μ-loop counts d₀ d = countPlaces - d
 
 loop-holds : tie.Need-loop-holds Inv-loop μ-loop
 loop-holds c = (search needs, search needs, refl)
@@ -31,7 +31,7 @@ unfolding countFits countLimit
 returns c =
     let s = c .before .before .before .args .t1 in
     let a = c .before .before .loop in
-    scan-fails countFits s (a .d) (all countFits s) 0 (omega arith) (a .inv .2) (lt-leb (getD s (a .d) 0) 1152921504606846976 (omega arith))
+    scan-fails countFits s (a .d) (all countFits s) 0 (omega arith) (a .inv .2) (lt-leb (getD s (a .d) 0) countLimit (omega arith))
 
 add-d : tie.Need-add-d Inv-loop μ-loop
 add-d c = omega arith
@@ -47,7 +47,7 @@ loop-again c =
       a .inv .0,
       omega arith,
       scan-on countFits s (a .d) (all countFits s) 0 (omega arith) (a .inv .2)
-          (le-leb (getD s (a .d) 0) 1152921504606846976 (omega arith)),
+          (le-leb (getD s (a .d) 0) countLimit (omega arith)),
     )
 
 returns-2 : tie.Need-returns-2 Inv-loop μ-loop

@@ -4,9 +4,10 @@ use mathlib.Core.Bool.{true, false}
 use borrow.Author.Needs.{needs}
 use borrow.Author.Tests.{eq-eqb, ne-eqb, not-true, not-false}
 use Rattle.base.specs.Words.{all, from}
-use Rattle.search.specs.JobState.{beginRefusal, phaseFits, segmentFits, countFits, isCoherent}
+use Rattle.search.specs.JobState.{beginRefusal, stackCountOf, segmentCountOf, stackCountAt, passedOf, waitingOf, phaseFits, segmentFits, countFits, isCoherent}
 use Rattle.search.specs.Segments.{segmentLimit}
 use Rattle.search.specs.declared.Job.{Job}
+use Rattle.job.proofs.Bounds.{begun-bounds}
 use Rattle.job.proofs.coherence.is_coherent.Statement.{statement}
 use Rattle.job.proofs.coherence.is_coherent.Tie as tie
 
@@ -46,7 +47,8 @@ begins c = sym (c .before .begin-refusal .ensures) ∙ c .if1 .left
 phase : (c : tie.Else2) → phaseFits (c .before .before .before .before .before .args .job .phase) ≡ true
 phase c = sym (c .before .phase-fits .ensures) ∙ not-false (c .before .phase-fits .result) (c .if2 .left)
 
-segments : (c : tie.Else3) → all (segmentFits (c .before .before .before .before .before .before .before .args .job)) (from 0 segmentLimit) ≡ true
+segments : (c : tie.Else3) → all (segmentFits (c .before .before .before .before .before .before .before .before .before .args .job)) (from 0 segmentLimit) ≡ true
+unfolding segmentFits passedOf waitingOf stackCountAt segmentCountOf stackCountOf
 segments c = sym (c .before .segments-fit .ensures) ∙ not-false (c .before .segments-fit .result) (c .if3 .left)
 
 returns-2 : tie.Need-returns-2
@@ -56,11 +58,14 @@ returns-2 c =
     (sym (c .before .phase-fits .ensures) ∙ not-true (c .before .phase-fits .result) (c .if2 .taken))
 
 segments-fit-requires : tie.Need-segments-fit-requires
-segments-fit-requires c κs = begins (c .before .before)
+segments-fit-requires c κs =
+    let e = c .before .before .before .before in
+    let b = begun-bounds (e .before .before .before .args .job) (begins e) in (b .is-pane-count, b .is-size)
 
 returns-3 : tie.Need-returns-3
+unfolding segmentFits passedOf waitingOf stackCountAt segmentCountOf stackCountOf
 returns-3 c =
-    let p = c .before .before in
+    let p = c .before .before .before .before in
     let e = p .before .before in
     no-segments (e .before .before .before .args .job) (begins e) (phase p)
     (sym (c .before .segments-fit .ensures) ∙ not-true (c .before .segments-fit .result) (c .if3 .taken))
@@ -71,7 +76,7 @@ counts-fit-requires c κs = search needs
 returns-4 : tie.Need-returns-4
 returns-4 c =
     let s = c .before .before in
-    let p = s .before .before in
+    let p = s .before .before .before .before in
     let e = p .before .before in
     c .counts-fit .ensures ∙ rest (e .before .before .before .args .job) (begins e) (phase p) (segments s)
 

@@ -10,10 +10,9 @@ use lib.Dec.{leb, ltb}
 use lib.ListN.{getD, drop}
 use Rattle.base.specs.Words.{all, from}
 use Rattle.stacks.specs.Stack.{stackCount}
-use Rattle.search.specs.JobState.{stackCountOf, segmentCountOf, stackCountAt, passedOf, waitingOf, segmentFits}
 use Rattle.search.specs.Segments.{segmentLimit, segmentCount, stackCountIn}
-use Rattle.search.specs.declared.Job.{Job}
-use Rattle.job.proofs.Bounds.{begun-bounds}
+use Rattle.search.proofs.SegmentLaws.{segment-size-facts}
+use Rattle.job.specs.Numbers.{numbersFit}
 use Rattle.job.proofs.Scans.{upto-on, upto-fails, upto-end}
 use Rattle.job.proofs.coherence.segments_fit.Statement.{statement}
 use Rattle.job.proofs.coherence.segments_fit.Tie as tie
@@ -22,27 +21,28 @@ use Rattle.job.proofs.coherence.segments_fit.Tie as tie
 abbrev fits : ℕ → ℕ → ℕ → ℕ → List ℕ → List ℕ → ℕ → Bool
 fits N S C G passed waiting j = leb (getD passed j 0) (stackCountIn N S j) && leb (getD waiting j 0) (cond (ltb j G) C 0)
 
-fits-is : (job : Job) (N G : ℕ) → N ≡ stackCount (job .kind) (job .n) → G ≡ segmentCount N (job .size)
-    → all (fits N (job .size) (job .room) G (job .passed) (job .waiting)) (from 0 64) ≡ all (segmentFits job) (from 0 segmentLimit)
-unfolding segmentFits passedOf waitingOf stackCountAt segmentCountOf stackCountOf segmentLimit
-fits-is job N G e g =
-    ap (λ (m : ℕ). all (fits N (job .size) (job .room) m (job .passed) (job .waiting)) (from 0 64)) g
-    ∙ ap (λ (m : ℕ). all (fits m (job .size) (job .room) (segmentCount m (job .size)) (job .passed) (job .waiting)) (from 0 64)) e
+fits-is : (kind n S C : ℕ) (passed waiting : List ℕ) (N G : ℕ) → N ≡ stackCount kind n → G ≡ segmentCount N S
+    → all (fits N S C G passed waiting) (from 0 segmentLimit) ≡ all (numbersFit (stackCount kind n) S C passed waiting) (from 0 segmentLimit)
+fits-is kind n S C passed waiting N G e g =
+    ap (λ (m : ℕ). all (fits N S C m passed waiting) (from 0 segmentLimit)) g
+    ∙ ap (λ (m : ℕ). all (numbersFit m S C passed waiting) (from 0 segmentLimit)) e
 
 abbrev Inv-loop : tie.InvT-loop
-Inv-loop size room count segments passed waiting j₀ j =
-    (j ≤ 64)
-    × (all (fits count size room segments passed waiting) (from 0 64)
-    ≡ all (fits count size room segments passed waiting) (drop j (from 0 64)))
+Inv-loop kind n size room passed waiting count segments j₀ j =
+    (j ≤ segmentLimit)
+    × (all (fits count size room segments passed waiting) (from 0 segmentLimit)
+    ≡ all (fits count size room segments passed waiting) (drop j (from 0 segmentLimit)))
 
 abbrev μ-loop : tie.MeasureT-loop
-μ-loop size room count segments passed waiting j₀ j = 64 - j
+μ-loop kind n size room passed waiting count segments j₀ j = segmentLimit - j
 
 stack-count-requires : tie.Need-stack-count-requires Inv-loop μ-loop
-stack-count-requires c κs = begun-bounds (c .args .job) (c .pre) .is-pane-count
+stack-count-requires c κs = c .pre .0
 
 segment-count-requires : tie.Need-segment-count-requires Inv-loop μ-loop
-segment-count-requires c κs = begun-bounds (c .before .args .job) (c .before .pre) .some
+segment-count-requires c κs =
+    let s = c .before in
+    omega (arith, segment-size-facts (stackCount (s .args .kind) (s .args .n)) (s .args .size) (s .pre .1) .least)
 
 loop-holds : tie.Need-loop-holds Inv-loop μ-loop
 loop-holds c = (search needs, refl)
@@ -56,9 +56,6 @@ mul-segment-fits c = omega arith
 array-read-segment-fits : tie.Need-array-read-segment-fits Inv-loop μ-loop
 array-read-segment-fits c = omega arith
 
-cast-segment-fits-2 : tie.Need-cast-segment-fits-2 Inv-loop μ-loop
-cast-segment-fits-2 c = omega arith
-
 mul-segment-fits-2 : tie.Need-mul-segment-fits-2 Inv-loop μ-loop
 mul-segment-fits-2 c = omega arith
 
@@ -71,14 +68,14 @@ segment-fits-requires c κs = search needs
 returns : tie.Need-returns Inv-loop μ-loop
 returns c =
     let l = c .before .before .before in
-    let g = l .before .before .before in
-    let job = g .before .before .args .job in
+    let g = l .before in
+    let a = g .before .before .args in
     let N = g .before .stack-count in
     let G = g .segment-count in
-    let t = fits (N .result) (job .size) (job .room) (G .result) (job .passed) (job .waiting) in
+    let t = fits (N .result) (a .size) (a .room) (G .result) (a .t5) (a .t6) in
     let f = c .before .segment-fits in
-    upto-fails t 64 (l .loop .j) (all t (from 0 64)) (omega arith) (l .loop .inv .1) (sym (f .ensures) ∙ not-true (f .result) (c .if1 .taken))
-    ∙ fits-is job (N .result) (G .result) (N .ensures) (G .ensures)
+    upto-fails t segmentLimit (l .loop .j) (all t (from 0 segmentLimit)) (omega arith) (l .loop .inv .1) (sym (f .ensures) ∙ not-true (f .result) (c .if1 .taken))
+    ∙ fits-is (a .kind) (a .n) (a .size) (a .room) (a .t5) (a .t6) (N .result) (G .result) (N .ensures) (G .ensures)
 
 add-j : tie.Need-add-j Inv-loop μ-loop
 add-j c = omega arith
@@ -89,22 +86,24 @@ loop-less c = omega arith
 loop-again : tie.Need-loop-again Inv-loop μ-loop
 loop-again c =
     let l = c .before .before .before in
-    let g = l .before .before .before in
-    let job = g .before .before .args .job in
-    let t = fits (g .before .stack-count .result) (job .size) (job .room) (g .segment-count .result) (job .passed) (job .waiting) in
-    let f = c .before .segment-fits in
-    (omega arith, upto-on t 64 (l .loop .j) (all t (from 0 64)) (omega arith) (l .loop .inv .1) (sym (f .ensures) ∙ not-false (f .result) (c .if1 .left)))
+    let g = l .before in
+    let a = g .before .before .args in
+    let t = fits (g .before .stack-count .result) (a .size) (a .room) (g .segment-count .result) (a .t5) (a .t6) in
+    let f = c .before .segment-fits in (
+      omega arith,
+      upto-on t segmentLimit (l .loop .j) (all t (from 0 segmentLimit)) (omega arith) (l .loop .inv .1) (sym (f .ensures) ∙ not-false (f .result) (c .if1 .left)),
+    )
 
 returns-2 : tie.Need-returns-2 Inv-loop μ-loop
 returns-2 c =
     let l = c .before in
-    let g = l .before .before .before in
-    let job = g .before .before .args .job in
+    let g = l .before in
+    let a = g .before .before .args in
     let N = g .before .stack-count in
     let G = g .segment-count in
-    let t = fits (N .result) (job .size) (job .room) (G .result) (job .passed) (job .waiting) in
-    upto-end t 64 (l .loop .j) (all t (from 0 64)) (omega arith) (l .loop .inv .1)
-    ∙ fits-is job (N .result) (G .result) (N .ensures) (G .ensures)
+    let t = fits (N .result) (a .size) (a .room) (G .result) (a .t5) (a .t6) in
+    upto-end t segmentLimit (l .loop .j) (all t (from 0 segmentLimit)) (omega arith) (l .loop .inv .1)
+    ∙ fits-is (a .kind) (a .n) (a .size) (a .room) (a .t5) (a .t6) (N .result) (G .result) (N .ensures) (G .ensures)
 
 pub segments-fit-spec : {M : Type 1} → statement M
 segments-fit-spec =
@@ -118,7 +117,6 @@ segments-fit-spec =
     cast-segment-fits
     mul-segment-fits
     array-read-segment-fits
-    cast-segment-fits-2
     mul-segment-fits-2
     array-read-segment-fits-2
     segment-fits-requires

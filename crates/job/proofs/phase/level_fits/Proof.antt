@@ -1,6 +1,5 @@
 -- `job::phase::level_fits` meets its contract: the tests in the definition's order.
 use borrow.Author.Tests.{le-leb, lt-leb}
-use Rattle.search.specs.JobState.{lastLevel}
 use Rattle.job.proofs.phase.level_fits.Statement.{statement}
 use Rattle.job.proofs.phase.level_fits.Tie as tie
 
@@ -8,7 +7,6 @@ returns : tie.Need-returns
 returns c = rw (lt-leb 1 (c .before .args .d) (c .if1 .taken))
 
 returns-2 : tie.Need-returns-2
-unfolding lastLevel
 returns-2 c = rw (le-leb 1 (c .before .args .d) (c .if1 .left))
 
 pub level-fits-spec : {M : Type 1} → statement M

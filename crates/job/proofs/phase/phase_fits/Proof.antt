@@ -1,7 +1,7 @@
 -- `job::phase::phase_fits` meets its contract, case by case.
 use mathlib.Core.Path.{sym, ap, _∙_}
 use borrow.Author.Needs.{needs}
-use Rattle.search.specs.JobState.{lastLevel, phaseFits}
+use Rattle.search.specs.JobState.{phaseFits}
 use Rattle.job.proofs.phase.phase_fits.Statement.{statement}
 use Rattle.job.proofs.phase.phase_fits.Tie as tie
 
@@ -26,7 +26,7 @@ unfolding phaseFits
 returns-2 c = c .level-fits .ensures ∙ sym (ap phaseFits (c .before .before .phase .given .1))
 
 returns-3 : tie.Need-returns-3
-unfolding phaseFits lastLevel
+unfolding phaseFits
 returns-3 c = sym (ap phaseFits (c .before .phase2 .given .1))
 
 pub phase-fits-spec : {M : Type 1} → statement M

@@ -8,11 +8,12 @@ use native.Mathlib.Omega.{arith}
 use borrow.Author.Needs.{needs}
 use lib.ListN.{length, getD, set, take, drop, length-set}
 use lib.Seq.{paste-suc}
+use Rattle.search.specs.Plan.{planLimit}
 use Rattle.plan.proofs.plan.copy_turns.Statement.{statement}
 use Rattle.plan.proofs.plan.copy_turns.Tie as tie
 
 abbrev Inv-loop : tie.InvT-loop
-Inv-loop list₀ taken turns i₀ list i = (i ≤ taken) × (taken ≤ 30) × (length turns ≡ 30) × (taken ≤ length list₀) × (length list ≡ length list₀) × (list ≡ take i turns ++ drop i list₀)
+Inv-loop list₀ taken turns i₀ list i = (i ≤ taken) × (taken ≤ planLimit) × (length turns ≡ planLimit) × (taken ≤ length list₀) × (length list ≡ length list₀) × (list ≡ take i turns ++ drop i list₀)
 
 abbrev μ-loop : tie.MeasureT-loop
 μ-loop list₀ taken turns i₀ list i = taken - i
@@ -20,14 +21,8 @@ abbrev μ-loop : tie.MeasureT-loop
 loop-holds : tie.Need-loop-holds Inv-loop μ-loop
 loop-holds c = (omega arith, c .pre .0, search needs, c .pre .1, refl, refl)
 
-cast-list : tie.Need-cast-list Inv-loop μ-loop
-cast-list c = search needs
-
 array-read-list : tie.Need-array-read-list Inv-loop μ-loop
 array-read-list c = omega arith
-
-cast-list-2 : tie.Need-cast-list-2 Inv-loop μ-loop
-cast-list-2 c = search needs
 
 slice-write-list : tie.Need-slice-write-list Inv-loop μ-loop
 slice-write-list c = omega arith
@@ -73,9 +68,7 @@ copy-turns-spec =
     Inv-loop
     μ-loop
     loop-holds
-    cast-list
     array-read-list
-    cast-list-2
     slice-write-list
     add-i
     loop-less

@@ -3,10 +3,12 @@ use mathlib.Core.Path.{_≡_, sym, ap, _∙_}
 use Prim.Native.Nat.{_≤_}
 use native.Mathlib.Omega.{arith}
 use lib.ListN.{length}
+use Rattle.stacks.specs.Turn.{turnsOf}
 use Rattle.search.specs.Plan.{planLimit, Route, routeFrom}
+use Rattle.search.proofs.PlanLaws.{RowFacts, row-facts}
+use Rattle.search.proofs.Turning.{all-turns}
 use Rattle.plan.specs.Routes.{routeOf}
 use Rattle.plan.proofs.Routes.{route-stack, route-taken}
-use Rattle.search.proofs.PlanLaws.{RowFacts, row-facts}
 use Rattle.plan.proofs.Answers.{no-plan-unseen, no-plan-root, no-plan-route, a-plan, row-refused, plan-refused, plan-accepted}
 use borrow.Author.Needs.{needs}
 use Rattle.plan.proofs.plan.plan.Statement.{statement}
@@ -33,7 +35,7 @@ returns-2 : tie.Need-returns-2
 returns-2 c =
     let e = c .before .before in
     let a = e .before .before .before .before .args in
-    plan-refused (a .kind) (a .n) (a .wanted) (a .given) (a .table .now) (a .list .now) (facts e) (no-plan-unseen (a .kind) (a .n) (a .table .now) (a .wanted) (a .given) (c .before .entry-of .result) (c .before .entry-of .ensures) (c .if2 .taken))
+    plan-refused (a .kind) (a .n) (a .wanted) (a .given) (a .table .now) (a .list .now) (facts e) (no-plan-unseen (a .kind) (a .n) (a .table .now) (a .wanted) (turnsOf (a .kind) (a .n)) (a .given) (c .before .entry-of .result) (c .before .entry-of .ensures) (c .if2 .taken))
 
 entry-of-requires-2 : tie.Need-entry-of-requires-2
 entry-of-requires-2 c κs =
@@ -45,7 +47,7 @@ returns-3 c =
     let e = c .before .before .before .before in
     let a = e .before .before .before .before .args in
     plan-refused (a .kind) (a .n) (a .wanted) (a .given) (a .table .now) (a .list .now) (facts e)
-    (no-plan-root (a .kind) (a .n) (a .table .now) (a .wanted) (a .given) (c .before .before .before .entry-of .result) (c .before .before .before .entry-of .ensures) (c .before .entry-of2 .result) (c .before .entry-of2 .ensures) (c .if3 .taken))
+    (no-plan-root (a .kind) (a .n) (a .table .now) (a .wanted) (turnsOf (a .kind) (a .n)) (a .given) (c .before .before .before .entry-of .result) (c .before .before .before .entry-of .ensures) (c .before .entry-of2 .result) (c .before .entry-of2 .ensures) (c .if3 .taken))
 
 route-from-requires : tie.Need-route-from-requires
 route-from-requires c κs =
@@ -54,14 +56,14 @@ route-from-requires c κs =
 
 -- the stack that the route has come to
 stack-is : (c : tie.After-route-from)
-    → let a = c .before .before .before .before .before .before .before .before .before .args in c .route-from .result .stack ≡ routeFrom (a .kind) (a .n) (a .table .now) (a .wanted) (a .given) .stack
+    → let a = c .before .before .before .before .before .before .before .before .before .args in c .route-from .result .stack ≡ routeFrom (a .kind) (a .n) (a .table .now) (a .wanted) (turnsOf (a .kind) (a .n)) (a .given) .stack
 stack-is c = ap (λ (r : Route). r .stack) (c .route-from .ensures .0)
 
 rank-requires : tie.Need-rank-requires
 rank-requires c κs =
     let e = c .before .before .before .before .before .before .before in
     let a = e .before .before .before .before .args in
-    (facts e .of-panes, rw (stack-is (c .before .before)) (route-stack (a .kind) (a .n) (a .table .now) (a .wanted) (a .given) (facts e .of-panes) (facts e .start)))
+    (facts e .of-panes, rw (stack-is (c .before .before)) (route-stack (a .kind) (a .n) (a .table .now) (a .wanted) (a .given) (facts e .of-panes) (all-turns (a .kind) (a .n) (facts e .of-panes)) (facts e .start)))
 
 rank-requires-2 : tie.Need-rank-requires-2
 rank-requires-2 c κs =
@@ -74,20 +76,24 @@ returns-4 c =
     let e = w .before .before .before .before .before in
     let a = e .before .before .before .before .args in
     plan-refused (a .kind) (a .n) (a .wanted) (a .given) (a .table .now) (a .list .now) (facts e)
-    (no-plan-route (a .kind) (a .n) (a .table .now) (a .wanted) (a .given) (w .before .before .before .before .entry-of .result) (w .before .before .before .before .entry-of .ensures) (w .before .before .entry-of2 .result) (w .before .before .entry-of2 .ensures)
+    (no-plan-route (a .kind) (a .n) (a .table .now) (a .wanted) (turnsOf (a .kind) (a .n)) (a .given) (w .before .before .before .before .entry-of .result) (w .before .before .before .before .entry-of .ensures) (w .before .before .entry-of2 .result) (w .before .before .entry-of2 .ensures)
     (w .route-from .result .stack) (stack-is w) (c .before .before .rank .result) (c .before .rank2 .result) (c .before .before .rank .ensures) (c .before .rank2 .ensures) (c .if4 .taken))
 
--- the route has at most 30 turns
-few : (c : tie.After-route-from) → c .route-from .result .taken ≤ 30
+-- the route is within the limit
+few : (c : tie.After-route-from) → c .route-from .result .taken ≤ planLimit
 few c =
     let a = c .before .before .before .before .before .before .before .before .before .args in
-    route-taken (a .kind) (a .n) (a .table .now) (a .wanted) (a .given) (routeOf (c .route-from .result)) (c .route-from .result .taken) (c .route-from .ensures .0) (c .route-from .ensures .1)
+    route-taken (a .kind) (a .n) (a .table .now) (a .wanted) (turnsOf (a .kind) (a .n)) (a .given) (routeOf (c .route-from .result)) (c .route-from .result .taken) (c .route-from .ensures .0) (c .route-from .ensures .1)
 
 copy-turns-requires : tie.Need-copy-turns-requires
-unfolding planLimit
 copy-turns-requires c κs =
     let w = c .before .before .before .before .before .before in
     (omega (arith, few w), omega (arith, few w, facts (w .before .before .before .before .before) .wide))
+
+cast-count : tie.Need-cast-count
+cast-count c =
+    let w = c .before .before .before .before .before .before .before .before .before in
+    record { fits = omega (arith, few w) }
 
 same-length : tie.Need-same-length
 same-length c = search needs
@@ -99,7 +105,7 @@ returns-5 c =
     let e = w .before .before .before .before .before in
     let a = e .before .before .before .before .args in
     plan-accepted (a .kind) (a .n) (a .wanted) (a .given) (a .table .now) (a .list .now) (facts e)
-    (a-plan (a .kind) (a .n) (a .table .now) (a .wanted) (a .given) (w .before .before .before .before .entry-of .result) (w .before .before .before .before .entry-of .ensures) (w .before .before .entry-of2 .result) (w .before .before .entry-of2 .ensures)
+    (a-plan (a .kind) (a .n) (a .table .now) (a .wanted) (turnsOf (a .kind) (a .n)) (a .given) (w .before .before .before .before .entry-of .result) (w .before .before .before .before .entry-of .ensures) (w .before .before .entry-of2 .result) (w .before .before .entry-of2 .ensures)
     (w .route-from .result .stack) (stack-is w) (p .before .before .rank .result) (p .before .rank2 .result) (p .before .before .rank .ensures) (p .before .rank2 .ensures)
     (w .before .before .before .if2 .left) (w .before .if3 .left) (p .if4 .left))
     (w .route-from .result .stack) (w .route-from .result .turns) (w .route-from .result .taken) (c .before .before .copy-turns .last .0)
@@ -120,5 +126,6 @@ plan-spec =
     rank-requires-2
     returns-4
     copy-turns-requires
+    cast-count
     same-length
     returns-5)

@@ -5,17 +5,19 @@ use native.Mathlib.Omega.{arith}
 use borrow.Author.Needs.{needs}
 use lib.ListN.{replicate}
 use Rattle.stacks.specs.Turn.{turnsOf}
+use Rattle.search.specs.Plan.{planLimit}
 use Rattle.search.proofs.EntryLaws.{entry-lt, next-lt}
+use Rattle.search.proofs.Turning.{all-turns}
 use Rattle.plan.specs.Routes.{firstTo}
 use Rattle.plan.proofs.Routes.{entry-inside, first-last, nearer, found-nearer, Travelled, travelled-start, travelled-length, travelled-arrived, travelled-stuck, travelled-step, travelled-end}
 use Rattle.plan.proofs.route.route_from.Statement.{statement}
 use Rattle.plan.proofs.route.route_from.Tie as tie
 
 abbrev Inv-loop : tie.InvT-loop
-Inv-loop kind n table goal stack₀ turns₀ taken₀ stack turns taken = Travelled kind n table goal stack₀ stack turns taken
+Inv-loop kind n table goal stack₀ turns₀ taken₀ stack turns taken = Travelled kind n (turnsOf kind n) table goal stack₀ stack turns taken
 
 abbrev μ-loop : tie.MeasureT-loop
-μ-loop kind n table goal stack₀ turns₀ taken₀ stack turns taken = 30 - taken
+μ-loop kind n table goal stack₀ turns₀ taken₀ stack turns taken = planLimit - taken
 
 rank-requires : tie.Need-rank-requires Inv-loop μ-loop
 rank-requires c κs = (c .before .pre .0, c .before .pre .1)
@@ -23,7 +25,7 @@ rank-requires c κs = (c .before .pre .0, c .before .pre .1)
 loop-holds : tie.Need-loop-holds Inv-loop μ-loop
 loop-holds c =
     let s = c .before .before in
-    travelled-start (s .args .kind) (s .args .n) (s .args .table .now) (c .rank .result) (s .args .given) (replicate 30 0) (s .pre .2) refl
+    travelled-start (s .args .kind) (s .args .n) (turnsOf (s .args .kind) (s .args .n)) (s .args .table .now) (c .rank .result) (s .args .given) (replicate planLimit 0) (s .pre .2) refl
 
 rank-requires-2 : tie.Need-rank-requires-2 Inv-loop μ-loop
 rank-requires-2 c κs = (c .before .before .before .before .pre .0, c .before .loop .inv .is-stack)
@@ -38,9 +40,9 @@ returns : tie.Need-returns Inv-loop μ-loop
 returns c =
     let a = c .before .before .before .before in
     let s = a .before .before .before .args in (
-      travelled-arrived (s .kind) (s .n) (s .table .now) (a .before .rank .result) (s .given) (a .loop .stack) (a .loop .turns) (a .loop .taken) (a .loop .inv)
+      travelled-arrived (s .kind) (s .n) (a .loop .inv)
           (s .wanted) (a .before .rank .ensures) (c .before .before .rank2 .result) (c .before .before .rank2 .ensures) (c .if1 .taken),
-      travelled-length (s .kind) (s .n) (s .table .now) (a .before .rank .result) (s .given) (a .loop .stack) (a .loop .turns) (a .loop .taken) (a .loop .inv),
+      travelled-length (s .kind) (s .n) (a .loop .inv),
     )
 
 next-entry-requires : tie.Need-next-entry-requires Inv-loop μ-loop
@@ -65,7 +67,7 @@ found : (c : tie.After-turn-to Inv-loop μ-loop)
 found c =
     let a = c .before .before .before .before .before .before .before in
     let s = a .before .before .before .args in
-    found-nearer (s .kind) (s .n) (s .table .now) (a .loop .stack) (c .before .before .before .before .before .rank2 .result)
+    found-nearer (s .kind) (s .n) (s .table .now) (a .loop .stack) (turnsOf (s .kind) (s .n)) (c .before .before .before .before .before .rank2 .result)
     (c .before .before .before .before .get-entry .result) (c .before .before .next-entry .result) (c .before .next-entry2 .result) (c .turn-to .result)
     (c .before .before .before .before .before .rank2 .ensures) (c .before .before .before .before .get-entry .ensures)
     (c .before .before .next-entry .ensures) (c .before .next-entry2 .ensures) (c .turn-to .ensures)
@@ -74,10 +76,10 @@ returns-2 : tie.Need-returns-2 Inv-loop μ-loop
 returns-2 c =
     let a = c .before .before .before .before .before .before .before .before in
     let s = a .before .before .before .args in (
-      travelled-stuck (s .kind) (s .n) (s .table .now) (a .before .rank .result) (s .given) (a .loop .stack) (a .loop .turns) (a .loop .taken) (a .loop .inv)
+      travelled-stuck (s .kind) (s .n) (a .loop .inv) (all-turns (s .kind) (s .n) (a .before .before .before .pre .0))
           (c .before .before .before .before .before .before .rank2 .result) (c .before .turn-to .result) (c .before .before .before .before .before .before .rank2 .ensures)
           (c .before .before .before .before .if1 .left) (found (c .before)) (c .if2 .taken) (s .wanted) (a .before .rank .ensures),
-      travelled-length (s .kind) (s .n) (s .table .now) (a .before .rank .result) (s .given) (a .loop .stack) (a .loop .turns) (a .loop .taken) (a .loop .inv),
+      travelled-length (s .kind) (s .n) (a .loop .inv),
     )
 
 turned-requires : tie.Need-turned-requires Inv-loop μ-loop
@@ -86,11 +88,9 @@ turned-requires c κs =
     let s = a .before .before .before in (
       s .pre .0,
       a .loop .inv .is-stack,
-      rw (c .before .turn-to .ensures) (first-last (s .args .kind) (s .args .n) (s .args .table .now) (a .loop .stack) (c .before .before .next-entry2 .result) (s .pre .0)),
+      first-last (s .args .kind) (s .args .n) (s .args .table .now) (a .loop .stack) (c .before .before .next-entry2 .result) (all-turns (s .args .kind) (s .args .n) (s .pre .0))
+          (c .before .turn-to .result) (c .before .turn-to .ensures) (c .if2 .left),
     )
-
-cast-turns : tie.Need-cast-turns Inv-loop μ-loop
-cast-turns c = search needs
 
 array-write-turns : tie.Need-array-write-turns Inv-loop μ-loop
 array-write-turns c = omega arith
@@ -105,7 +105,7 @@ loop-again : tie.Need-loop-again Inv-loop μ-loop
 loop-again c =
     let a = c .before .before .before .before .before .before .before .before .before in
     let s = a .before .before .before in
-    travelled-step (s .args .kind) (s .args .n) (s .args .table .now) (a .before .rank .result) (s .args .given) (a .loop .stack) (a .loop .turns) (a .loop .taken) (a .loop .inv)
+    travelled-step (s .args .kind) (s .args .n) (a .loop .inv) (all-turns (s .args .kind) (s .args .n) (s .pre .0))
     (c .before .before .before .before .before .before .before .rank2 .result) (c .before .before .turn-to .result) (c .before .before .before .before .before .before .before .rank2 .ensures)
     (c .before .before .before .before .before .if1 .left) (found (c .before .before)) (s .pre .0)
     (omega arith) (c .before .if2 .left) (c .turned .result) (c .turned .ensures)
@@ -114,9 +114,9 @@ returns-3 : tie.Need-returns-3 Inv-loop μ-loop
 returns-3 c =
     let a = c .before in
     let s = a .before .before .before .args in (
-      travelled-end (s .kind) (s .n) (s .table .now) (a .before .rank .result) (s .given) (a .loop .stack) (a .loop .turns) (a .loop .taken) (a .loop .inv)
+      travelled-end (s .kind) (s .n) (a .loop .inv)
           (s .wanted) (a .before .rank .ensures) (omega arith),
-      travelled-length (s .kind) (s .n) (s .table .now) (a .before .rank .result) (s .given) (a .loop .stack) (a .loop .turns) (a .loop .taken) (a .loop .inv),
+      travelled-length (s .kind) (s .n) (a .loop .inv),
     )
 
 pub route-from-spec : {M : Type 1} → statement M
@@ -135,7 +135,6 @@ route-from-spec =
     turn-to-requires
     returns-2
     turned-requires
-    cast-turns
     array-write-turns
     add-taken
     loop-less

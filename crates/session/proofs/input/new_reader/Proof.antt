@@ -3,6 +3,7 @@ use borrow.Author.Needs.{needs}
 use mathlib.Core.Path.{ap}
 use lib.IntN.{pos}
 use lib.ListN.{replicate}
+use Rattle.stacks.specs.Stack.{stackPlaces}
 use Rattle.frames.specs.declared.Line.{Line}
 use Rattle.session.specs.Reader.{newReader}
 use Rattle.session.specs.declared.Stage.the-variants.{Start}
@@ -14,7 +15,7 @@ new-line-requires c κs = search needs
 
 returns : tie.Need-returns
 unfolding newReader
-returns c = ap (λ (l : Line). record { stage = Start; kind = 0; n = 0; wanted = replicate 12 (pos 0); line = l }) (c .new-line .ensures)
+returns c = ap (λ (l : Line). record { stage = Start; kind = 0; n = 0; wanted = replicate stackPlaces (pos 0); line = l }) (c .new-line .ensures)
 
 pub new-reader-spec : {M : Type 1} → statement M
 new-reader-spec = tie.close (tie.spec new-line-requires returns)

@@ -1,5 +1,4 @@
 -- `session::later::plan_text` meets its contract.
-use Rattle.search.specs.Plan.{planLimit}
 use Rattle.session.proofs.AnswerLaws.{wrote-same, plan-refused, plan-accepted}
 use borrow.Author.Needs.{needs}
 use Rattle.session.proofs.later.plan_text.Statement.{statement}
@@ -15,7 +14,6 @@ write-refusal-requires : tie.Need-write-refusal-requires
 write-refusal-requires c κs = search needs
 
 returns : tie.Need-returns
-unfolding planLimit
 returns c =
     let t = c .before .before in
     let p = t .before .before .before in
@@ -28,7 +26,6 @@ write-plan-requires : tie.Need-write-plan-requires
 write-plan-requires c κs = search needs
 
 returns-2 : tie.Need-returns-2
-unfolding planLimit
 returns-2 c =
     let t = c .before .before in
     let p = t .before .before .before in

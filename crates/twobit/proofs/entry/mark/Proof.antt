@@ -1,6 +1,6 @@
 -- `twobit::entry::mark` meets its contract.
 use borrow.Author.Needs.{needs}
-use Rattle.twobit.proofs.Marking.{marked-not, marked-new}
+use Rattle.twobit.proofs.LeafMarks.{marked-not, marked-new}
 use Rattle.twobit.proofs.entry.mark.Statement.{statement}
 use Rattle.twobit.proofs.entry.mark.Tie as tie
 

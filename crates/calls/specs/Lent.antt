@@ -1,0 +1,47 @@
+-- What the helpers of Blank, Settle and Close ask of what they are given, and what they leave, by the fields that each takes.
+use mathlib.Core.Path.{_≡_}
+use mathlib.Core.Bool.{Bool, true, not, _&&_, cond}
+use mathlib.Core.List.{List}
+use Prim.Native.Nat.{ℕ, _+_, _*_, _/_, _%_, _^_, _<_}
+use lib.Dec.{eqb}
+use lib.IntN.{ℤ}
+use lib.ListN.{length, getD}
+use Rattle.base.specs.Words.{all, from}
+use Rattle.stacks.specs.Index.{rankOf}
+use Rattle.stacks.specs.Stack.{isPaneCount, isStack, stackCount}
+use Rattle.search.specs.Entries.{bytesFor, blank, setEntry}
+use Rattle.search.specs.JobState.{lastLevel}
+use Rattle.search.specs.Segments.{segmentCount, stackCountIn}
+use Rattle.twobit.specs.declared.marking.Found.{Found}
+
+-- blanked of a job with these fields
+abbrev pub blankedBy : ℕ → ℕ → List ℤ → ℕ → ℕ → List ℕ
+blankedBy kind n wanted S j =
+    let goal = rankOf kind n wanted in
+    let m = stackCountIn (stackCount kind n) S j in
+    cond (eqb (goal / S) j) (setEntry (blank m) (goal % S) 0) (blank m)
+
+pub record BlankFits (kind n : ℕ) (wanted : List ℤ) (S j : ℕ) (segment : List ℕ) : Type 0 where
+  pub in-range : isPaneCount kind n ≡ true
+  pub goal : isStack kind n wanted ≡ true
+  pub some : 0 < S
+  pub long : length segment ≡ bytesFor (stackCountIn (stackCount kind n) S j)
+
+-- what marking at the offsets of a list asks for: a label, stacks of segment j whose indexes fit 32 bits and whose entries stand in the
+-- segment, and a count that stays within 64 bits
+pub record OffsetsFit (S j label : ℕ) (offsets : List ℕ) (found : Found) (segment : List ℕ) : Type 0 where
+  pub below : label < 3
+  pub starts : j * S < 2 ^ 32
+  pub small : (k : ℕ) → k < length offsets → j * S + getD offsets k 0 < 2 ^ 32
+  pub own : (k : ℕ) → k < length offsets → getD offsets k 0 < S
+  pub inside : (k : ℕ) → k < length offsets → getD offsets k 0 / 4 < length segment
+  pub few : found .count + length offsets < 2 ^ 64
+
+-- isReady of a job with N stacks, S, and these passed and waiting numbers
+abbrev pub readyBy : ℕ → ℕ → List ℕ → List ℕ → Bool
+readyBy N S passed waiting =
+    all (λ j. eqb (getD passed j 0) (stackCountIn N S j) && eqb (getD waiting j 0) 0) (from 0 (segmentCount N S))
+
+-- isPastLast of a job at level d whose last level has found count stacks
+abbrev pub pastLast : ℕ → ℕ → Bool
+pastLast d count = eqb d lastLevel && not (eqb count 0)

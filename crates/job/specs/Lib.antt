@@ -1,0 +1,2 @@
+-- What the loop over a job's segments tests.
+pub mod Numbers
