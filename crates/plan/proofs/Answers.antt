@@ -1,8 +1,8 @@
--- The answers of Read an entry and Plan, with the row's number or with what was asked for; and when there is a plan.
-use mathlib.Core.Path.{_≡_, sym}
+-- The answers of Read an entry and Plan, with the row's number or with what was asked for; when there is a plan, and its draft.
+use mathlib.Core.Path.{_≡_, refl, sym, ap, _∙_}
 use mathlib.Core.Bool.{Bool, true, false, not, _&&_}
 use mathlib.Core.List.{List, _++_}
-use Prim.Native.Nat.{ℕ}
+use Prim.Native.Nat.{ℕ, _≤_}
 use native.Mathlib.Omega.{arith}
 use lib.Dec.{eqb}
 use lib.IntN.{ℤ}
@@ -13,13 +13,14 @@ use Rattle.base.proofs.Tests.{and-fails-left, and-fails-right}
 use Rattle.stacks.specs.Index.{rankOf}
 use Rattle.stacks.specs.Turn.{turnsOf}
 use Rattle.search.specs.Entries.{entryAt, unseen}
-use Rattle.search.specs.Plan.{Route, entryOf, isWanted, routeFrom, hasPlan, planRefusal, planOf, planRow}
+use Rattle.search.specs.Plan.{planLimit, Route, entryOf, isWanted, routeFrom, hasPlan, planRefusal, planOf, planRow}
 use Rattle.search.specs.Read.{readRefusal, readOf}
 use Rattle.search.specs.declared.Entry.{Entry}
 use Rattle.search.specs.declared.Planned.{Planned}
+use Rattle.plan.specs.Drafts.{noDraft, Drafts}
+use Rattle.plan.specs.declared.plan.Draft.{Draft}
 use Rattle.plan.proofs.Routes.{routeAt}
-use Rattle.search.proofs.PlanLaws.{RowFacts, row-goes-on}
-use Rattle.plan.proofs.Rows.{row-refuses}
+use Rattle.search.proofs.PlanLaws.{RowFacts, row-goes-on, row-refuses, plan-facts}
 
 -- ---- Read an entry: r is what the row answers
 
@@ -69,7 +70,7 @@ module _ (kind n : ℕ) (table : List ℕ) (wanted : List ℤ) (moves : List ℕ
 
 -- ---- Plan
 
-module _ (kind n : ℕ) (wanted given : List ℤ) (table list : List ℕ) where
+module _ (kind n : ℕ) (wanted given : List ℤ) (table : List ℕ) (slots : ℕ) where
   -- whether all turns have a plan, and their route
   abbrev planned : Bool
   planned = hasPlan kind n table wanted (turnsOf kind n) given
@@ -77,31 +78,44 @@ module _ (kind n : ℕ) (wanted given : List ℤ) (table list : List ℕ) where
   abbrev way : Route
   way = routeFrom kind n table wanted (turnsOf kind n) given
 
-  refused : (r : ℕ) → r ≡ planRefusal kind n wanted given table (length list) 0 → (r ≡ 0 → ⊥)
-      → _≡_ {A = List ℕ × Planned} (list, record { refusal = r; turns = 0 }) (planOf kind n wanted given table list)
-  unfolding planOf
-  refused r e h = rw (← e, ne-eqb r 0 h)
+  refused : (r : ℕ) → r ≡ planRefusal kind n wanted given table slots 0 → (r ≡ 0 → ⊥) → Drafts kind n wanted given table slots (noDraft r)
+  refused r e h = record { refuses = e; follows = λ z. absurd (h z); long = refl; few = omega arith }
 
   -- the row up to 15 refuses
-  pub row-refused : (r : ℕ) → r ≡ planRow kind n wanted given (length table) (length list) 0 → (r ≡ 0 → ⊥)
-      → _≡_ {A = List ℕ × Planned} (list, record { refusal = r; turns = 0 }) (planOf kind n wanted given table list)
+  pub row-refused : (r : ℕ) → r ≡ planRow kind n wanted given (length table) slots 0 → (r ≡ 0 → ⊥) → Drafts kind n wanted given table slots (noDraft r)
   unfolding planRefusal planRow
-  row-refused r e h =
-      refused r (row-refuses kind n wanted given (length table) (length list) r (unless planned 15 0) e h) h
+  row-refused r e h = refused r (row-refuses kind n wanted given (length table) slots r (unless planned 15 0) e h) h
 
   -- it does not
-  module _ (f : RowFacts kind n wanted given (length table) (length list)) where
-    rest-is : unless planned 15 0 ≡ planRefusal kind n wanted given table (length list) 0
+  module _ (f : RowFacts kind n wanted given (length table) slots) where
+    rest-is : unless planned 15 0 ≡ planRefusal kind n wanted given table slots 0
     unfolding planRefusal planRow
-    rest-is = sym (row-goes-on kind n wanted given (length table) (length list) f (unless planned 15 0))
+    rest-is = sym (row-goes-on kind n wanted given (length table) slots f (unless planned 15 0))
 
-    pub plan-refused : planned ≡ false
-        → _≡_ {A = List ℕ × Planned} (list, record { refusal = 15; turns = 0 }) (planOf kind n wanted given table list)
-    plan-refused h = refused 15 (rw (← rest-is, h)) (λ e. omega arith)
+    pub draft-refused : planned ≡ false → Drafts kind n wanted given table slots (noDraft 15)
+    draft-refused h = refused 15 (rw (← rest-is, h)) (λ e. omega arith)
 
-    -- the route's turns, cut from an array, stand at the front of the list
-    pub plan-accepted : planned ≡ true → (stack : List ℤ) (turns : List ℕ) (taken : ℕ) (after : List ℕ)
-        → routeAt stack turns taken ≡ way → length (take taken turns) ≡ taken → after ≡ take taken turns ++ drop taken list
-        → _≡_ {A = List ℕ × Planned} (after, record { refusal = 0; turns = taken }) (planOf kind n wanted given table list)
-    unfolding planOf
-    plan-accepted h stack turns taken after e l a = rw (← rest-is, h, ← e, l, a)
+    -- the route's turns, cut from an array
+    pub draft-accepted : planned ≡ true → (stack : List ℤ) (turns : List ℕ) (taken : ℕ) → routeAt stack turns taken ≡ way
+        → length (take taken turns) ≡ taken → taken ≤ planLimit
+        → Drafts kind n wanted given table slots (record { refusal = 0; turns = turns; taken = taken })
+    draft-accepted h stack turns taken e l k =
+        record { refuses = rw (← rest-is, h); follows = λ z. ap (λ (r : Route). r .turns) e; long = l; few = k }
+
+module _ (kind n : ℕ) (wanted given : List ℤ) (table list : List ℕ) (draft : Draft) (d : Drafts kind n wanted given table (length list) draft) where
+  -- an accepted list has room for the turns
+  pub draft-fits : draft .refusal ≡ 0 → (draft .taken ≤ planLimit) × (draft .taken ≤ length list)
+  draft-fits h =
+      let f = plan-facts kind n wanted given table (length list) 0 (sym (d .refuses) ∙ h) .0 in
+      (d .few, omega (arith, d .few, f .row .wide))
+
+  pub plan-refused : (draft .refusal ≡ 0 → ⊥)
+      → _≡_ {A = List ℕ × Planned} (list, record { refusal = draft .refusal; turns = 0 }) (planOf kind n wanted given table list)
+  unfolding planOf
+  plan-refused h = rw (← d .refuses, ne-eqb (draft .refusal) 0 h)
+
+  -- the draft's turns stand at the front of the list
+  pub plan-accepted : draft .refusal ≡ 0 → (after : List ℕ) → after ≡ take (draft .taken) (draft .turns) ++ drop (draft .taken) list
+      → _≡_ {A = List ℕ × Planned} (after, record { refusal = 0; turns = draft .taken }) (planOf kind n wanted given table list)
+  unfolding planOf
+  plan-accepted h after e = rw (← d .refuses, h, ← d .follows h, d .long, e)

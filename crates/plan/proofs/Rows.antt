@@ -1,6 +1,6 @@
 -- The rows of refusals of Read an entry and Plan, as code goes through them; and what holds where a row refuses nothing.
 use mathlib.Core.Path.{_≡_, refl, sym, _∙_}
-use mathlib.Core.Bool.{Bool, true, false}
+use mathlib.Core.Bool.{true, false}
 use mathlib.Core.List.{List}
 use Prim.Native.Nat.{ℕ, _/_, _≤_, _<_}
 use lib.Dec.{leb, ltb, eqb}
@@ -8,7 +8,7 @@ use lib.IntN.{ℤ}
 use borrow.Author.Tests.{ltb-true, eqb-true, lt-ltb, le-ltb, le-leb, lt-leb, eq-eqb, ne-eqb}
 use Rattle.base.specs.Words.{unless}
 use Rattle.stacks.specs.Operations.{kindRefusal}
-use Rattle.stacks.specs.Stack.{isKind, isPaneCount, isStack, stackCount}
+use Rattle.stacks.specs.Stack.{isStack, stackCount}
 use Rattle.base.proofs.Tests.{unless-zero}
 use Rattle.perm.proofs.Refusals.{kind-refuses, kind-goes-on, kind-passes}
 use Rattle.search.specs.Entries.{bytesFor}
@@ -94,22 +94,3 @@ module _ (kind n : ℕ) (wanted given : List ℤ) (bytes slots : ℕ) where
         pub row-accepts : bytes ≡ long → planLimit ≤ slots → 0 ≡ planRow kind n wanted given bytes slots 0
         unfolding planTests
         row-accepts c d = rw (← row-tests, a, b, ← l, eq-eqb bytes long c, le-leb planLimit slots d)
-
-  -- what a row refuses is what it answers, whatever the rest
-  pub row-refuses : (r rest : ℕ) → r ≡ planRow kind n wanted given bytes slots 0 → (r ≡ 0 → ⊥) → r ≡ planRow kind n wanted given bytes slots rest
-  unfolding planRow kindRefusal
-  row-refuses r rest e h =
-      e
-      ∙ go (isKind kind) (isPaneCount kind n) (isStack kind n wanted) (isStack kind n given) (eqb bytes (bytesFor (stackCount kind n))) (leb planLimit slots) (λ q. h (e ∙ q))
-    where
-      row : ℕ → Bool → Bool → Bool → Bool → Bool → Bool → ℕ
-      row rest a b c d e f = unless a 1 (unless b 2 (unless c 3 (unless d 3 (unless e 10 (unless f 10 rest)))))
-
-      go : (a b c d e f : Bool) → (row 0 a b c d e f ≡ 0 → ⊥) → row 0 a b c d e f ≡ row rest a b c d e f
-      go true true true true true true k = absurd (k refl)
-      go true true true true true false k = refl
-      go true true true true false f k = refl
-      go true true true false e f k = refl
-      go true true false d e f k = refl
-      go true false c d e f k = refl
-      go false b c d e f k = refl

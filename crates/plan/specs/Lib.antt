@@ -1,2 +1,3 @@
 -- What the helpers of Plan promise.
 pub mod Routes
+pub mod Drafts

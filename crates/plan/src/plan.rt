@@ -4,6 +4,7 @@ ghost use mathlib.Core.List.{_++_};
 ghost use Prim.Native.Nat.{_≤_};
 ghost use lib.ListN.{length, take, drop};
 ghost use Rattle.search.specs.Plan.{planLimit, planOf, planRow};
+ghost use Rattle.plan.specs.Drafts.{noDraft, Drafts};
 use crate::route;
 use perm::kind;
 use perm::numbering;
@@ -45,8 +46,62 @@ fn plan_refusal(
     0
 }
 
+// A plan in a local list: its turns, and how many. Refused, there are none.
+pub struct Draft {
+    pub refusal: u8,
+    pub turns: [u8; PLAN_LIMIT],
+    pub taken: usize,
+}
+
+fn no_draft(refusal: u8) -> Draft
+    ensures { λ r. ⌜ r ≡ noDraft refusal ⌝ }
+{
+    Draft {
+        refusal,
+        turns: [0u8; PLAN_LIMIT],
+        taken: 0,
+    }
+}
+
+// Every refusal of Plan, and its turns in a local list, for a lent one of so many slots: that is written when nothing refuses any more.
+pub fn draft_plan(
+    kind: u8,
+    n: u8,
+    wanted: [i8; PLACES],
+    given: [i8; PLACES],
+    table: &[u8],
+    slots: usize,
+) -> Draft
+    ensures { λ r. ⌜ Drafts kind n wanted given (now (table .entry)) slots r ⌝ }
+{
+    let refusal = plan_refusal(kind, n, wanted, given, table.len(), slots);
+    if refusal != 0 {
+        return no_draft(refusal);
+    }
+    if route::entry_of(kind, n, given, table) == 3 {
+        return no_draft(15);
+    }
+    if route::entry_of(kind, n, wanted, table) != 0 {
+        return no_draft(15);
+    }
+    let way = route::route_from(kind, n, wanted, given, table);
+    let stack = way.stack;
+    let turns = way.turns;
+    let taken = way.taken;
+    let end = numbering::rank(kind, n, stack);
+    let goal = numbering::rank(kind, n, wanted);
+    if end != goal {
+        return no_draft(15);
+    }
+    Draft {
+        refusal: 0,
+        turns,
+        taken,
+    }
+}
+
 // The turns come to the front of the list, and the bytes past them stay.
-fn copy_turns(list: &mut [u8], turns: [u8; PLAN_LIMIT], taken: usize)
+pub fn copy_turns(list: &mut [u8], turns: [u8; PLAN_LIMIT], taken: usize)
     requires { ⌜ (taken ≤ planLimit) × (taken ≤ length (now list)) ⌝ }
     ensures { λ _. ⌜ now (list .exit) ≡ take taken turns ++ drop taken (now (list .entry)) ⌝ }
 {
@@ -68,34 +123,15 @@ pub fn plan(
 ) -> Planned
     ensures { λ r. ⌜ (now (list .exit), r) ≡ planOf kind n wanted given (now (table .entry)) (now (list .entry)) ⌝ }
 {
-    let refusal = plan_refusal(kind, n, wanted, given, table.len(), list.len());
-    if refusal != 0 {
-        return Planned { refusal, turns: 0 };
-    }
-    if route::entry_of(kind, n, given, table) == 3 {
+    let draft = draft_plan(kind, n, wanted, given, table, list.len());
+    if draft.refusal != 0 {
         return Planned {
-            refusal: 15,
+            refusal: draft.refusal,
             turns: 0,
         };
     }
-    if route::entry_of(kind, n, wanted, table) != 0 {
-        return Planned {
-            refusal: 15,
-            turns: 0,
-        };
-    }
-    let way = route::route_from(kind, n, wanted, given, table);
-    let stack = way.stack;
-    let turns = way.turns;
-    let taken = way.taken;
-    let end = numbering::rank(kind, n, stack);
-    let goal = numbering::rank(kind, n, wanted);
-    if end != goal {
-        return Planned {
-            refusal: 15,
-            turns: 0,
-        };
-    }
+    let turns = draft.turns;
+    let taken = draft.taken;
     copy_turns(list, turns, taken);
     let count = taken as u32;
     Planned {

@@ -74,6 +74,25 @@ module _ (kind n : ℕ) (wanted given : List ℤ) (bytes slots : ℕ) where
         f .1,
       )
 
+  -- what a row refuses is what it answers, whatever the rest
+  pub row-refuses : (r rest : ℕ) → r ≡ planRow kind n wanted given bytes slots 0 → (r ≡ 0 → ⊥) → r ≡ planRow kind n wanted given bytes slots rest
+  unfolding planRow kindRefusal
+  row-refuses r rest e h =
+      e
+      ∙ go (isKind kind) (isPaneCount kind n) (isStack kind n wanted) (isStack kind n given) (eqb bytes (bytesFor (stackCount kind n))) (leb planLimit slots) (λ q. h (e ∙ q))
+    where
+      row : ℕ → Bool → Bool → Bool → Bool → Bool → Bool → ℕ
+      row rest a b c d e f = unless a 1 (unless b 2 (unless c 3 (unless d 3 (unless e 10 (unless f 10 rest)))))
+
+      go : (a b c d e f : Bool) → (row 0 a b c d e f ≡ 0 → ⊥) → row 0 a b c d e f ≡ row rest a b c d e f
+      go true true true true true true k = absurd (k refl)
+      go true true true true true false k = refl
+      go true true true true false f k = refl
+      go true true true false e f k = refl
+      go true true false d e f k = refl
+      go true false c d e f k = refl
+      go false b c d e f k = refl
+
 pub record PlanFacts (kind n : ℕ) (wanted given : List ℤ) (table : List ℕ) (slots : ℕ) : Type 0 where
   pub row : RowFacts kind n wanted given (length table) slots
   pub plan : hasPlan kind n table wanted (turnsOf kind n) given ≡ true

@@ -1,0 +1,144 @@
+-- `plan::plan::draft_plan` meets its contract: the refusals in their order, and then the route's turns.
+use mathlib.Core.Path.{_≡_, sym, ap, _∙_, subst}
+use Prim.Native.Nat.{_≤_}
+use lib.ListN.{length}
+use Rattle.stacks.specs.Turn.{turnsOf}
+use Rattle.search.specs.Plan.{planLimit, Route, routeFrom}
+use Rattle.search.proofs.PlanLaws.{RowFacts, row-facts}
+use Rattle.search.proofs.Turning.{all-turns}
+use Rattle.plan.specs.Drafts.{Drafts}
+use Rattle.plan.specs.Routes.{routeOf}
+use Rattle.plan.proofs.Routes.{route-stack, route-taken}
+use Rattle.plan.proofs.Answers.{no-plan-unseen, no-plan-root, no-plan-route, a-plan, row-refused, draft-refused, draft-accepted}
+use borrow.Author.Needs.{needs}
+use Rattle.plan.proofs.plan.draft_plan.Statement.{statement}
+use Rattle.plan.proofs.plan.draft_plan.Tie as tie
+
+plan-refusal-requires : tie.Need-plan-refusal-requires
+plan-refusal-requires c κs = search needs
+
+no-draft-requires : tie.Need-no-draft-requires
+no-draft-requires c κs = search needs
+
+returns : tie.Need-returns
+returns c =
+    let r = c .before .before in
+    let a = r .before .before .args in
+    subst (Drafts (a .kind) (a .n) (a .wanted) (a .given) (a .table .now) (a .slots)) (sym (c .no-draft .ensures))
+    (row-refused (a .kind) (a .n) (a .wanted) (a .given) (a .table .now) (a .slots) (r .plan-refusal .result) (r .plan-refusal .ensures) (c .before .if1 .taken))
+
+-- the row up to 15 refuses nothing
+facts : (c : tie.Else1) → let a = c .before .before .before .args in RowFacts (a .kind) (a .n) (a .wanted) (a .given) (length (a .table .now)) (a .slots)
+facts c =
+    let a = c .before .before .before .args in
+    row-facts (a .kind) (a .n) (a .wanted) (a .given) (length (a .table .now)) (a .slots) 0 (sym (c .before .plan-refusal .ensures) ∙ c .if1 .left) .0
+
+entry-of-requires : tie.Need-entry-of-requires
+entry-of-requires c κs = (facts c .of-panes, facts c .start, facts c .long)
+
+no-draft-requires-2 : tie.Need-no-draft-requires-2
+no-draft-requires-2 c κs = search needs
+
+returns-2 : tie.Need-returns-2
+returns-2 c =
+    let r = c .before .before in
+    let e = r .before in
+    let a = e .before .before .before .args in
+    subst (Drafts (a .kind) (a .n) (a .wanted) (a .given) (a .table .now) (a .slots)) (sym (c .no-draft2 .ensures))
+    (draft-refused (a .kind) (a .n) (a .wanted) (a .given) (a .table .now) (a .slots) (facts e)
+    (no-plan-unseen (a .kind) (a .n) (a .table .now) (a .wanted) (turnsOf (a .kind) (a .n)) (a .given) (r .entry-of .result) (r .entry-of .ensures) (c .before .if2 .taken)))
+
+entry-of-requires-2 : tie.Need-entry-of-requires-2
+entry-of-requires-2 c κs =
+    let e = c .before .before in
+    (facts e .of-panes, facts e .goal, facts e .long)
+
+no-draft-requires-3 : tie.Need-no-draft-requires-3
+no-draft-requires-3 c κs = search needs
+
+returns-3 : tie.Need-returns-3
+returns-3 c =
+    let w = c .before .before in
+    let r = w .before .before in
+    let e = r .before in
+    let a = e .before .before .before .args in
+    subst (Drafts (a .kind) (a .n) (a .wanted) (a .given) (a .table .now) (a .slots)) (sym (c .no-draft3 .ensures))
+    (draft-refused (a .kind) (a .n) (a .wanted) (a .given) (a .table .now) (a .slots) (facts e)
+    (no-plan-root (a .kind) (a .n) (a .table .now) (a .wanted) (turnsOf (a .kind) (a .n)) (a .given) (r .entry-of .result) (r .entry-of .ensures) (w .entry-of2 .result) (w .entry-of2 .ensures) (c .before .if3 .taken)))
+
+route-from-requires : tie.Need-route-from-requires
+route-from-requires c κs =
+    let e = c .before .before .before .before in
+    (facts e .of-panes, facts e .goal, facts e .start, facts e .long)
+
+-- the stack that the route has come to
+stack-is : (c : tie.After-route-from)
+    → let a = c .before .before .before .before .before .before .before .before .args in c .route-from .result .stack ≡ routeFrom (a .kind) (a .n) (a .table .now) (a .wanted) (turnsOf (a .kind) (a .n)) (a .given) .stack
+stack-is c = ap (λ (r : Route). r .stack) (c .route-from .ensures .0)
+
+rank-requires : tie.Need-rank-requires
+rank-requires c κs =
+    let w = c .before .before in
+    let e = w .before .before .before .before .before in
+    let a = e .before .before .before .args in
+    (facts e .of-panes, rw (stack-is w) (route-stack (a .kind) (a .n) (a .table .now) (a .wanted) (a .given) (facts e .of-panes) (all-turns (a .kind) (a .n) (facts e .of-panes)) (facts e .start)))
+
+rank-requires-2 : tie.Need-rank-requires-2
+rank-requires-2 c κs =
+    let e = c .before .before .before .before .before .before .before .before in
+    (facts e .of-panes, facts e .goal)
+
+no-draft-requires-4 : tie.Need-no-draft-requires-4
+no-draft-requires-4 c κs = search needs
+
+returns-4 : tie.Need-returns-4
+returns-4 c =
+    let k = c .before .before in
+    let w = k .before .before .before .before in
+    let g = w .before .before in
+    let r = g .before .before in
+    let e = r .before in
+    let a = e .before .before .before .args in
+    subst (Drafts (a .kind) (a .n) (a .wanted) (a .given) (a .table .now) (a .slots)) (sym (c .no-draft4 .ensures))
+    (draft-refused (a .kind) (a .n) (a .wanted) (a .given) (a .table .now) (a .slots) (facts e)
+    (no-plan-route (a .kind) (a .n) (a .table .now) (a .wanted) (turnsOf (a .kind) (a .n)) (a .given) (r .entry-of .result) (r .entry-of .ensures) (g .entry-of2 .result) (g .entry-of2 .ensures)
+    (w .route-from .result .stack) (stack-is w) (k .before .rank .result) (k .rank2 .result) (k .before .rank .ensures) (k .rank2 .ensures) (c .before .if4 .taken)))
+
+-- the route is within the limit
+few : (c : tie.After-route-from) → c .route-from .result .taken ≤ planLimit
+few c =
+    let a = c .before .before .before .before .before .before .before .before .args in
+    route-taken (a .kind) (a .n) (a .table .now) (a .wanted) (turnsOf (a .kind) (a .n)) (a .given) (routeOf (c .route-from .result)) (c .route-from .result .taken) (c .route-from .ensures .0) (c .route-from .ensures .1)
+
+returns-5 : tie.Need-returns-5
+returns-5 c =
+    let k = c .before in
+    let w = k .before .before .before .before in
+    let g = w .before .before in
+    let r = g .before .before in
+    let e = r .before in
+    let a = e .before .before .before .args in
+    draft-accepted (a .kind) (a .n) (a .wanted) (a .given) (a .table .now) (a .slots) (facts e)
+    (a-plan (a .kind) (a .n) (a .table .now) (a .wanted) (turnsOf (a .kind) (a .n)) (a .given) (r .entry-of .result) (r .entry-of .ensures) (g .entry-of2 .result) (g .entry-of2 .ensures)
+    (w .route-from .result .stack) (stack-is w) (k .before .rank .result) (k .rank2 .result) (k .before .rank .ensures) (k .rank2 .ensures) (g .before .if2 .left) (w .before .if3 .left) (c .if4 .left))
+    (w .route-from .result .stack) (w .route-from .result .turns) (w .route-from .result .taken) (w .route-from .ensures .0) (w .route-from .ensures .1) (few w)
+
+pub draft-plan-spec : {M : Type 1} → statement M
+draft-plan-spec =
+    tie.close
+    (tie.spec
+    plan-refusal-requires
+    no-draft-requires
+    returns
+    entry-of-requires
+    no-draft-requires-2
+    returns-2
+    entry-of-requires-2
+    no-draft-requires-3
+    returns-3
+    route-from-requires
+    rank-requires
+    rank-requires-2
+    no-draft-requires-4
+    returns-4
+    returns-5)
