@@ -1,4 +1,4 @@
-/* Builds the table of coated 4 for the wanted stack +1 +2 +3 +4 in one call, and shows a plan from it: the stack after each turn.
+/* Builds the table of coated 4 for the wanted stack +1 +2 +3 +4 in one call, and shows a plan from it: the stack after each turn, and the price.
  *   rt staticlib hokrund
  *   cc -std=c99 -Iinclude examples/coated.c target/staticlib/libhokrund.a -o target/coated
  *   target/coated | cmp - examples/coated.out */
@@ -33,22 +33,25 @@ static void show(HokrundStack stack)
 int main(void)
 {
     HokrundStack wanted = {{1, 2, 3, 4}}, stack = {{-1, -2, -3, -4}};
+    /* Thousandths of a penny for sizes 1 to 3, and for size 4. */
+    HokrundTariff tariff = {2, {{1, 3, 1250}, {4, 4, 1400}}};
     uint8_t turns[HOKRUND_TURN_LIST];
     HokrundAnswer built = hokrund_build_table(KIND, PANES, wanted, S, C, table, sizeof table, logs, HOKRUND_LOG_WORDS(G, C));
     accepted(built.refusal);
     for (int d = 0; d <= built.job.level; d++)
         printf("level %d: %lu\n", d, (unsigned long)built.job.counts[d]);
 
-    HokrundPlanned planned = hokrund_plan(KIND, PANES, wanted, stack, table, sizeof table, turns, sizeof turns);
-    accepted(planned.refusal);
+    HokrundPriced priced = hokrund_price(KIND, PANES, wanted, stack, table, sizeof table, turns, sizeof turns, tariff);
+    accepted(priced.refusal);
     printf("given:");
     show(stack);
-    for (uint32_t t = 0; t < planned.turns; t++) {
+    for (uint32_t t = 0; t < priced.turns; t++) {
         HokrundStacked turned = hokrund_turn(KIND, PANES, stack, turns[t]);
         accepted(turned.refusal);
         stack = turned.stack;
         printf("turn %d:", turns[t]);
         show(stack);
     }
+    printf("price: %u\n", (unsigned)priced.pennies);
     return 0;
 }

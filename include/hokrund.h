@@ -1,4 +1,4 @@
-/* hokrund: numbers stacks of panes, builds the two-bit table of a breadth-first search in segments, and plans turns from it.
+/* hokrund: numbers stacks of panes, builds the two-bit table of a breadth-first search in segments, plans turns from it, and prices a plan.
  *
  * Who owns what. The caller owns everything. The library allocates nothing, keeps no state between calls and no pointer after a call; calls on
  * different jobs and buffers may run at the same time. A job is a plain value: copy, move or save it as you like, and go on from the job
@@ -12,7 +12,7 @@
  *
  * A build, by hokrund_build_table alone, or call by call: begin; blank each segment; close; then for each level expand each segment, settle
  * a segment for which expand waits and expand on, settle every segment, and close, until the phase is HOKRUND_FINISHED.
- * examples/coated.c is the first way, examples/plan3.c the second. The segments in order are the table that read_entry and plan take.
+ * examples/coated.c is the first way, examples/plan3.c the second. The segments in order are the table that read_entry, plan and price take.
  *
  * The archive is target/staticlib/libhokrund.a. `rt staticlib hokrund` proves the library and makes it; the gate, .ci/run, clears target/
  * and leaves none. x86-64; C99 or later, or C++98 or later. */
@@ -30,7 +30,7 @@ extern "C" {
 #endif
 
 /* Rises with every change of a function, a struct or a number that is declared here. */
-#define HOKRUND_VERSION 1
+#define HOKRUND_VERSION 2
 
 /* Kinds: plain panes 1 to n, with n from 1 to 12; coated panes, minus for coat down, with n from 1 to 10. */
 #define HOKRUND_PLAIN 0
@@ -44,11 +44,13 @@ extern "C" {
 /* An entry of the table that no level has reached. */
 #define HOKRUND_UNSEEN 3
 
-/* What the structs hold, and the fewest bytes of plan's turn list. */
+/* What the structs hold, the fewest bytes of the turn list of plan and price, and the most thousandths of a penny that a line may ask. */
 #define HOKRUND_PLACES 12
 #define HOKRUND_SEGMENTS 64
 #define HOKRUND_LEVELS 32
+#define HOKRUND_LINES 12
 #define HOKRUND_TURN_LIST 30
+#define HOKRUND_MOST_PRICE 1000000
 
 /* Refusals. */
 #define HOKRUND_ACCEPTED 0              /* no refusal */
@@ -67,6 +69,9 @@ extern "C" {
 #define HOKRUND_REFUSED_NOT_READY 13    /* a segment has stacks not passed or entries waiting */
 #define HOKRUND_REFUSED_LAST_LEVEL 14   /* level 31 brought stacks */
 #define HOKRUND_REFUSED_NO_PLAN 15      /* the table leads from the given stack nowhere, or not in 30 turns */
+#define HOKRUND_REFUSED_LINE 17         /* over 12 lines, or a line starts at 0, ends before it starts or above n, or has too high a price */
+#define HOKRUND_REFUSED_NO_LINE 18      /* a size from 1 to n has no line */
+#define HOKRUND_REFUSED_TWO_LINES 19    /* a size from 1 to n has two lines */
 
 /* The macros below compute in 64 bits, whatever integers they are given, and are constant where their arguments are. They evaluate an argument
  * more than once. */
@@ -161,6 +166,26 @@ typedef struct HokrundPlanned {
     uint32_t turns;
 } HokrundPlanned;
 
+/* A line of a tariff: each turn that lifts a group of first to last panes costs price, in thousandths of a penny. */
+typedef struct HokrundLine {
+    uint8_t first;
+    uint8_t last;
+    uint32_t price;
+} HokrundLine;
+
+/* A tariff: its first count lines, in any order. What stands in the other places does not matter.
+ *   HokrundTariff tariff = {2, {{1, 2, 1250}, {3, 3, 1250}}}; */
+typedef struct HokrundTariff {
+    uint32_t count;
+    HokrundLine lines[HOKRUND_LINES];
+} HokrundTariff;
+
+typedef struct HokrundPriced {
+    uint8_t refusal;
+    uint32_t turns;
+    uint32_t pennies;
+} HokrundPriced;
+
 /* Index of a stack: its place from 0 in the order of all N. The order is lexicographic, from the top: plain 1 2 3, 1 3 2, 2 1 3, 2 3 1,
  * 3 1 2, 3 2 1 are 0 to 5. Coated stacks are ordered by their panes without the coats first, and then by the coats, as bits of which the
  * top pane's is the highest, 1 for coat down: +2 -1 is 5.
@@ -224,6 +249,12 @@ HokrundEntry hokrund_read_entry(uint8_t kind, uint8_t n, const uint8_t *table, s
 HokrundPlanned hokrund_plan(uint8_t kind, uint8_t n, HokrundStack wanted, HokrundStack given, const uint8_t *table, size_t length,
                             uint8_t *list, size_t slots);
 
+/* Price: what plan does, and what the turns of its plan cost by the tariff: the sum of their prices, rounded once to the penny, halves up. The
+ * lines must cover each size from 1 to n once; size 1 of plain panes too, which is no turn. Refused for its tariff it leaves list as it was.
+ * Refused as plan, then 17, 18, 19: each looks at every line or size before the next is tried. */
+HokrundPriced hokrund_price(uint8_t kind, uint8_t n, HokrundStack wanted, HokrundStack given, const uint8_t *table, size_t length,
+                            uint8_t *list, size_t slots, HokrundTariff tariff);
+
 /* The layout that the library was compiled for. An array that may not be declared, as C99 and C++98 have no other assertion. */
 #define HOKRUND_ASSERT(test) extern const char hokrund_layout[(test) ? 1 : -1]
 #define HOKRUND_ASSERT_SIZE(type, bytes) HOKRUND_ASSERT(sizeof(type) == (bytes))
@@ -259,6 +290,14 @@ HOKRUND_ASSERT_FIELD(HokrundEntry, entry, 1);
 HOKRUND_ASSERT_SIZE(HokrundEntry, 2);
 HOKRUND_ASSERT_FIELD(HokrundPlanned, turns, 4);
 HOKRUND_ASSERT_SIZE(HokrundPlanned, 8);
+HOKRUND_ASSERT_FIELD(HokrundLine, last, 1);
+HOKRUND_ASSERT_FIELD(HokrundLine, price, 4);
+HOKRUND_ASSERT_SIZE(HokrundLine, 8);
+HOKRUND_ASSERT_FIELD(HokrundTariff, lines, 4);
+HOKRUND_ASSERT_SIZE(HokrundTariff, 100);
+HOKRUND_ASSERT_FIELD(HokrundPriced, turns, 4);
+HOKRUND_ASSERT_FIELD(HokrundPriced, pennies, 8);
+HOKRUND_ASSERT_SIZE(HokrundPriced, 12);
 #undef HOKRUND_ASSERT
 #undef HOKRUND_ASSERT_SIZE
 #undef HOKRUND_ASSERT_FIELD

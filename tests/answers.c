@@ -1,5 +1,5 @@
-/* What the header says of the library beside its declarations, met by calls: every refusal by its name, the limits of a coherent job, the
- * order of the stacks and where an entry stands. C99 and C++98. */
+/* What the header says of the library beside its declarations, met by calls: every refusal by its name, the limits of a coherent job and of a
+ * tariff, the order of the stacks and where an entry stands. C99 and C++98. */
 #include "hokrund.h"
 #include <stdio.h>
 #include <stdlib.h>
@@ -163,6 +163,50 @@ static void tables(void)
     same("NO_PLAN", hokrund_plan(KIND, PANES, wanted, other, table, sizeof table, list, sizeof list).refusal, HOKRUND_REFUSED_NO_PLAN);
 }
 
+/* The price of the plan 3, 2. Where it is refused, nothing stands beside the refusal and the list is as it was. */
+static uint32_t pennies(const char *what, HokrundTariff tariff, uint8_t refusal)
+{
+    uint8_t list[HOKRUND_TURN_LIST] = {7, 7, 7};
+    HokrundPriced priced = hokrund_price(KIND, PANES, wanted, other, table, sizeof table, list, sizeof list, tariff);
+    bool accepted = refusal == HOKRUND_ACCEPTED;
+    same(what, priced.refusal, refusal);
+    same(what, priced.turns, accepted ? 2 : 0);
+    same(what, list[0], accepted ? 3 : 7);
+    same(what, list[1], accepted ? 2 : 7);
+    same(what, list[2], 7);
+    return priced.pennies;
+}
+
+/* One line in every place, of which so many count. */
+static void line(const char *what, uint32_t count, uint8_t first, uint8_t last, uint32_t price, uint8_t refusal)
+{
+    HokrundTariff tariff;
+    tariff.count = count;
+    for (int i = 0; i < HOKRUND_LINES; i++) {
+        tariff.lines[i].first = first;
+        tariff.lines[i].last = last;
+        tariff.lines[i].price = price;
+    }
+    same(what, pennies(what, tariff, refusal), refusal == HOKRUND_ACCEPTED ? 2 * price / 1000 : 0);
+}
+
+/* The header's tariff, over a whole table; each limit of a tariff, there and past it. */
+static void prices(void)
+{
+    HokrundTariff tariff = {2, {{1, 2, 1250}, {3, 3, 1250}}};
+    hokrund_build_table(KIND, PANES, wanted, S, C, table, sizeof table, logs, WORDS);
+    same("price", pennies("priced", tariff, HOKRUND_ACCEPTED), 3);
+    line("one line", 1, 1, PANES, HOKRUND_MOST_PRICE, HOKRUND_ACCEPTED);
+    line("LINE, price", 1, 1, PANES, HOKRUND_MOST_PRICE + 1, HOKRUND_REFUSED_LINE);
+    line("LINE, start", 1, 0, PANES, 0, HOKRUND_REFUSED_LINE);
+    line("LINE, end", 1, 1, PANES + 1, 0, HOKRUND_REFUSED_LINE);
+    line("LINE, end before start", 1, 2, 1, 0, HOKRUND_REFUSED_LINE);
+    line("LINE, count", HOKRUND_LINES + 1, 1, PANES, 0, HOKRUND_REFUSED_LINE);
+    line("TWO_LINES", HOKRUND_LINES, 1, PANES, 0, HOKRUND_REFUSED_TWO_LINES);
+    line("NO_LINE", HOKRUND_LINES, 2, PANES, 0, HOKRUND_REFUSED_NO_LINE);
+    line("no line", 0, 1, PANES, 0, HOKRUND_REFUSED_NO_LINE);
+}
+
 int main(void)
 {
     stack_refusals();
@@ -172,5 +216,6 @@ int main(void)
     order(HOKRUND_COATED, 3);
     level();
     tables();
+    prices();
     return differences != 0;
 }

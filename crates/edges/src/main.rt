@@ -1,9 +1,10 @@
-// Document 01's limits and refusals from outside the definitions, one a line: what the operations answer when they are run.
+// The papers' limits and refusals from outside the definitions, one a line: what the operations answer when they are run.
 mod begins;
 mod counted;
 mod forged;
 mod numbered;
 mod planned;
+mod priced;
 mod refused;
 
 fn main() {
@@ -13,4 +14,5 @@ fn main() {
     forged::lines();
     refused::lines();
     planned::lines();
+    priced::lines();
 }

@@ -2,7 +2,7 @@
 use trial::build;
 use trial::print;
 
-const TABLE: [u8; 2] = [0x90, 0xf6];
+pub const TABLE: [u8; 2] = [0x90, 0xf6];
 
 fn read(table: &[u8], i: u32) {
     let read = plan::read::read_entry(0, 3, table, i);

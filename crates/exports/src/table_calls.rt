@@ -1,14 +1,17 @@
-// Build the whole table, Read an entry, and Plan.
+// Build the whole table, Read an entry, Plan, and Price.
 ghost use mathlib.Core.Path.{_≡_};
 ghost use Rattle.search.specs.Drive.{buildOf};
 ghost use Rattle.search.specs.Plan.{planOf};
 ghost use Rattle.search.specs.Read.{readOf};
-ghost use Rattle.hokrund.specs.Mirror.{answerOf, entryReadOf, plannedOf, oneLent, twoLent};
+ghost use Rattle.tariff.specs.Price.{priceOf};
+ghost use Rattle.hokrund.specs.Mirror.{answerOf, entryReadOf, plannedOf, pricedOf, oneLent, twoLent};
 use hokrund::mirror::HokrundAnswer;
 use hokrund::mirror::HokrundEntry;
 use hokrund::mirror::HokrundPlanned;
+use hokrund::mirror::HokrundPriced;
 use hokrund::mirror::HokrundStack;
 use hokrund::table_calls;
+use tariff::Tariff;
 
 pub fn build_table(
     kind: u8,
@@ -41,4 +44,18 @@ pub fn plan(
     ensures { λ r. ⌜ (now (list .exit), r) ≡ oneLent plannedOf (planOf kind n (wanted .places) (given .places) (now (table .entry)) (now (list .entry))) ⌝ }
 {
     table_calls::hokrund_plan(kind, n, wanted, given, table, list)
+}
+
+pub fn price(
+    kind: u8,
+    n: u8,
+    wanted: HokrundStack,
+    given: HokrundStack,
+    table: &[u8],
+    list: &mut [u8],
+    tariff: Tariff,
+) -> HokrundPriced
+    ensures { λ r. ⌜ (now (list .exit), r) ≡ oneLent pricedOf (priceOf kind n (wanted .places) (given .places) (now (table .entry)) (now (list .entry)) tariff) ⌝ }
+{
+    table_calls::hokrund_price(kind, n, wanted, given, table, list, tariff)
 }

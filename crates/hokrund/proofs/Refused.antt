@@ -14,8 +14,11 @@ use Rattle.search.specs.Settle.{settleOf}
 use Rattle.search.specs.declared.Answer.{Answer}
 use Rattle.search.specs.declared.Expanded.{Expanded}
 use Rattle.search.specs.declared.Planned.{Planned}
-use Rattle.hokrund.specs.Calls.{noPhase, blankCall, expandCall, settleCall, closeCall, buildCall, planCall}
-use Rattle.hokrund.specs.Mirror.{hasPhase, jobOf, mirrorOf, answerOf, expandedOf, plannedOf, oneLent}
+use Rattle.tariff.specs.Price.{priceRefusal, priceOf}
+use Rattle.tariff.specs.declared.Priced.{Priced}
+use Rattle.tariff.specs.declared.Tariff.{Tariff}
+use Rattle.hokrund.specs.Calls.{noPhase, blankCall, expandCall, settleCall, closeCall, buildCall, planCall, priceCall}
+use Rattle.hokrund.specs.Mirror.{hasPhase, jobOf, mirrorOf, answerOf, expandedOf, plannedOf, pricedOf, oneLent}
 use Rattle.hokrund.specs.declared.mirror.HokrundAnswer.{HokrundAnswer}
 use Rattle.hokrund.specs.declared.mirror.HokrundExpanded.{HokrundExpanded}
 use Rattle.hokrund.specs.declared.mirror.HokrundJob.{HokrundJob}
@@ -78,3 +81,9 @@ module _ (kind n : ℕ) (wanted : HokrundStack) where
   unfolding planCall plannedOf planOf
   plan-keeps given table list =
       kept (λ (o : List ℕ × Planned). o .1 .refusal) (λ (o : List ℕ × Planned). o .0 ≡ list) (eqb (planRefusal kind n (wanted .places) (given .places) table (length list) 0) 0) _ _ refl (λ accepted h. absurd (h refl))
+
+  pub price-keeps : (given : HokrundStack) (table list : List ℕ) (tariff : Tariff) → (priceCall kind n wanted given table list tariff .1 .refusal ≡ 0 → ⊥)
+      → priceCall kind n wanted given table list tariff .0 ≡ list
+  unfolding priceCall pricedOf priceOf
+  price-keeps given table list tariff =
+      kept (λ (o : List ℕ × Priced). o .1 .refusal) (λ (o : List ℕ × Priced). o .0 ≡ list) (eqb (priceRefusal kind n (wanted .places) (given .places) table (length list) tariff) 0) _ _ refl (λ accepted h. absurd (h refl))

@@ -10,12 +10,15 @@ use Rattle.search.specs.Expand.{expandOf}
 use Rattle.search.specs.Look.{lookOf}
 use Rattle.search.specs.Plan.{planOf}
 use Rattle.search.specs.Settle.{settleOf}
-use Rattle.hokrund.specs.Mirror.{hasPhase, jobOf, answerOf, expandedOf, lookedAt, plannedOf, oneLent, twoLent}
+use Rattle.tariff.specs.Price.{priceOf}
+use Rattle.tariff.specs.declared.Tariff.{Tariff}
+use Rattle.hokrund.specs.Mirror.{hasPhase, jobOf, answerOf, expandedOf, lookedAt, plannedOf, pricedOf, oneLent, twoLent}
 use Rattle.hokrund.specs.declared.mirror.HokrundAnswer.{HokrundAnswer}
 use Rattle.hokrund.specs.declared.mirror.HokrundExpanded.{HokrundExpanded}
 use Rattle.hokrund.specs.declared.mirror.HokrundJob.{HokrundJob}
 use Rattle.hokrund.specs.declared.mirror.HokrundLook.{HokrundLook}
 use Rattle.hokrund.specs.declared.mirror.HokrundPlanned.{HokrundPlanned}
+use Rattle.hokrund.specs.declared.mirror.HokrundPriced.{HokrundPriced}
 use Rattle.hokrund.specs.declared.mirror.HokrundStack.{HokrundStack}
 
 abbrev pub noPhase : HokrundJob → HokrundAnswer
@@ -52,3 +55,7 @@ buildCall kind n wanted size room table log =
 unfoldable pub planCall : ℕ → ℕ → HokrundStack → HokrundStack → List ℕ → List ℕ → List ℕ × HokrundPlanned
 planCall kind n wanted given table list =
     oneLent plannedOf (planOf kind n (wanted .places) (given .places) table list)
+
+unfoldable pub priceCall : ℕ → ℕ → HokrundStack → HokrundStack → List ℕ → List ℕ → Tariff → List ℕ × HokrundPriced
+priceCall kind n wanted given table list tariff =
+    oneLent pricedOf (priceOf kind n (wanted .places) (given .places) table list tariff)

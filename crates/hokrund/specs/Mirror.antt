@@ -18,6 +18,7 @@ use Rattle.search.specs.declared.Job.{Job}
 use Rattle.search.specs.declared.Phase.{Phase}
 use Rattle.search.specs.declared.Phase.the-variants.{Blanking, Level, Finished}
 use Rattle.search.specs.declared.Planned.{Planned}
+use Rattle.tariff.specs.declared.Priced.{Priced}
 use Rattle.hokrund.specs.declared.mirror.HokrundAnswer.{HokrundAnswer}
 use Rattle.hokrund.specs.declared.mirror.HokrundEntry.{HokrundEntry}
 use Rattle.hokrund.specs.declared.mirror.HokrundExpanded.{HokrundExpanded}
@@ -25,6 +26,7 @@ use Rattle.hokrund.specs.declared.mirror.HokrundIndexed.{HokrundIndexed}
 use Rattle.hokrund.specs.declared.mirror.HokrundJob.{HokrundJob}
 use Rattle.hokrund.specs.declared.mirror.HokrundLook.{HokrundLook}
 use Rattle.hokrund.specs.declared.mirror.HokrundPlanned.{HokrundPlanned}
+use Rattle.hokrund.specs.declared.mirror.HokrundPriced.{HokrundPriced}
 use Rattle.hokrund.specs.declared.mirror.HokrundStacked.{HokrundStacked}
 
 unfoldable pub phaseNumber : Phase → ℕ
@@ -102,6 +104,9 @@ entryReadOf a = record { refusal = a .refusal; entry = a .entry }
 
 unfoldable pub plannedOf : Planned → HokrundPlanned
 plannedOf a = record { refusal = a .refusal; turns = a .turns }
+
+unfoldable pub pricedOf : Priced → HokrundPriced
+pricedOf a = record { refusal = a .refusal; turns = a .turns; pennies = a .pennies }
 
 -- what an operation leaves in one or two lent buffers, and its answer converted
 abbrev pub oneLent : {A B C : Type 0} → (B → C) → A × B → A × C

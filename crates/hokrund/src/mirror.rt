@@ -75,6 +75,13 @@ pub struct HokrundPlanned {
     pub turns: u32,
 }
 
+#[repr(C)]
+pub struct HokrundPriced {
+    pub refusal: u8,
+    pub turns: u32,
+    pub pennies: u32,
+}
+
 pub(crate) fn phase_number(phase: Phase) -> u8
     ensures { λ r. ⌜ r ≡ phaseNumber phase ⌝ }
 {

@@ -1,13 +1,15 @@
-// Build the whole table, Read an entry, and Plan.
+// Build the whole table, Read an entry, Plan, and Price.
 ghost use mathlib.Core.Path.{_≡_};
 ghost use Rattle.search.specs.Read.{readOf};
 ghost use Rattle.hokrund.specs.Mirror.{entryReadOf};
-ghost use Rattle.hokrund.specs.Calls.{buildCall, planCall};
+ghost use Rattle.hokrund.specs.Calls.{buildCall, planCall, priceCall};
 use crate::mirror;
 use crate::mirror::HokrundAnswer;
 use crate::mirror::HokrundEntry;
 use crate::mirror::HokrundPlanned;
+use crate::mirror::HokrundPriced;
 use crate::mirror::HokrundStack;
+use tariff::Tariff;
 
 #[no_mangle]
 pub extern "C" fn hokrund_build_table(
@@ -53,5 +55,27 @@ pub extern "C" fn hokrund_plan(
     HokrundPlanned {
         refusal: planned.refusal,
         turns: planned.turns,
+    }
+}
+
+#[no_mangle]
+pub extern "C" fn hokrund_price(
+    kind: u8,
+    n: u8,
+    wanted: HokrundStack,
+    given: HokrundStack,
+    table: &[u8],
+    list: &mut [u8],
+    tariff: Tariff,
+) -> HokrundPriced
+    ensures { λ r. ⌜ (now (list .exit), r) ≡ priceCall kind n wanted given (now (table .entry)) (now (list .entry)) tariff ⌝ }
+{
+    let from = given.places;
+    let to = wanted.places;
+    let priced = price::price::price(kind, n, to, from, table, list, tariff);
+    HokrundPriced {
+        refusal: priced.refusal,
+        turns: priced.turns,
+        pennies: priced.pennies,
     }
 }

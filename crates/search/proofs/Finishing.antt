@@ -42,12 +42,12 @@ pub plan-accepted : (kind n : ℕ) (wanted given : List ℤ) (table list : List 
 unfolding planOf
 plan-accepted kind n wanted given table list h = rw (eq-eqb (planRefusal kind n wanted given table (length list) 0) 0 h)
 
-plan-refused : (kind n : ℕ) (wanted given : List ℤ) (table list : List ℕ) → (planRefusal kind n wanted given table (length list) 0 ≡ 0 → ⊥)
+pub plan-refused : (kind n : ℕ) (wanted given : List ℤ) (table list : List ℕ) → (planRefusal kind n wanted given table (length list) 0 ≡ 0 → ⊥)
     → planOf kind n wanted given table list ≡ (list, record { refusal = planRefusal kind n wanted given table (length list) 0; turns = 0 })
 unfolding planOf
 plan-refused kind n wanted given table list h = rw (ne-eqb (planRefusal kind n wanted given table (length list) 0) 0 h)
 
-plan-refusal-is : (kind n : ℕ) (wanted given : List ℤ) (table list : List ℕ)
+pub plan-refusal-is : (kind n : ℕ) (wanted given : List ℤ) (table list : List ℕ)
     → planOf kind n wanted given table list .1 .refusal ≡ planRefusal kind n wanted given table (length list) 0
 plan-refusal-is kind n wanted given table list =
     names-refusal (λ o. o .1 .refusal) (planRefusal kind n wanted given table (length list) 0)

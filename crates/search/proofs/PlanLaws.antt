@@ -111,6 +111,16 @@ module _ (kind n : ℕ) (wanted given : List ℤ) (table : List ℕ) (slots : �
       let g = unless-zero plan 14 rest (f .1) in
       (record { row = f .0; plan = g .0 }, g .1)
 
+  -- what Plan refuses is refused, whatever the rest
+  pub plan-refuses : (r rest : ℕ) → r ≡ planRefusal kind n wanted given table slots 0 → (r ≡ 0 → ⊥) → r ≡ planRefusal kind n wanted given table slots rest
+  unfolding planRefusal
+  plan-refuses r rest e h = go (hasPlan kind n table wanted (turnsOf kind n) given) e
+    where
+      go : (b : Bool) → r ≡ planRow kind n wanted given (length table) slots (unless b 15 0)
+          → r ≡ planRow kind n wanted given (length table) slots (unless b 15 rest)
+      go true k = row-refuses kind n wanted given (length table) slots r rest k h
+      go false k = k
+
 -- ---- a plan in the making, whatever the table holds
 
 -- the route with one more turn

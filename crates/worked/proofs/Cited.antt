@@ -1,5 +1,5 @@
 -- The theorems that the README and the proof map name, each stated once more and proved by its name: one that is lost or says less than
--- this breaks here. whole-build and plan-arrives are used in PlainThree.
+-- this breaks here. whole-build and plan-arrives are used in PlainThree, and those on Price and tariffs in Pricing.
 use mathlib.Core.Path.{_≡_}
 use mathlib.Core.Bool.{true, false}
 use mathlib.Core.List.{List, [], _∷_, map}

@@ -3,4 +3,5 @@ pub mod Open
 pub mod Starred
 pub mod WholeTable
 pub mod PlainThree
+pub mod Pricing
 pub mod Cited

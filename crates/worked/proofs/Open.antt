@@ -1,4 +1,5 @@
--- Every definition that a worked case computes with. Who unfolds `all-open` unfolds them all, so that they are listed here alone.
+-- Every definition that a worked case computes with. Who unfolds `all-open` unfolds them all, so that they are listed here alone; but for
+-- `rounded`, which only the case of a price looks into.
 use Rattle.base.specs.Words
 use Rattle.stacks.specs.Stack
 use Rattle.stacks.specs.Index
@@ -20,6 +21,8 @@ use Rattle.search.specs.Plan
 use Rattle.search.specs.Build
 use Rattle.search.specs.Promise
 use Rattle.search.specs.Drive
+use Rattle.tariff.specs.Tariffs
+use Rattle.tariff.specs.Price
 use Rattle.worked.specs.Cases
 use Rattle.worked.specs.PlainThree
 
@@ -119,10 +122,18 @@ whole-tables : Unit {0}
 unfolding Drive.cut Drive.held Drive.buildRefusal Drive.built Drive.buildOf
 whole-tables = tt
 
+tariffs : Unit {0}
+unfolding Tariffs.tariffLines Tariffs.isLine Tariffs.covers Tariffs.linesAt Tariffs.hasLine Tariffs.hasNoSecond Tariffs.coverRefusal Tariffs.tariffRefusal Tariffs.priceAt
+tariffs = tt
+
+prices : Unit {0}
+unfolding Price.costOf Price.priceRefusal Price.priceOf
+prices = tt
+
 cases : Unit {0}
 unfolding Cases.ordered Cases.any Cases.tooLong Cases.refusals Cases.blankAll Cases.searchLevel Cases.searchLevels Cases.startOf Cases.endOf Cases.whole PlainThree.start PlainThree.early PlainThree.calls
 cases = tt
 
 unfoldable pub all-open : Unit {0}
-unfolding words stacks indexes turns operations entries segments jobs phases coherence begins blanks marks logs expands expand-runs settles looks closes plans routes builds drives whole-tables cases
+unfolding words stacks indexes turns operations entries segments jobs phases coherence begins blanks marks logs expands expand-runs settles looks closes plans routes builds drives whole-tables tariffs prices cases
 all-open = tt

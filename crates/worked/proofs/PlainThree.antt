@@ -70,7 +70,7 @@ module _ (w : World) (f : Finishes plain 3 (ordered 3) w) where
         (f .counts d (omega arith))
 
 module _ (first second : ℕ) (words : ℕ → ℕ) where
-  buffers : Buffers plain 3 4 16 (start first second words .segments) (start first second words .log)
+  pub buffers : Buffers plain 3 4 16 (start first second words .segments) (start first second words .log)
   unfolding all-open
   buffers = record { some = refl; each = each; area = refl }
     where
@@ -83,7 +83,7 @@ module _ (first second : ℕ) (words : ℕ → ℕ) where
   unfolding all-open WholeBuild
   promise = whole-build plain 3 (ordered 3) 4 16 (start first second words .segments) (start first second words .log) refl buffers
 
-  finished : isFinished (end first second words .job .phase) ≡ true
+  pub finished : isFinished (end first second words .job .phase) ≡ true
   unfolding all-open
   finished = refl
 

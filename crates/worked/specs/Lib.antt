@@ -1,5 +1,7 @@
--- What the worked cases say. Read Starred beside document 01's "At the edges", and PlainThree beside the promise of a build.
+-- What the worked cases say. Read Starred beside document 01's "At the edges", PlainThree beside the promise of a build, and Pricing beside
+-- document 02's F-1.
 pub mod Cases
 pub mod Starred
 pub mod WholeTable
 pub mod PlainThree
+pub mod Pricing

@@ -19,11 +19,14 @@ pub enum Call {
     Close { job: Job },
     ReadEntry { kind: u8, n: u8, table: Rc<Vec<u8>>, index: u32 },
     Plan { kind: u8, n: u8, wanted: Stack, given: Stack, table: Rc<Vec<u8>>, list: Vec<u8> },
+    Price { kind: u8, n: u8, wanted: Stack, given: Stack, table: Rc<Vec<u8>>, list: Vec<u8>, tariff: Tariff },
     Build { kind: u8, n: u8, wanted: Stack, size: u32, room: u32, table: Vec<u8>, logs: Vec<u32> },
 }
 
-pub const OPERATIONS: [&str; 12] =
-    ["Index", "Stack at", "Turn", "Begin", "Blank", "Expand", "Settle", "Look", "Close", "Read", "Plan", "Build"];
+pub const OPERATIONS: [&str; 13] = [
+    "Index", "Stack at", "Turn", "Begin", "Blank", "Expand", "Settle", "Look", "Close", "Read", "Plan", "Price",
+    "Build",
+];
 
 #[derive(Clone, PartialEq, Eq, Debug)]
 pub enum Answered {
@@ -34,6 +37,7 @@ pub enum Answered {
     Looked(Looked),
     Entry(Entry),
     Planned(Planned),
+    Priced(Priced),
 }
 
 impl Answered {
@@ -46,6 +50,7 @@ impl Answered {
             Answered::Looked(answer) => answer.number,
             Answered::Entry(answer) => answer.refusal,
             Answered::Planned(answer) => answer.refusal,
+            Answered::Priced(answer) => answer.refusal,
         }
     }
 
@@ -129,7 +134,8 @@ impl Call {
             Call::Close { .. } => 8,
             Call::ReadEntry { .. } => 9,
             Call::Plan { .. } => 10,
-            Call::Build { .. } => 11,
+            Call::Price { .. } => 11,
+            Call::Build { .. } => 12,
         }
     }
 
@@ -148,7 +154,7 @@ impl Call {
             Call::Expand { segment, logs, .. } | Call::Settle { segment, logs, .. } => (segment, logs, &[]),
             Call::Look { logs, .. } => (&[], logs, &[]),
             Call::Build { table, logs, .. } => (table, logs, &[]),
-            Call::Plan { list, .. } => (&[], &[], list),
+            Call::Plan { list, .. } | Call::Price { list, .. } => (&[], &[], list),
             _ => (&[], &[], &[]),
         }
     }
@@ -178,6 +184,12 @@ impl Call {
                 let list = list.slice();
                 Answered::Planned(reading(table, &mut kept_off, |table| {
                     system.plan(*kind, *n, *wanted, *given, table, list)
+                }))
+            }
+            Call::Price { kind, n, wanted, given, table, tariff, .. } => {
+                let list = list.slice();
+                Answered::Priced(reading(table, &mut kept_off, |table| {
+                    system.price(*kind, *n, *wanted, *given, table, list, tariff)
                 }))
             }
             Call::Build { kind, n, wanted, size, room, .. } => {
@@ -243,6 +255,18 @@ impl fmt::Display for Shown<'_> {
     }
 }
 
+struct Lines<'a>(&'a Tariff);
+
+impl fmt::Display for Lines<'_> {
+    fn fmt(&self, f: &mut fmt::Formatter) -> fmt::Result {
+        write!(f, "{} of [", self.0.count)?;
+        for (place, Line { first, last, price }) in self.0.lines.iter().enumerate() {
+            write!(f, "{}{first} to {last}: {price}", if place > 0 { ", " } else { "" })?;
+        }
+        write!(f, "]")
+    }
+}
+
 impl fmt::Display for Call {
     fn fmt(&self, f: &mut fmt::Formatter) -> fmt::Result {
         write!(f, "{}", OPERATIONS[self.operation()])?;
@@ -262,9 +286,14 @@ impl fmt::Display for Call {
             Call::ReadEntry { kind, n, table, index } => {
                 write!(f, " kind {kind} n {n} index {index}\n    table   {}", Runs(table))
             }
-            Call::Plan { kind, n, wanted, given, table, list } => {
+            Call::Plan { kind, n, wanted, given, table, list }
+            | Call::Price { kind, n, wanted, given, table, list, .. } => {
                 write!(f, " kind {kind} n {n} wanted {wanted:?} given {given:?}")?;
-                write!(f, "\n    table   {}\n    list    {}", Runs(table), Runs(list))
+                write!(f, "\n    table   {}\n    list    {}", Runs(table), Runs(list))?;
+                match self {
+                    Call::Price { tariff, .. } => write!(f, "\n    tariff  {}", Lines(tariff)),
+                    _ => Ok(()),
+                }
             }
             Call::Build { kind, n, wanted, size, room, table, logs } => {
                 write!(f, " kind {kind} n {n} wanted {wanted:?} size {size} room {room}")?;

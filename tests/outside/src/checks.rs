@@ -1,8 +1,9 @@
-// What any one system is held to: document 01's examples, the numbering, whole builds against the plain search,
+// What any one system is held to: the papers' examples, the numbering, whole builds against the plain search, prices against a bill,
 // published diameters. Each check says what it did, or what was wrong.
 
+use crate::bill;
 use crate::build::{ordered, size_for, Build, Fields, Order};
-use crate::cases::right_stack;
+use crate::cases::{right_stack, right_tariff};
 use crate::paper::{self, COATED, PLAIN};
 use crate::rng::Rng;
 use crate::search;
@@ -33,9 +34,9 @@ fn finished(system: &dyn System, fields: &Fields, order: Order, rng: &mut Rng) -
     Ok(build)
 }
 
-// ---- Document 01's examples
+// ---- The papers' examples
 
-// All of "At the edges", and the report's counts and plans.
+// All of document 01's "At the edges", the report's counts and plans, and document 02's price.
 pub fn examples(system: &dyn System) -> Checked {
     let mut rng = Rng::new(1);
     let mut examples = 0;
@@ -132,7 +133,14 @@ pub fn examples(system: &dyn System) -> Checked {
     check(equal("plan of 1 3 2", plan(&[1, 3, 2]), (0, vec![2, 3, 2], true)))?;
     check(equal("plan of 1 2 3", plan(&[1, 2, 3]), (0, vec![], true)))?;
     check(equal("plan of 1 1 3", plan(&[1, 1, 3]), (3, vec![], true)))?;
-    Ok(format!("{examples} examples of document 01"))
+
+    // 1,250 for sizes 1 to 2 and for size 3.
+    let tariff = Tariff::of(&[(1, 2, 1_250), (3, 3, 1_250)]);
+    let mut list = [0xee; 30];
+    let priced = system.price(PLAIN, 3, fields.wanted, stack(&[3, 1, 2]), &table, &mut list, &tariff);
+    check(equal("price of the plan 3, 2", priced, Priced { refusal: 0, turns: 2, pennies: 3 }))?;
+    check(equal("the priced plan", &list[..3], &[3, 2, 0xee]))?;
+    Ok(format!("{examples} examples of documents 01 and 02"))
 }
 
 // ---- The numbering
@@ -185,7 +193,7 @@ pub fn numbering(system: &dyn System) -> Checked {
 // ---- Whole builds
 
 // Plain 1 to 7 and coated 1 to 5, several wanted stacks, S, C and orders: entry by entry and count by count against
-// the plain search, then the plan of every stack; and Build the whole table, once for each S and C.
+// the plain search, then the plan of every stack and its price; and Build the whole table, once for each S and C.
 pub fn builds(system: &dyn System, seed: u64) -> Checked {
     let mut rng = Rng::new(seed);
     let (mut builds, mut tables, mut entries, mut plans) = (0, 0, 0, 0);
@@ -214,14 +222,15 @@ pub fn builds(system: &dyn System, seed: u64) -> Checked {
                         builds += 1;
                         entries += stacks;
                         if order == Order::Shuffled && room == 16 {
-                            plans += all_plans(system, &build, &distances)?;
+                            plans += all_plans(system, &build, &distances, &mut rng)?;
                         }
                     }
                 }
             }
         }
     }
-    Ok(format!("{builds} builds and {tables} whole tables against the plain search, {entries} entries, {plans} plans"))
+    let made = format!("{builds} builds and {tables} whole tables against the plain search");
+    Ok(format!("{made}, {entries} entries, {plans} plans, each with its price"))
 }
 
 // The table that Build the whole table makes, in buffers that hold anything.
@@ -234,19 +243,26 @@ fn whole(system: &dyn System, fields: &Fields, rng: &mut Rng) -> Result<Build, S
     Ok(Build { job: answer.job, measures, segments: vec![table], logs })
 }
 
-// The plan of every stack has the fewest turns and arrives.
-fn all_plans(system: &dyn System, build: &Build, distances: &search::Distances) -> Result<u64, String> {
+// The plan of every stack has the fewest turns and arrives. Price leaves the same list, and its pennies are the bill's.
+fn all_plans(system: &dyn System, build: &Build, distances: &search::Distances, rng: &mut Rng) -> Result<u64, String> {
     let Job { kind, n, wanted, .. } = build.job;
     let table = build.table();
     for (index, &fewest) in distances.turns.iter().enumerate() {
         let given = paper::stack_at(kind, n, index as u32);
-        let mut list = [0; 30];
+        let mut list = [0xee; 30];
+        let mut priced_list = list;
         let planned = system.plan(kind, n, wanted, given, &table, &mut list);
         let what = format!("plan of {given:?} to {wanted:?}");
         equal(&what, planned, Planned { refusal: 0, turns: u32::from(fewest) })?;
         let mut at = given;
         list[..fewest as usize].iter().for_each(|&k| search::flip(kind == COATED, &mut at[..n as usize], k as usize));
         equal(&what, at, wanted)?;
+        let tariff = right_tariff(rng, n);
+        let priced = system.price(kind, n, wanted, given, &table, &mut priced_list, &tariff);
+        let what = format!("price of {:?} by {tariff:?}", &list[..fewest as usize]);
+        equal(&what, (priced.refusal, priced.turns, priced_list), (0, planned.turns, list))?;
+        let sum = bill::sum(&tariff, &list[..fewest as usize]);
+        equal(&what, bill::is_rounded(priced.pennies, sum), true)?;
     }
     Ok(distances.turns.len() as u64)
 }

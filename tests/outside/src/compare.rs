@@ -1,8 +1,9 @@
-// Compares two systems call by call, and each answer with what document 01 says of all calls.
+// Compares two systems call by call, and each answer with what the papers say of all calls.
 
 use std::fmt;
 use std::ops::Range;
 
+use crate::bill;
 use crate::call::{Answered, Answers, Call, Outcome, OPERATIONS};
 use crate::cases::{run_case, Family};
 use crate::paper;
@@ -12,14 +13,19 @@ use crate::system::*;
 // How often each operation gave each refusal (0: did its work), and what some answers were.
 #[derive(Clone, Default)]
 pub struct Tally {
-    pub refusals: [[u64; 17]; OPERATIONS.len()],
+    pub refusals: [[u64; LAST_REFUSAL + 1]; OPERATIONS.len()],
     pub waiting: u64,
     pub waiting_at_once: u64,
     pub finished: u64,
     pub plans_by_turns: [u64; 31],
+    pub prices_by_turns: [u64; 31],
+    pub halves: u64,
+    pub twelve_lines: u64,
 }
 
-// The refusals of each operation by document 01.
+const LAST_REFUSAL: usize = 19;
+
+// The refusals of each operation by the papers.
 pub const LISTED: [&[u8]; OPERATIONS.len()] = [
     &[1, 2, 3],
     &[1, 2, 4],
@@ -32,13 +38,14 @@ pub const LISTED: [&[u8]; OPERATIONS.len()] = [
     &[7, 8, 13, 14],
     &[1, 2, 10, 4],
     &[1, 2, 3, 10, 15],
+    &[1, 2, 3, 10, 15, 17, 18, 19],
     &[1, 2, 3, 5, 6, 10],
 ];
 
 impl Tally {
     fn add(&mut self, call: &Call, outcome: &Outcome) {
         let refusal = outcome.answer.refusal();
-        self.refusals[call.operation()][refusal.min(16) as usize] += 1;
+        self.refusals[call.operation()][refusal as usize] += 1;
         match (&outcome.answer, call) {
             (Answered::Expanded(answer), Call::Expand { job, j, .. }) if answer.waits => {
                 self.waiting += 1;
@@ -48,6 +55,14 @@ impl Tally {
                 self.finished += u64::from(matches!(answer.job.phase, Phase::Finished(_)));
             }
             (Answered::Planned(planned), _) if refusal == 0 => self.plans_by_turns[planned.turns as usize] += 1,
+            (Answered::Priced(priced), Call::Price { tariff, .. }) if matches!(refusal, 0 | 18 | 19) => {
+                self.twelve_lines += u64::from(tariff.count == 12);
+                if refusal == 0 {
+                    let plan = &outcome.list[..priced.turns as usize];
+                    self.prices_by_turns[plan.len()] += 1;
+                    self.halves += u64::from(bill::sum(tariff, plan) % 1000 == 500);
+                }
+            }
             _ => {}
         }
     }
@@ -78,6 +93,10 @@ impl Tally {
             (self.finished > 0, "a finishing Close"),
             (self.plans_by_turns[0] > 0, "a plan of no turn"),
             (self.plans_by_turns[30] > 0, "a plan of 30 turns"),
+            (self.prices_by_turns[0] > 0, "a price of no turn"),
+            (self.prices_by_turns[30] > 0, "a price of 30 turns"),
+            (self.halves > 0, "a sum that ends in half a penny"),
+            (self.twelve_lines > 0, "a tariff of 12 right lines"),
         ];
         unmet.extend(others.iter().filter(|(met, _)| !met).map(|(_, what)| format!("no case had {what}")));
         unmet
@@ -108,8 +127,10 @@ impl fmt::Display for Tally {
             "  Waiting {} (at once {}), builds finished {}",
             self.waiting, self.waiting_at_once, self.finished
         )?;
-        let plans: Vec<String> = self.plans_by_turns.iter().map(u64::to_string).collect();
-        write!(f, "  plans of 0 to 30 turns: {}", plans.join(" "))
+        let by_turns = |numbers: &[u64]| numbers.iter().map(u64::to_string).collect::<Vec<String>>().join(" ");
+        writeln!(f, "  plans of 0 to 30 turns: {}", by_turns(&self.plans_by_turns))?;
+        writeln!(f, "  prices of 0 to 30 turns: {}", by_turns(&self.prices_by_turns))?;
+        write!(f, "  sums that end in half a penny {}, tariffs of 12 right lines {}", self.halves, self.twelve_lines)
     }
 }
 
@@ -152,9 +173,16 @@ pub fn compare<A: Answers + ?Sized, B: Answers + ?Sized>(
     Ok(())
 }
 
-// What document 01 says of calls in general.
+fn law(holds: bool, words: &str) -> Result<(), String> {
+    if holds {
+        Ok(())
+    } else {
+        Err(words.to_string())
+    }
+}
+
+// What the papers say of calls in general.
 fn laws(call: &Call, outcome: &Outcome) -> Result<(), String> {
-    let law = |holds: bool, words: &str| if holds { Ok(()) } else { Err(words.to_string()) };
     law(outcome.kept_off, "a write outside of what was lent for writing")?;
     let refusal = outcome.answer.refusal();
     if refusal != 0 {
@@ -170,6 +198,7 @@ fn laws(call: &Call, outcome: &Outcome) -> Result<(), String> {
             Answered::Looked(answer) => answer.len == 0,
             Answered::Entry(answer) => answer.entry == 0,
             Answered::Planned(answer) => answer.turns == 0,
+            Answered::Priced(answer) => answer.turns == 0 && answer.pennies == 0,
         };
         return law(beside, "a refusal that gave more than its number");
     }
@@ -183,14 +212,12 @@ fn laws(call: &Call, outcome: &Outcome) -> Result<(), String> {
         (Call::Turn { kind, stack, k, .. }, Answered::Stacked(answer)) => {
             law(paper::turned(*kind, &answer.stack, *k) == *stack, "a turn that does not undo itself")
         }
-        (Call::Plan { kind, n, wanted, given, list, .. }, Answered::Planned(answer)) => {
-            let turns = answer.turns as usize;
-            law(turns <= 30, "a plan of over 30 turns")?;
-            law(outcome.list[turns..] == list[turns..], "bytes past the plan that changed")?;
-            let right_turns = outcome.list[..turns].iter().all(|k| paper::turns(*kind, *n).any(|turn| turn == *k));
-            law(right_turns, "a plan with a turn that is none")?;
-            let end = outcome.list[..turns].iter().fold(*given, |at, k| paper::turned(*kind, &at, *k));
-            law(end == *wanted, "a plan that does not arrive")
+        (Call::Plan { .. }, Answered::Planned(answer)) => plan_laws(call, &outcome.list, answer.turns),
+        (Call::Price { n, tariff, .. }, Answered::Priced(answer)) => {
+            plan_laws(call, &outcome.list, answer.turns)?;
+            law(bill::covers_each_once(tariff, *n), "an accepted tariff that does not cover each size once")?;
+            let sum = bill::sum(tariff, &outcome.list[..answer.turns as usize]);
+            law(bill::is_rounded(answer.pennies, sum), "pennies that are not the sum, rounded once")
         }
         (Call::Build { kind, n, .. }, Answered::Answer(answer)) => {
             law(matches!(answer.job.phase, Phase::Finished(_)), "a whole build that is not finished")?;
@@ -199,4 +226,19 @@ fn laws(call: &Call, outcome: &Outcome) -> Result<(), String> {
         }
         _ => Ok(()),
     }
+}
+
+// What holds of an accepted plan, priced or not.
+fn plan_laws(call: &Call, after: &[u8], turns: u32) -> Result<(), String> {
+    let (Call::Plan { kind, n, wanted, given, list, .. } | Call::Price { kind, n, wanted, given, list, .. }) = call
+    else {
+        unreachable!("only plans come here")
+    };
+    law(turns <= 30, "a plan of over 30 turns")?;
+    let (plan, rest) = after.split_at(turns as usize);
+    law(*rest == list[plan.len()..], "bytes past the plan that changed")?;
+    let right_turns = plan.iter().all(|k| paper::turns(*kind, *n).any(|turn| turn == *k));
+    law(right_turns, "a plan with a turn that is none")?;
+    let end = plan.iter().fold(*given, |at, k| paper::turned(*kind, &at, *k));
+    law(end == *wanted, "a plan that does not arrive")
 }

@@ -1,4 +1,4 @@
-// Calls made on purpose, none by the chance of a seed: each limit of document 01 from both sides, each refusal of each operation, answers in
+// Calls made on purpose, none by the chance of a seed: each limit of the papers from both sides, each refusal of each operation, answers in
 // which no two numbers can be mistaken for each other, and bytes past the first mebibyte.
 
 use std::rc::Rc;
@@ -18,7 +18,7 @@ pub struct Limit {
 }
 
 // Not among the moved, as they cannot be told apart: an S of at least 3, 2 or 1, as none of these is a multiple of 4 (and with one of at
-// least 0 there is no G).
+// least 0 there is no G); 19 for size 0 or n + 1, as 17 lets no line by that has it.
 pub const LIMITS: &[Limit] = &[
     Limit {
         name: "panes of a plain stack",
@@ -135,13 +135,81 @@ pub const LIMITS: &[Limit] = &[
     },
     Limit {
         name: "the turn list",
-        calls: || [0, 29, 30, 31].map(|len| plan3(&TABLE3, [1, 3, 2], len)).into(),
+        calls: || with_prices([0, 29, 30, 31].map(|len| plan3(&TABLE3, [1, 3, 2], len))),
         moved: &[|limits| limits.least_list = 29, |limits| limits.least_list = 31],
     },
     Limit {
         name: "turns of a plan",
         calls: long_plans,
         moved: &[|limits| limits.most_turns = 29, |limits| limits.most_turns = 31],
+    },
+    Limit {
+        name: "lines of a tariff",
+        calls: line_counts,
+        moved: &[|limits| limits.most_lines = 11, |limits| limits.most_lines = 13],
+    },
+    Limit {
+        name: "a line's first size",
+        calls: || prices3(&[&[(0, 3, 1)], &[(1, 3, 1)], &[(3, 3, 1), (0, 2, 1)], &[(3, 3, 1), (1, 2, 1)]]),
+        moved: &[|limits| limits.least_first = 0, |limits| limits.least_first = 2],
+    },
+    Limit {
+        name: "a line's last size after its first",
+        calls: || {
+            prices3(&[
+                &[(1, 1, 1), (2, 3, 1)],
+                &[(1, 2, 1), (3, 3, 1)],
+                &[(1, 3, 1), (1, 0, 1)],
+                &[(1, 3, 1), (2, 1, 1)],
+                &[(1, 3, 1), (3, 2, 1)],
+                &[(3, 1, 1)],
+            ])
+        },
+        moved: &[|limits| limits.last_past_first = -1, |limits| limits.last_past_first = 1],
+    },
+    Limit {
+        name: "a line's last size up to n",
+        calls: || prices3(&[&[(1, 3, 1)], &[(1, 4, 1)], &[(1, 255, 1)], &[(3, 4, 1), (1, 2, 1)]]),
+        moved: &[|limits| limits.last_past_n = -1, |limits| limits.last_past_n = 1],
+    },
+    Limit {
+        name: "a line's price",
+        calls: line_prices,
+        moved: &[|limits| limits.most_price -= 1, |limits| limits.most_price += 1],
+    },
+    Limit {
+        name: "sizes that have no line",
+        calls: || {
+            let of_3 = prices3(&[&[(1, 3, 1)], &[(2, 3, 1)], &[(1, 1, 1), (3, 3, 1)], &[(1, 2, 1)], &[]]);
+            let of_1 = [PLAIN, COATED].into_iter().flat_map(|kind| [price1(kind, &[(1, 1, 1)]), price1(kind, &[])]);
+            of_3.into_iter().chain(of_1).collect()
+        },
+        moved: &[
+            |limits| limits.first_size[0] = 0,
+            |limits| limits.first_size[0] = 2,
+            |limits| limits.size_past_n[0] = -1,
+            |limits| limits.size_past_n[0] = 1,
+            |limits| limits.least_lines_of_size = 0,
+            |limits| limits.least_lines_of_size = 2,
+        ],
+    },
+    Limit {
+        name: "sizes that have two lines",
+        calls: || {
+            prices3(&[
+                &[(1, 3, 1)],
+                &[(1, 3, 1), (1, 1, 2)],
+                &[(1, 2, 1), (2, 3, 2)],
+                &[(1, 3, 1), (3, 3, 2)],
+                &[(2, 2, 1), (1, 3, 2), (2, 2, 1)],
+            ])
+        },
+        moved: &[
+            |limits| limits.first_size[1] = 2,
+            |limits| limits.size_past_n[1] = -1,
+            |limits| limits.most_lines_of_size = 0,
+            |limits| limits.most_lines_of_size = 2,
+        ],
     },
 ];
 
@@ -243,6 +311,40 @@ fn plan3(table: &[u8], given: [i8; 3], list: usize) -> Call {
     Call::Plan { kind: PLAIN, n: 3, wanted: ordered(3), given: stack3(given), table, list }
 }
 
+// A line's first size, last size and price.
+type Triple = (u8, u8, u32);
+
+// Plan's call as one of Price.
+fn price(plan: &Call, tariff: Tariff) -> Call {
+    match plan.clone() {
+        Call::Plan { kind, n, wanted, given, table, list } => {
+            Call::Price { kind, n, wanted, given, table, list, tariff }
+        }
+        _ => unreachable!("only plans are priced"),
+    }
+}
+
+// Prices of the plan 2, 3, 2.
+fn prices3(tariffs: &[&[Triple]]) -> Vec<Call> {
+    let plan = plan3(&TABLE3, [1, 3, 2], 30);
+    tariffs.iter().map(|lines| price(&plan, Tariff::of(lines))).collect()
+}
+
+// Each call of Plan, and after it one of Price by document 02's tariff.
+fn with_prices(plans: impl IntoIterator<Item = Call>) -> Vec<Call> {
+    let tariff = Tariff::of(&[(1, 2, 1_250), (3, 3, 1_250)]);
+    plans.into_iter().flat_map(|plan| [plan.clone(), price(&plan, tariff)]).collect()
+}
+
+// The price of one pane's plan: with its coat down it takes turn 1, plain it has no turn.
+fn price1(kind: u8, lines: &[Triple]) -> Call {
+    let (pane, entries) = if kind == COATED { (-1, 0xf4) } else { (1, 0xfc) };
+    let mut given = NO_STACK;
+    given[0] = pane;
+    let (table, list, tariff) = (Rc::new(vec![entries]), vec![0xee; 30], Tariff::of(lines));
+    Call::Price { kind, n: 1, wanted: ordered(1), given, table, list, tariff }
+}
+
 // ---- The limits
 
 // n at both ends and past them. Read comes first: of all calls it alone needs no place for one pane too many.
@@ -262,7 +364,9 @@ fn panes(kind: u8, most: u8) -> Vec<Call> {
         calls.push(Call::Turn { kind, n, stack, k: n });
         calls.push(begin(&fields));
         calls.push(Call::ReadEntry { kind, n, table: table.clone(), index });
-        calls.push(Call::Plan { kind, n, wanted: stack, given: stack, table, list: vec![0xee; 30] });
+        let plan = Call::Plan { kind, n, wanted: stack, given: stack, table, list: vec![0xee; 30] };
+        calls.push(price(&plan, Tariff::of(&[(1, n, 1)])));
+        calls.push(plan);
         calls.push(build(&fields, 0, 0));
     }
     calls
@@ -362,7 +466,7 @@ fn expand_into(waiting: u32) -> Call {
     Call::Expand { job: with_waiting(0, waiting), j: 1, segment: vec![0xfc], logs: vec![9; SMALL_LOGS] }
 }
 
-// Two stacks on a road that Plan follows turn by turn, 30 and 31 turns from the wanted one.
+// Two stacks on a road that Plan follows turn by turn, 30 and 31 turns from the wanted one; and the highest price that there is.
 fn long_plans() -> Vec<Call> {
     let fields = Fields { kind: PLAIN, n: 9, wanted: ordered(9), size: 67_108_864, room: 16 };
     let calls = |seed| {
@@ -381,7 +485,27 @@ fn long_plans() -> Vec<Call> {
         let all = |call: &Call, turns| call.run(&longer).answer == Answered::Planned(Planned { refusal: 0, turns });
         all(&calls[0], 30) && all(&calls[1], 31)
     };
-    (0..).map(calls).find(followed).expect("some road has no shorter way").into()
+    let plans = (0..).map(calls).find(followed).expect("some road has no shorter way");
+    let prices = plans.each_ref().map(|plan| price(plan, Tariff::of(&[(1, 9, 1_000_000)])));
+    plans.into_iter().chain(prices).collect()
+}
+
+// Twelve lines, a size each, and one line fewer or more counted. Only plain 12 can have them; the plan is turn 2.
+fn line_counts() -> Vec<Call> {
+    let (kind, n, wanted) = (PLAIN, 12, ordered(12));
+    let given = paper::turned(kind, &wanted, 2);
+    // Zeros are not touched until they are read, so the largest table costs nothing.
+    let mut table = vec![0; paper::bytes_of(paper::count_of_stacks(kind, n))];
+    paper::set_entry(&mut table, u64::from(paper::index(kind, n, &given)), 1);
+    let plan = Call::Plan { kind, n, wanted, given, table: Rc::new(table), list: vec![0xee; 30] };
+    let lines: Vec<Triple> = (1..=12).rev().map(|size| (size, size, 1_000 * u32::from(size))).collect();
+    [11, 12, 13, 256, 268, u32::MAX].map(|count| price(&plan, Tariff { count, ..Tariff::of(&lines) })).into()
+}
+
+// Both lines of a tariff, each at the limit and past it.
+fn line_prices() -> Vec<Call> {
+    let prices = [0, 1, 999_999, 1_000_000, 1_000_001, 1_000_002, 1 << 31, u32::MAX];
+    prices.iter().flat_map(|&of| prices3(&[&[(1, 2, of), (3, 3, 0)], &[(1, 2, 0), (3, 3, of)]])).collect()
 }
 
 // ---- Every refusal, and answers that tell
@@ -396,7 +520,9 @@ pub fn operations() -> Vec<Call> {
         settle_calls(),
         look_calls(),
         close_calls(),
-        table_calls(),
+        read_calls(),
+        plan_calls(),
+        price_calls(),
     ]
     .concat()
 }
@@ -532,12 +658,8 @@ fn close_calls() -> Vec<Call> {
     ]
 }
 
-fn table_calls() -> Vec<Call> {
+fn read_calls() -> Vec<Call> {
     let read = |kind, n, table: &[u8], index| Call::ReadEntry { kind, n, table: Rc::new(table.to_vec()), index };
-    let plan = |kind, n, wanted: [i8; 3], given: [i8; 3]| {
-        let (wanted, given) = (stack3(wanted), stack3(given));
-        Call::Plan { kind, n, wanted, given, table: Rc::new(TABLE3.into()), list: vec![0xee; 30] }
-    };
     let mut calls: Vec<Call> = (0..6).map(|index| read(PLAIN, 3, &TABLE3, index)).collect();
     calls.extend([
         read(COATED, 2, &TABLE3, 6),
@@ -546,6 +668,16 @@ fn table_calls() -> Vec<Call> {
         read(PLAIN, 3, &TABLE3[..1], 1),
         read(PLAIN, 3, &[0x90, 0xf6, 0xff], 1),
         read(PLAIN, 3, &TABLE3, 6),
+    ]);
+    calls
+}
+
+fn plan_calls() -> Vec<Call> {
+    let plan = |kind, n, wanted: [i8; 3], given: [i8; 3]| {
+        let (wanted, given) = (stack3(wanted), stack3(given));
+        Call::Plan { kind, n, wanted, given, table: Rc::new(TABLE3.into()), list: vec![0xee; 30] }
+    };
+    vec![
         plan(PLAIN, 3, [1, 2, 3], [1, 2, 3]),
         plan(PLAIN, 3, [1, 2, 3], [3, 1, 2]),
         plan(PLAIN, 3, [1, 2, 3], [1, 3, 2]),
@@ -562,8 +694,35 @@ fn table_calls() -> Vec<Call> {
         plan3(&[0x91, 0xf6], [3, 1, 2], 30),
         plan3(&[0x91, 0xf6], [1, 2, 3], 30),
         plan3(&[0xfc, 0xf6], [3, 1, 2], 30),
+    ]
+}
+
+// Every call of Plan, by a right tariff and by each wrong one: Plan's refusals come first. Then tariffs of the plan 2, 3, 2.
+fn price_calls() -> Vec<Call> {
+    let tariffs: [&[Triple]; 4] = [
+        &[(1, 2, 1_250), (3, 3, 1_250)],
+        &[(1, 2, 1_250), (3, 3, 1_000_001)],
+        &[(1, 2, 1_250)],
+        &[(1, 2, 1_250), (2, 3, 1_250)],
+    ];
+    let plans = plan_calls();
+    let of_plans = tariffs.iter().flat_map(|lines| plans.iter().map(|plan| price(plan, Tariff::of(lines))));
+    let telling = prices3(&[
+        // Sums of 6,499, 6,500, 6,501 and 7,500.
+        &[(3, 3, 4_299), (1, 2, 1_100)],
+        &[(3, 3, 4_300), (1, 2, 1_100)],
+        &[(3, 3, 4_301), (1, 2, 1_100)],
+        &[(1, 1, 9_000), (2, 2, 1_600), (3, 3, 4_300)],
+        // Size 1 has two lines and another none, with a wrong line after them and without.
+        &[(1, 1, 1), (1, 1, 1), (3, 4, 1)],
+        &[(1, 1, 1), (1, 1, 1), (3, 3, 1)],
     ]);
-    calls
+    // Past the count stand lines that would be seen.
+    let mut tariff = Tariff { lines: [Line { first: 1, last: 3, price: 7 }; 12], count: 2 };
+    tariff.lines[..2].copy_from_slice(&Tariff::of(&[(3, 3, 4_300), (1, 2, 1_100)]).lines[..2]);
+    let counted = [0, 1, 2, 3, 12, 13].map(|count| price(&plan3(&TABLE3, [1, 3, 2], 30), Tariff { count, ..tariff }));
+    let of_1 = [PLAIN, COATED].map(|kind| price1(kind, &[(1, 1, 2_500)]));
+    of_plans.chain(telling).chain(counted).chain(of_1).collect()
 }
 
 // ---- Past the first mebibyte
@@ -598,6 +757,7 @@ pub fn beyond_a_mebibyte() -> Vec<Call> {
         table: table.clone(),
         list: vec![0xee; 30],
     });
+    let prices = plans.each_ref().map(|plan| price(plan, Tariff::of(&[(1, 5, 1_100), (6, 11, 4_300)])));
     let job = job_of(&fields, Phase::Blanking);
     [
         Call::Blank { job, j: 0, segment: vec![0x24; bytes] },
@@ -607,6 +767,7 @@ pub fn beyond_a_mebibyte() -> Vec<Call> {
     .into_iter()
     .chain(entries)
     .chain(plans)
+    .chain(prices)
     .collect()
 }
 

@@ -3,7 +3,8 @@
 //
 // Not here, as it cannot be told apart: the place of the job among the parameters. It is passed in memory, so that the numbers and buffers
 // around it come in the same registers wherever it stands. Nor here, as no safe call is like them: a stack in the place of a number, which
-// moves every register between the two, and a buffer in the place of either, which makes a number an address.
+// moves every register between the two, and a buffer in the place of either or behind the tariff, which makes a number an address: Price has no
+// registers left for its buffers, so that they come in memory, as the tariff does.
 
 use std::fmt;
 use std::rc::Rc;
@@ -47,13 +48,17 @@ const EXPANDED: Struct =
 const LOOK: Struct = Struct { name: "HokrundLook", fields: &[REFUSAL, ("start", 8, 8), ("length", 8, 8)] };
 const ENTRY: Struct = Struct { name: "HokrundEntry", fields: &[REFUSAL, ("entry", 1, 1)] };
 const PLANNED: Struct = Struct { name: "HokrundPlanned", fields: &[REFUSAL, ("turns", 4, 4)] };
+const LINE: Struct = Struct { name: "HokrundLine", fields: &[("first", 1, 1), ("last", 1, 1), ("price", 4, 4)] };
+const TARIFF: Struct = Struct { name: "HokrundTariff", fields: &[("count", 4, 4), ("lines", 96, 4)] };
+const PRICED: Struct = Struct { name: "HokrundPriced", fields: &[REFUSAL, ("turns", 4, 4), ("pennies", 4, 4)] };
 
 // Every struct of more than one field that crosses the boundary.
-const STRUCTS: [&Struct; 8] = [&JOB, &INDEXED, &STACKED, &ANSWER, &EXPANDED, &LOOK, &ENTRY, &PLANNED];
+const STRUCTS: [&Struct; 11] =
+    [&JOB, &INDEXED, &STACKED, &ANSWER, &EXPANDED, &LOOK, &ENTRY, &PLANNED, &LINE, &TARIFF, &PRICED];
 
 // The parameters of each operation's export, in the sets within which two can stand in each other's place: numbers of any width, stacks,
 // buffers with their lengths, and lengths alone. Operations with one parameter of each set have no line.
-const PARAMETERS: [(&str, &[&str]); 16] = [
+const PARAMETERS: [(&str, &[&str]); 20] = [
     ("Index", &["kind", "n"]),
     ("Stack at", &["kind", "n", "index"]),
     ("Turn", &["kind", "n", "k"]),
@@ -66,14 +71,18 @@ const PARAMETERS: [(&str, &[&str]); 16] = [
     ("Plan", &["kind", "n"]),
     ("Plan", &["wanted", "given"]),
     ("Plan", &["table", "list"]),
-    ("Plan", &["length", "room"]),
+    ("Plan", &["length", "slots"]),
+    ("Price", &["kind", "n"]),
+    ("Price", &["wanted", "given"]),
+    ("Price", &["table", "list"]),
+    ("Price", &["length", "slots"]),
     ("Build", &["kind", "n", "size", "room"]),
     ("Build", &["table", "log"]),
     ("Build", &["length", "words"]),
 ];
 
 // Where each field of each struct stands, in C's own order.
-pub fn places() -> [(&'static str, Vec<usize>); 8] {
+pub fn places() -> [(&'static str, Vec<usize>); 11] {
     STRUCTS.map(|of| (of.name, of.places(&of.right_order())))
 }
 
@@ -131,6 +140,13 @@ impl Struct {
             end = places[field] + bytes;
         }
         places
+    }
+
+    // The bytes from one struct of an array to the next, by the same rule.
+    fn stride(&self, order: &[usize]) -> usize {
+        let ends = self.places(order).into_iter().zip(self.fields).map(|(place, field)| place + field.1);
+        let multiple = self.fields.iter().map(|field| field.2).max().unwrap_or(1);
+        ends.max().unwrap_or(0).next_multiple_of(multiple)
     }
 
     // The struct as one writes it who has declared it in this order; bytes between fields are 0.
@@ -199,11 +215,32 @@ fn job_read(bytes: &[u8]) -> Job {
     job_of_fields(&JOB.read(bytes, &JOB.right_order()))
 }
 
+// Each line fills its stride.
+fn bytes_of_lines(lines: &[Line]) -> Vec<u8> {
+    let fields = |line: &Line| [vec![line.first], vec![line.last], line.price.to_le_bytes().to_vec()];
+    lines.iter().flat_map(|line| LINE.written(&fields(line), &LINE.right_order())).collect()
+}
+
 impl Exchange {
-    // A job that comes in: the caller writes it by the right order, the library reads it by the wrong one.
+    // The fields of a struct that comes in: the caller writes it by the right order, the library reads it by the wrong one.
+    fn taken(&self, of: &Struct, values: &[Vec<u8>]) -> Vec<Vec<u8>> {
+        of.read(&of.written(values, &of.right_order()), &of.wrong_order(self))
+    }
+
     fn job_in(&self, job: &Job) -> Job {
-        let bytes = JOB.written(&fields_of_job(job), &JOB.right_order());
-        job_of_fields(&JOB.read(&bytes, &JOB.wrong_order(self)))
+        job_of_fields(&self.taken(&JOB, &fields_of_job(job)))
+    }
+
+    // The lines in a tariff are structs too; by the wrong order they may be longer, and reach past its end.
+    fn tariff_in(&self, tariff: &Tariff) -> Tariff {
+        let fields = self.taken(&TARIFF, &[tariff.count.to_le_bytes().to_vec(), bytes_of_lines(&tariff.lines)]);
+        let order = LINE.wrong_order(self);
+        let line = |place: usize| {
+            let bytes = fields[1].get(place * LINE.stride(&order)..).unwrap_or_default();
+            let fields = LINE.read(bytes, &order);
+            Line { first: fields[0][0], last: fields[1][0], price: number(&fields[2]) as u32 }
+        };
+        Tariff { count: number(&fields[0]) as u32, lines: std::array::from_fn(line) }
     }
 
     // A job that goes out, inside an answer: written by the wrong order, read by the right one.
@@ -254,6 +291,11 @@ impl Exchange {
                 let fields = self.out(&PLANNED, &[vec![*refusal], word(*turns)]);
                 Answered::Planned(Planned { refusal: fields[0][0], turns: number(&fields[1]) as u32 })
             }
+            Answered::Priced(Priced { refusal, turns, pennies }) => {
+                let fields = self.out(&PRICED, &[vec![*refusal], word(*turns), word(*pennies)]);
+                let (turns, pennies) = (number(&fields[1]) as u32, number(&fields[2]) as u32);
+                Answered::Priced(Priced { refusal: fields[0][0], turns, pennies })
+            }
         }
     }
 }
@@ -286,7 +328,7 @@ impl Number<'_> {
 // The number of that name, where the call has one.
 fn number_of<'a>(call: &'a mut Call, name: &str) -> Option<Number<'a>> {
     match call {
-        Call::Index { kind, n, .. } | Call::Plan { kind, n, .. } => {
+        Call::Index { kind, n, .. } | Call::Plan { kind, n, .. } | Call::Price { kind, n, .. } => {
             vec![("kind", Number::Byte(kind)), ("n", Number::Byte(n))]
         }
         Call::StackAt { kind, n, index } | Call::ReadEntry { kind, n, index, .. } => {
@@ -322,20 +364,23 @@ impl Exchange {
         match &mut taken {
             Call::Blank { job, .. } | Call::Expand { job, .. } | Call::Settle { job, .. } => *job = self.job_in(job),
             Call::Look { job, .. } | Call::Close { job } => *job = self.job_in(job),
+            Call::Price { tariff, .. } => *tariff = self.tariff_in(tariff),
             _ => {}
         }
         if self.of != OPERATIONS[call.operation()] {
             return taken;
         }
         match (self.one, &mut taken) {
-            ("wanted", Call::Plan { wanted, given, .. }) => std::mem::swap(wanted, given),
-            ("table", Call::Plan { table, list, .. }) => {
+            ("wanted", Call::Plan { wanted, given, .. } | Call::Price { wanted, given, .. }) => {
+                std::mem::swap(wanted, given)
+            }
+            ("table", Call::Plan { table, list, .. } | Call::Price { table, list, .. }) => {
                 let contents = table.to_vec();
                 *table = Rc::new(std::mem::replace(list, contents));
             }
-            ("length", Call::Plan { table, list, .. }) => {
-                let (length, room) = (table.len(), list.len());
-                *table = Rc::new(resized(table, room));
+            ("length", Call::Plan { table, list, .. } | Call::Price { table, list, .. }) => {
+                let (length, slots) = (table.len(), list.len());
+                *table = Rc::new(resized(table, slots));
                 list.resize(length, 0);
             }
             // Numbers of another width are read there: what they are is anyone's guess, how many there are is not.

@@ -1,7 +1,7 @@
 // The paper with one fault each: the comparison must catch every one, or its cases are too tame.
 
 use crate::build::{ordered, Fields};
-use crate::paper::{self, Child, Measures, COATED, PAPER};
+use crate::paper::{self, Child, Measures, Paper, COATED, PAPER, PLAIN};
 use crate::system::*;
 
 macro_rules! faults {
@@ -39,12 +39,22 @@ FAULTS {
     // Read and Plan.
     ReadBitsReversed, ReadOrderOf10And4, ReadTakesLongTable, PlanTakesLargest, PlanEndsAtZero, PlanTakes29Only, PlanTakes31,
     PlanWritesRefused, PlanClearsRest, PlanSkipsWantedEntry, PlanOrderOf3And10, PlanTakesShortList,
+    // Price: its tariff.
+    PriceTakes13Lines, PriceTakesLowByteOfCount, PriceLooksPastCount, PriceTakesFirst0, PriceTakesLastBeforeFirst,
+    PriceTakesLastPastN, PriceTakesHigherPrice, PriceSkipsSize1, PriceSkipsSize1OfPlain, PriceSkipsSizeN, PriceTakesSizeWithoutLine,
+    PriceTakesFirstLineOfTwo, PriceTakesTwoLinesOfSizeN, PriceOrderOf10And17, PriceOrderOf15And17, PriceOrderOf17And18,
+    PriceOrderOf18And19, PriceLooksAtTariffFirst, PriceLooksLineByLine, PriceLooksSizeBySize,
+    // Its sum, its rounding, and what it leaves.
+    PriceOfFirstTurn, PriceForgetsTurn30, PriceOfSizeBelow, PriceOfEachSizeOnce, PriceSumsIn16Bits, PriceSumsIn24Bits,
+    PriceRoundsEachTurn, PriceRoundsDown, PriceRoundsUp, PriceRoundsHalvesDown, PriceRoundsHalvesToEven,
+    PriceWritesRefused, PriceKeepsList, PriceClearsRest, PriceRefusedWithTurns, PriceRefusedWithPennies,
     // Build the whole table.
     BuildTakesLongTable, BuildTakesLongLog, BuildOrderOf6And10, BuildRefusedWithJob, BuildAnswersBegun, BuildKeepsTable,
     BuildWritesRefused, BuildDeepestD,
 }
 FAR_FAULTS {
     BlankStopsAtMebibyte, ExpandWrapsAtMebibyte, SettleWrapsAtMebibyte, ReadWrapsAtMebibyte, PlanStopsAtMebibyte,
+    PriceStopsAtMebibyte,
 }
 }
 
@@ -176,6 +186,92 @@ impl Faulty {
         let chosen = if self.is(Fault::ExpandNamesHighest) { full.next_back() } else { full.next() };
         chosen.map(|t| t as u32)
     }
+}
+
+impl Faulty {
+    // The paper with the limit of a tariff that the fault moves.
+    fn paper(&self, kind: u8) -> Paper {
+        let mut paper = PAPER;
+        let limits = &mut paper.limits;
+        match self.0 {
+            Fault::PriceTakes13Lines => limits.most_lines = 13,
+            Fault::PriceTakesFirst0 => limits.least_first = 0,
+            Fault::PriceTakesLastBeforeFirst => limits.last_past_first = -1,
+            Fault::PriceTakesLastPastN => limits.last_past_n = 1,
+            Fault::PriceTakesHigherPrice => limits.most_price += 1,
+            Fault::PriceSkipsSize1 => limits.first_size = [2, 2],
+            Fault::PriceSkipsSize1OfPlain if kind == PLAIN => limits.first_size = [2, 2],
+            Fault::PriceSkipsSizeN => limits.size_past_n = [-1, -1],
+            Fault::PriceTakesSizeWithoutLine => limits.least_lines_of_size = 0,
+            Fault::PriceTakesFirstLineOfTwo => limits.most_lines_of_size = 12,
+            Fault::PriceTakesTwoLinesOfSizeN => limits.size_past_n[1] = -1,
+            _ => {}
+        }
+        paper
+    }
+
+    // The tariff as the fault counts its lines.
+    fn counted(&self, tariff: &Tariff) -> Tariff {
+        let count = match self.0 {
+            Fault::PriceTakesLowByteOfCount => tariff.count % 256,
+            Fault::PriceLooksPastCount if tariff.count < 12 => 12,
+            _ => tariff.count,
+        };
+        Tariff { count, ..*tariff }
+    }
+
+    // The refusals of a tariff, given otherwise by the fault.
+    fn tariff_otherwise(&self, refusal: u8, n: u8, tariff: &Tariff) -> u8 {
+        let of_tariff = PAPER.right_lines(n, tariff).err();
+        let lines = &tariff.lines[..tariff.count.min(12) as usize];
+        let mut lines_of_sizes = (1..=n).map(|size| lines.iter().filter(|line| paper::covers(line, size)).count());
+        match (self.0, refusal) {
+            (Fault::PriceLooksAtTariffFirst, 1..) => of_tariff.unwrap_or(refusal),
+            (Fault::PriceOrderOf10And17, 10) | (Fault::PriceOrderOf15And17, 15) if of_tariff == Some(17) => 17,
+            (Fault::PriceOrderOf17And18, 17) if lines_of_sizes.any(|lines| lines == 0) => 18,
+            (Fault::PriceOrderOf18And19, 18) if lines_of_sizes.any(|lines| lines > 1) => 19,
+            (Fault::PriceLooksSizeBySize, 18) if lines_of_sizes.find(|&lines| lines != 1) > Some(1) => 19,
+            (Fault::PriceLooksLineByLine, 17) if tariff.count <= 12 => {
+                let right = lines.iter().take_while(|line| PAPER.right_line(n, line)).count();
+                let meet = |size| lines[..right].iter().filter(|line| paper::covers(line, size)).count() > 1;
+                if (1..=n).any(meet) {
+                    19
+                } else {
+                    17
+                }
+            }
+            _ => refusal,
+        }
+    }
+
+    // The pennies of a plan, as the fault counts and rounds them.
+    fn pennies(&self, plan: &[u8], lines: &[Line]) -> u32 {
+        let sum_of = |turns: &[u8]| paper::thousandths(turns, lines);
+        let sum = sum_of(plan);
+        let below: Vec<u8> = plan.iter().map(|&k| if k > 1 { k - 1 } else { k }).collect();
+        let once: Vec<u8> = (1..=12).filter(|k| plan.contains(k)).collect();
+        match self.0 {
+            Fault::PriceOfFirstTurn => paper::pennies(sum_of(&plan[..plan.len().min(1)])),
+            Fault::PriceForgetsTurn30 => paper::pennies(sum_of(&plan[..plan.len().min(29)])),
+            Fault::PriceOfSizeBelow => paper::pennies(sum_of(&below)),
+            Fault::PriceOfEachSizeOnce => paper::pennies(sum_of(&once)),
+            Fault::PriceSumsIn16Bits => paper::pennies(sum % (1 << 16)),
+            Fault::PriceSumsIn24Bits => paper::pennies(sum % (1 << 24)),
+            Fault::PriceRoundsEachTurn => plan.iter().map(|&k| paper::pennies(sum_of(&[k]))).sum(),
+            Fault::PriceRoundsDown => (sum / 1000) as u32,
+            Fault::PriceRoundsUp => sum.div_ceil(1000) as u32,
+            Fault::PriceRoundsHalvesDown => ((sum + 499) / 1000) as u32,
+            Fault::PriceRoundsHalvesToEven if sum % 2000 == 500 => (sum / 1000) as u32,
+            _ => paper::pennies(sum),
+        }
+    }
+}
+
+// A table of which nothing past the first mebibyte is seen.
+fn seen_to_mebibyte(table: &[u8]) -> Vec<u8> {
+    let mut near = table.to_vec();
+    near.iter_mut().skip(MEBIBYTE).for_each(|byte| *byte = 0xff);
+    near
 }
 
 fn clip(numbers: &mut [u32; 64], measures: Measures, most: impl Fn(u64) -> u64) {
@@ -408,12 +504,8 @@ impl System for Faulty {
         if self.is(Fault::PlanTakesShortList) && lent.len() == 29 {
             lent.push(0);
         }
-        let mut near = Vec::new();
-        if self.is(Fault::PlanStopsAtMebibyte) {
-            near.extend_from_slice(table);
-            near.iter_mut().skip(MEBIBYTE).for_each(|byte| *byte = 0xff);
-        }
-        let table = if near.is_empty() { table } else { &near };
+        let near = self.is(Fault::PlanStopsAtMebibyte).then(|| seen_to_mebibyte(table));
+        let table = near.as_deref().unwrap_or(table);
         let mut answer = PAPER.plan(kind, n, wanted, given, table, &mut lent);
         if self.is(Fault::PlanOrderOf3And10) && answer.refusal == 3 && list.len() < 30 {
             answer.refusal = 10;
@@ -455,6 +547,37 @@ impl System for Faulty {
                 list[..plan.len()].copy_from_slice(&plan);
                 answer = Planned { refusal: 0, turns: plan.len() as u32 };
             }
+            _ => {}
+        }
+        answer
+    }
+
+    fn price(
+        &self,
+        kind: u8,
+        n: u8,
+        wanted: Stack,
+        given: Stack,
+        table: &[u8],
+        list: &mut [u8],
+        tariff: &Tariff,
+    ) -> Priced {
+        let near = self.is(Fault::PriceStopsAtMebibyte).then(|| seen_to_mebibyte(table));
+        let table = near.as_deref().unwrap_or(table);
+        let before = list.to_vec();
+        let mut planned_list = list.to_vec();
+        let planned = PAPER.plan(kind, n, wanted, given, table, &mut planned_list);
+        let plan = &planned_list[..planned.turns as usize];
+        let tariff = self.counted(tariff);
+        let lines = &tariff.lines[..tariff.count.min(12) as usize];
+        let mut answer = self.paper(kind).price(kind, n, wanted, given, table, list, &tariff);
+        answer.refusal = self.tariff_otherwise(answer.refusal, n, &tariff);
+        match (self.0, answer.refusal) {
+            (Fault::PriceWritesRefused, 17..) => list.copy_from_slice(&planned_list),
+            (Fault::PriceKeepsList, 0) => list.copy_from_slice(&before),
+            (Fault::PriceClearsRest, 0) => list[plan.len()..].fill(0),
+            (Fault::PriceRefusedWithTurns, 17..) => answer.turns = planned.turns,
+            (_, 0) | (Fault::PriceRefusedWithPennies, 17..) => answer.pennies = self.pennies(plan, lines),
             _ => {}
         }
         answer

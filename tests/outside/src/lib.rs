@@ -1,6 +1,7 @@
 // The parts of the outside tests, as a library that the benchmark uses too.
 #![deny(unsafe_code)]
 
+pub mod bill;
 pub mod build;
 pub mod call;
 pub mod cases;

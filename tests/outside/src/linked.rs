@@ -72,6 +72,27 @@ struct CPlanned {
     turns: u32,
 }
 
+#[derive(Clone, Copy)]
+#[repr(C)]
+struct CLine {
+    first: u8,
+    last: u8,
+    price: u32,
+}
+
+#[repr(C)]
+struct CTariff {
+    count: u32,
+    lines: [CLine; 12],
+}
+
+#[repr(C)]
+struct CPriced {
+    refusal: u8,
+    turns: u32,
+    pennies: u32,
+}
+
 // The bytes of the job as it crosses the boundary.
 pub const JOB_BYTES: usize = size_of::<CJob>();
 
@@ -82,10 +103,13 @@ const _: () = {
     assert!(size_of::<CIndexed>() == 8 && size_of::<CStacked>() == 13 && size_of::<CAnswer>() == 800);
     assert!(size_of::<CExpanded>() == 800 && offset_of!(CExpanded, on) == 4 && offset_of!(CExpanded, job) == 8);
     assert!(size_of::<CLook>() == 24 && size_of::<CEntry>() == 2 && size_of::<CPlanned>() == 8);
+    assert!(size_of::<CLine>() == 8 && offset_of!(CLine, last) == 1 && offset_of!(CLine, price) == 4);
+    assert!(size_of::<CTariff>() == 100 && offset_of!(CTariff, lines) == 4);
+    assert!(size_of::<CPriced>() == 12 && offset_of!(CPriced, turns) == 4 && offset_of!(CPriced, pennies) == 8);
 };
 
 // Where each field of each struct stands.
-pub fn places() -> [(&'static str, Vec<usize>); 8] {
+pub fn places() -> [(&'static str, Vec<usize>); 11] {
     macro_rules! places {
         ($of:ty: $($field:ident)*) => { vec![$(offset_of!($of, $field)),*] };
     }
@@ -98,6 +122,9 @@ pub fn places() -> [(&'static str, Vec<usize>); 8] {
         ("HokrundLook", places!(CLook: refusal start length)),
         ("HokrundEntry", places!(CEntry: refusal entry)),
         ("HokrundPlanned", places!(CPlanned: refusal turns)),
+        ("HokrundLine", places!(CLine: first last price)),
+        ("HokrundTariff", places!(CTariff: count lines)),
+        ("HokrundPriced", places!(CPriced: refusal turns pennies)),
     ]
 }
 
@@ -121,8 +148,20 @@ extern "C" {
         table: *const u8,
         length: usize,
         list: *mut u8,
-        room: usize,
+        slots: usize,
     ) -> CPlanned;
+    #[allow(clippy::too_many_arguments)]
+    fn hokrund_price(
+        kind: u8,
+        n: u8,
+        wanted: CStack,
+        given: CStack,
+        table: *const u8,
+        length: usize,
+        list: *mut u8,
+        slots: usize,
+        tariff: CTariff,
+    ) -> CPriced;
     #[allow(clippy::too_many_arguments)]
     fn hokrund_build_table(
         kind: u8,
@@ -165,6 +204,11 @@ fn job(mirror: CJob) -> Job {
         waiting: mirror.waiting,
         counts: mirror.counts,
     }
+}
+
+fn tariff(tariff: &Tariff) -> CTariff {
+    let line = |Line { first, last, price }| CLine { first, last, price };
+    CTariff { count: tariff.count, lines: tariff.lines.map(line) }
 }
 
 fn answer(a: CAnswer) -> Answer {
@@ -234,6 +278,23 @@ impl System for Library {
         let r =
             unsafe { hokrund_plan(kind, n, wanted, given, table.as_ptr(), table.len(), list.as_mut_ptr(), list.len()) };
         Planned { refusal: r.refusal, turns: r.turns }
+    }
+
+    fn price(
+        &self,
+        kind: u8,
+        n: u8,
+        wanted: Stack,
+        given: Stack,
+        table: &[u8],
+        list: &mut [u8],
+        tariff: &Tariff,
+    ) -> Priced {
+        let (wanted, given, tariff) = (CStack { places: wanted }, CStack { places: given }, self::tariff(tariff));
+        let (length, slots) = (table.len(), list.len());
+        let r =
+            unsafe { hokrund_price(kind, n, wanted, given, table.as_ptr(), length, list.as_mut_ptr(), slots, tariff) };
+        Priced { refusal: r.refusal, turns: r.turns, pennies: r.pennies }
     }
 
     fn build_table(

@@ -1,4 +1,4 @@
-// Document 01's operations, written from the paper alone: clear rather than fast, total on any arguments.
+// The operations of documents 01 and 02, written from the papers alone: clear rather than fast, total on any arguments.
 
 use crate::system::*;
 
@@ -6,7 +6,8 @@ pub const PLAIN: u8 = 0;
 pub const COATED: u8 = 1;
 pub const UNSEEN: u8 = 3;
 
-// Document 01's limits, so that the tests can move each one. A `past` is how far a limit lies past n, N, G, m, C or the free places of a log.
+// The papers' limits, so that the tests can move each one. A `past` is how far a limit lies past n, N, G, m, C, the free places of a log or a
+// line's first size.
 #[derive(Clone, Copy)]
 pub struct Limits {
     pub least_panes: u8,
@@ -37,6 +38,17 @@ pub struct Limits {
     pub falling_past_free: i64,
     pub most_turns: usize,
     pub least_list: usize,
+    // Of a tariff and of each line in it.
+    pub most_lines: u32,
+    pub least_first: u8,
+    pub last_past_first: i8,
+    pub last_past_n: i8,
+    pub most_price: u32,
+    // The sizes that 18 and 19 look at, and the lines that each may have.
+    pub first_size: [u8; 2],
+    pub size_past_n: [i8; 2],
+    pub least_lines_of_size: usize,
+    pub most_lines_of_size: usize,
 }
 
 const LIMITS: Limits = Limits {
@@ -66,9 +78,18 @@ const LIMITS: Limits = Limits {
     falling_past_free: 0,
     most_turns: 30,
     least_list: 30,
+    most_lines: 12,
+    least_first: 1,
+    last_past_first: 0,
+    last_past_n: 0,
+    most_price: 1_000_000,
+    first_size: [1, 1],
+    size_past_n: [0, 0],
+    least_lines_of_size: 1,
+    most_lines_of_size: 1,
 };
 
-// Document 01 as a system.
+// The papers as a system.
 #[derive(Clone, Copy)]
 pub struct Paper {
     pub limits: Limits,
@@ -296,6 +317,48 @@ fn level_of(job: &Job) -> Result<u8, u8> {
     }
 }
 
+// ---- The tariff
+
+pub fn covers(line: &Line, size: u8) -> bool {
+    (line.first..=line.last).contains(&size)
+}
+
+// The sum over some turns of the price of the line that covers each, in thousandths of a penny.
+pub fn thousandths(turns: &[u8], lines: &[Line]) -> u64 {
+    // Only a moved limit leaves a turn without a line.
+    let price = |k: &u8| lines.iter().find(|line| covers(line, *k)).map_or(0, |line| u64::from(line.price));
+    turns.iter().map(price).sum()
+}
+
+// Rounded to the penny, halves up.
+pub fn pennies(thousandths: u64) -> u32 {
+    ((thousandths + 500) / 1000) as u32
+}
+
+impl Paper {
+    pub fn right_line(&self, n: u8, line: &Line) -> bool {
+        let limits = &self.limits;
+        line.first >= limits.least_first
+            && line.last >= line.first.saturating_add_signed(limits.last_past_first)
+            && line.last <= n.saturating_add_signed(limits.last_past_n)
+            && line.price <= limits.most_price
+    }
+
+    // The lines of a tariff for n panes, right and covering each size once.
+    pub fn right_lines<'a>(&self, n: u8, tariff: &'a Tariff) -> Result<&'a [Line], u8> {
+        let limits = &self.limits;
+        refuse(17, tariff.count > limits.most_lines)?;
+        // A moved limit may count more lines than there are places.
+        let lines = &tariff.lines[..tariff.count.min(12) as usize];
+        refuse(17, !lines.iter().all(|line| self.right_line(n, line)))?;
+        let sizes = |of: usize| limits.first_size[of]..=n.saturating_add_signed(limits.size_past_n[of]);
+        let lines_of = |size| lines.iter().filter(|line| covers(line, size)).count();
+        refuse(18, sizes(0).any(|size| lines_of(size) < limits.least_lines_of_size))?;
+        refuse(19, sizes(1).any(|size| lines_of(size) > limits.most_lines_of_size))?;
+        Ok(lines)
+    }
+}
+
 // ---- Operations, each with its refusals in order
 
 impl Paper {
@@ -469,6 +532,37 @@ impl Paper {
         list[..plan.len()].copy_from_slice(&plan);
         Ok(plan.len() as u32)
     }
+
+    // The pennies of a plan.
+    fn try_price(&self, n: u8, plan: &[u8], tariff: &Tariff) -> Result<u32, u8> {
+        let lines = self.right_lines(n, tariff)?;
+        Ok(pennies(thousandths(plan, lines)))
+    }
+
+    // Price, with the plan of any system's Plan: its refusals come first.
+    #[allow(clippy::too_many_arguments)]
+    pub fn price_by<S: System + ?Sized>(
+        &self,
+        system: &S,
+        kind: u8,
+        n: u8,
+        wanted: Stack,
+        given: Stack,
+        table: &[u8],
+        list: &mut [u8],
+        tariff: &Tariff,
+    ) -> Priced {
+        let mut planned_list = list.to_vec();
+        let Planned { refusal, turns } = system.plan(kind, n, wanted, given, table, &mut planned_list);
+        let plan = &planned_list[..turns as usize];
+        match refuse(refusal, refusal != 0).and_then(|()| self.try_price(n, plan, tariff)) {
+            Ok(pennies) => {
+                list.copy_from_slice(&planned_list);
+                Priced { refusal: 0, turns, pennies }
+            }
+            Err(refusal) => Priced { refusal, turns: 0, pennies: 0 },
+        }
+    }
 }
 
 // Where a child falls.
@@ -560,5 +654,18 @@ impl System for Paper {
             Ok(turns) => Planned { refusal: 0, turns },
             Err(refusal) => Planned { refusal, turns: 0 },
         }
+    }
+
+    fn price(
+        &self,
+        kind: u8,
+        n: u8,
+        wanted: Stack,
+        given: Stack,
+        table: &[u8],
+        list: &mut [u8],
+        tariff: &Tariff,
+    ) -> Priced {
+        self.price_by(self, kind, n, wanted, given, table, list, tariff)
     }
 }

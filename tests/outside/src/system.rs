@@ -1,6 +1,7 @@
-// The job and the answers as types, and the trait that each implementation of document 01's operations fills.
+// The job, the tariff and the answers as types, and the trait that each implementation of the papers' operations fills.
 
 use crate::build::{self, Fields};
+use crate::paper::PAPER;
 
 // A stack travels as twelve signed places, top first, unused places zero.
 pub type Stack = [i8; 12];
@@ -64,8 +65,36 @@ pub const NO_JOB: Job = Job {
     counts: [0; 32],
 };
 
+// A line of a tariff: a turn of a group of first to last panes costs price, in thousandths of a penny.
+#[derive(Clone, Copy, PartialEq, Eq, Debug)]
+pub struct Line {
+    pub first: u8,
+    pub last: u8,
+    pub price: u32,
+}
+
+pub const NO_LINE: Line = Line { first: 0, last: 0, price: 0 };
+
+// Document 02's tariff is the first count lines; what stands in the other places does not matter.
+#[derive(Clone, Copy, PartialEq, Eq, Debug)]
+pub struct Tariff {
+    pub count: u32,
+    pub lines: [Line; 12],
+}
+
+impl Tariff {
+    // The first size, the last one and the price of each line. Lines past the twelfth are counted only; NO_LINE fills the other places.
+    pub fn of(lines: &[(u8, u8, u32)]) -> Tariff {
+        let mut tariff = Tariff { count: lines.len() as u32, lines: [NO_LINE; 12] };
+        for (place, &(first, last, price)) in tariff.lines.iter_mut().zip(lines) {
+            *place = Line { first, last, price };
+        }
+        tariff
+    }
+}
+
 // In each answer, refusal is the refusal's number, and 0 where the call did its work.
-// What stands beside a refusal: index 0, NO_STACK, the job as given (NO_JOB from Begin and Build), false and 0, entry 0, no turns.
+// What stands beside a refusal: index 0, NO_STACK, the job as given (NO_JOB from Begin and Build), false and 0, entry 0, no turns, no pennies.
 #[derive(Clone, Copy, PartialEq, Eq, Debug)]
 pub struct Indexed {
     pub refusal: u8,
@@ -113,7 +142,14 @@ pub struct Planned {
     pub turns: u32,
 }
 
-// Document 01's operations. Every argument may hold any value.
+#[derive(Clone, Copy, PartialEq, Eq, Debug)]
+pub struct Priced {
+    pub refusal: u8,
+    pub turns: u32,
+    pub pennies: u32,
+}
+
+// The operations of documents 01 and 02. Every argument may hold any value.
 pub trait System {
     fn index_of_stack(&self, kind: u8, n: u8, stack: Stack) -> Indexed;
     fn stack_at_index(&self, kind: u8, n: u8, index: u32) -> Stacked;
@@ -126,6 +162,21 @@ pub trait System {
     fn close(&self, job: &Job) -> Answer;
     fn read_entry(&self, kind: u8, n: u8, table: &[u8], index: u32) -> Entry;
     fn plan(&self, kind: u8, n: u8, wanted: Stack, given: Stack, table: &[u8], list: &mut [u8]) -> Planned;
+
+    // Price. Unless a system has a call for it, the paper prices the plan that the system makes.
+    #[allow(clippy::too_many_arguments)]
+    fn price(
+        &self,
+        kind: u8,
+        n: u8,
+        wanted: Stack,
+        given: Stack,
+        table: &[u8],
+        list: &mut [u8],
+        tariff: &Tariff,
+    ) -> Priced {
+        PAPER.price_by(self, kind, n, wanted, given, table, list, tariff)
+    }
 
     // Build the whole table. Unless a system has a call for it, it makes its own calls, in rising order; the order shows in the log area alone.
     #[allow(clippy::too_many_arguments)]

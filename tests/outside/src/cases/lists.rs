@@ -1,4 +1,4 @@
-// Whole random call lists to the end of a build, against the plain search, and plans from the finished table.
+// Whole random call lists to the end of a build, against the plain search, and plans and prices from the finished table.
 
 use std::rc::Rc;
 

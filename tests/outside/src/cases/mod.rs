@@ -9,10 +9,12 @@ mod large;
 mod lists;
 mod stacks;
 mod tables;
+mod tariffs;
 mod whole;
 
 pub use arguments::right_stack;
 pub use tables::walked;
+pub use tariffs::right_tariff;
 
 #[derive(Clone, Copy, PartialEq, Debug)]
 pub enum Family {
@@ -20,9 +22,9 @@ pub enum Family {
     Stacks,
     // Single calls on jobs of every sort.
     Calls,
-    // Read and Plan on right, spoilt and random tables.
+    // Read, Plan and Price on right, spoilt and random tables.
     Tables,
-    // Whole random call lists to the end of a build, then plans.
+    // Whole random call lists to the end of a build, then plans and prices.
     Lists,
     // Large n: high indices, long segments and tables.
     Large,

@@ -1,8 +1,9 @@
-// Read and Plan on right tables, spoilt ones, random bytes, and tables with one long road.
+// Read, Plan and Price on right tables, spoilt ones, random bytes, and tables with one long road.
 
 use std::rc::Rc;
 
 use super::arguments::*;
+use super::tariffs::*;
 use super::Check;
 use crate::build::Fields;
 use crate::call::{Answered, Call};
@@ -44,7 +45,7 @@ pub fn case(rng: &mut Rng, check: &mut Check) -> Result<(), String> {
     table_calls(rng, check, &fields, Rc::new(table), given, 12)
 }
 
-// A plan over a finished table has the fewest turns.
+// A plan over a finished table has the fewest turns, priced or not, and its price does not go by the order of the lines.
 pub fn plan_is_shortest(
     rng: &mut Rng,
     check: &mut Check,
@@ -55,12 +56,22 @@ pub fn plan_is_shortest(
 ) -> Result<(), String> {
     let len = rng.between(30, 40) as usize;
     let Fields { kind, n, wanted, .. } = *fields;
-    let outcome = check(Call::Plan { kind, n, wanted, given, table: table.clone(), list: rng.bytes(len) })?;
+    let list = rng.bytes(len);
+    let planned = check(Call::Plan { kind, n, wanted, given, table: table.clone(), list: list.clone() })?;
+    let tariff = right_tariff(rng, n);
+    let mut price =
+        |tariff| check(Call::Price { kind, n, wanted, given, table: table.clone(), list: list.clone(), tariff });
+    let (priced, again) = (price(tariff)?, price(rearranged(rng, &tariff))?);
     let fewest = u32::from(distances.of(&given[..n as usize]));
-    match outcome.answer {
-        Answered::Planned(Planned { refusal: 0, turns }) if turns == fewest => Ok(()),
-        answer => Err(format!("{answer:?} for {fewest} turns: {fields:?} given {given:?}")),
+    let shortest = |answer: &Answered| match answer {
+        Answered::Planned(Planned { refusal: 0, turns }) => *turns == fewest,
+        Answered::Priced(Priced { refusal: 0, turns, .. }) => *turns == fewest,
+        _ => false,
+    };
+    if shortest(&planned.answer) && shortest(&priced.answer) && priced.list == planned.list && again == priced {
+        return Ok(());
     }
+    Err(format!("{planned}, {priced}, again {again} for {fewest} turns: {fields:?} given {given:?} {tariff:?}"))
 }
 
 // The two-bit table of these distances.
@@ -97,7 +108,7 @@ pub fn walked(rng: &mut Rng, fields: &Fields, long: u64, table: &mut [u8]) -> Ve
     seen
 }
 
-// Read and Plan on one table, with each argument hostile now and then.
+// Read, Plan and Price on one table, with each argument hostile now and then.
 pub fn table_calls(
     rng: &mut Rng,
     check: &mut Check,
@@ -122,7 +133,7 @@ pub fn table_calls(
         } else {
             table.clone()
         };
-        if rng.chance(30) {
+        if rng.chance(25) {
             let index = match rng.below(5) {
                 0 => rng.pick(&[0, stacks as u32 - 1, stacks as u32, (stacks as u32).wrapping_add(1), u32::MAX]),
                 _ => rng.below(stacks) as u32,
@@ -135,7 +146,12 @@ pub fn table_calls(
                 _ => any_stack(rng, kind, n),
             };
             let len = if rng.chance(90) { rng.between(30, 33) } else { rng.pick(&[0, 1, 29, 29, 29, 300]) };
-            check(Call::Plan { kind, n, wanted, given, table, list: rng.bytes(len as usize) })?;
+            let list = rng.bytes(len as usize);
+            if rng.chance(50) {
+                check(Call::Plan { kind, n, wanted, given, table, list })?;
+            } else {
+                check(Call::Price { kind, n, wanted, given, table, list, tariff: any_tariff(rng, n) })?;
+            }
         }
     }
     Ok(())

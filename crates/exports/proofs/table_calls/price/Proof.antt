@@ -1,0 +1,18 @@
+-- `exports::table_calls::price` meets its contract: what the export states.
+use Rattle.hokrund.specs.Calls.{priceCall}
+use borrow.Author.Needs.{needs}
+use Rattle.exports.proofs.table_calls.price.Statement.{statement}
+use Rattle.exports.proofs.table_calls.price.Tie as tie
+
+hokrund-price-requires : tie.Need-hokrund-price-requires
+hokrund-price-requires c κs = search needs
+
+same-length : tie.Need-same-length
+same-length c = search needs
+
+returns : tie.Need-returns
+unfolding priceCall
+returns c = c .before .before .hokrund-price .ensures
+
+pub price-spec : {M : Type 1} → statement M
+price-spec = tie.close (tie.spec hokrund-price-requires same-length returns)

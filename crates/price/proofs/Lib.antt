@@ -1,0 +1,3 @@
+-- What the code of Price is proved with.
+pub mod Scans
+pub mod Answers

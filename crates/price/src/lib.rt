@@ -1,0 +1,4 @@
+// Code: Price.
+mod lines;
+pub mod price;
+mod rounding;
