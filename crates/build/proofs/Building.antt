@@ -9,8 +9,8 @@ use lib.ListN.{length, replicate}
 use borrow.Author.Tests.{ne-eqb}
 use Rattle.search.specs.Begin.{begun, beginOf}
 use Rattle.search.specs.Build.{World}
-use Rattle.search.specs.Drive.{held, laid, buildRefusal, built, buildOf}
-use Rattle.search.specs.JobState.{beginRefusal, isFinished}
+use Rattle.search.specs.Drive.{hasEnded, held, laid, buildRefusal, built, buildOf}
+use Rattle.search.specs.JobState.{beginRefusal}
 use Rattle.stacks.specs.Stack.{stackPlaces}
 use Rattle.search.specs.Promise.{rightWords}
 use Rattle.search.specs.Segments.{joined}
@@ -78,8 +78,8 @@ module _ (kind n : ℕ) (wanted : List ℤ) (S C : ℕ) (table₀ log₀ : List 
         ∙ ap (λ (x : ℕ). answered (eqb x 0) x end) e
 
     module _ (h : r ≡ 0) {job : Job} {table log : List ℕ} (driving : Driving kind n wanted S C table₀ log₀ job table log) where
-      pub build-ends : isFinished (job .phase) ≡ true → (table, log, record { refusal = 0; job = job }) ≡ buildOf kind n wanted S C table₀ log₀
+      pub build-ends : hasEnded job ≡ true → (table, log, record { refusal = 0; job = job }) ≡ buildOf kind n wanted S C table₀ log₀
       unfolding buildOf laid
-      build-ends finished =
-          ap (λ (t : List ℕ × List ℕ × Job). (t .0, t .1, record { refusal = 0; job = t .2 })) (sym (driving-ends driving finished))
+      build-ends end =
+          ap (λ (t : List ℕ × List ℕ × Job). (t .0, t .1, record { refusal = 0; job = t .2 })) (sym (driving-ends driving end))
           ∙ ap (λ (x : ℕ). answered (eqb x 0) x (built kind n wanted S C table₀ log₀)) (sym h ∙ e)

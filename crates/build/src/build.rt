@@ -1,9 +1,9 @@
 // Build the whole table.
 ghost use mathlib.Core.Path.{_≡_};
 ghost use Rattle.search.specs.Begin.{beginOf};
-ghost use Rattle.search.specs.Drive.{buildRefusal, buildOf};
-ghost use Rattle.search.specs.JobState.{isFinished};
+ghost use Rattle.search.specs.Drive.{hasEnded, buildRefusal, buildOf};
 use crate::advance;
+use calls::close;
 use job::begin;
 use job::coherence;
 use job::phase;
@@ -47,11 +47,15 @@ fn begun_job(kind: u8, n: u8, wanted: [i8; PLACES], size: u32, room: u32) -> Job
     begun.job
 }
 
-fn has_finished(job: Job) -> bool
-    ensures { λ r. ⌜ r ≡ isFinished (job .phase) ⌝ }
+// It has finished, or there is no level after the last.
+fn has_ended(job: Job) -> bool
+    ensures { λ r. ⌜ r ≡ hasEnded job ⌝ }
 {
     let phase = job.phase;
-    phase::is_finished(phase)
+    if phase::is_finished(phase) {
+        return true;
+    }
+    close::close_refusal(job) == 14
 }
 
 // A build from Begin to its end, in a table and a log area of the right lengths. Refused, both are as they were, and the job is one of zeros.
@@ -72,7 +76,7 @@ pub fn build_table(
         return Answer { refusal, job: none };
     }
     let mut job = begun_job(kind, n, wanted, size, room);
-    while !has_finished(job) {
+    while !has_ended(job) {
         job = advance::advance(job, table, log);
     }
     Answer { refusal: 0, job }

@@ -64,7 +64,7 @@ fn is_past_last(phase: Phase, counts: [u64; COUNT_PLACES]) -> bool
     counts[LAST_LEVEL as usize] != 0
 }
 
-fn close_refusal(job: Job) -> u8
+pub fn close_refusal(job: Job) -> u8
     ensures { λ r. ⌜ r ≡ closeRefusal job ⌝ }
 {
     if !coherence::is_coherent(job) {

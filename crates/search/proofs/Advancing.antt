@@ -1,7 +1,7 @@
 -- Where a build has not finished, some call carries it on and leaves less to do.
 use mathlib.Core.Path.{_≡_, refl, sym, ap, _∙_, subst}
 use mathlib.Core.Logic.{_⊎_, inl, inr}
-use mathlib.Core.Bool.{Bool, true, false, cond}
+use mathlib.Core.Bool.{Bool, true, false, _||_, cond}
 use mathlib.Core.List.{List, []}
 use Prim.Native.Nat.{ℕ, suc, _+_, _-_, _*_, _≤_, _<_}
 use native.Mathlib.Nat.{suc-mul, mul-le-mul-right}
@@ -9,18 +9,19 @@ use native.Mathlib.Omega.{arith}
 use lib.Dec.{ltb, eqb}
 use lib.ListN.{length, getD, set}
 use lib.Seq.{getD-set-same, getD-set-other}
-use borrow.Author.Tests.{ltb-true, ltb-false, lt-ltb, eq-eqb}
+use borrow.Author.Tests.{eqb-true, ltb-true, ltb-false, lt-ltb, eq-eqb}
 use Rattle.base.specs.Words.{all, tally, from}
 use Rattle.base.proofs.Counting.{at-all, below-all}
-use Rattle.base.proofs.Tests.{and-both, never, lt-or-ge, eq-or-ne}
+use Rattle.base.proofs.Tests.{and-both, test-cases, not-is-false, never, lt-or-ge, eq-or-ne}
 use Rattle.graph.proofs.Tally.{tally-some, tally-zero}
 use Rattle.stacks.specs.Stack.{stackPlaces}
 use Rattle.search.specs.Blank.{blankRefusal}
 use Rattle.search.specs.Build.{World, Call, CarriesOn, own, doBlank, doExpand, doSettle, doClose, lent, kept, isOwn, isLentOwn, outcome, passes, empties, changes}
-use Rattle.search.specs.Close.{isDone, isReady, closeRefusal, nextPhase, closed}
+use Rattle.search.specs.Close.{isDone, isReady, isPastLast, closeRefusal, nextPhase, closed}
+use Rattle.search.specs.Drive.{hasEnded}
 use Rattle.search.specs.Entries.{bytesFor}
 use Rattle.search.specs.Expand.{childrenOf, expandRefusal, expansion, expandedJob, expandOf}
-use Rattle.search.specs.JobState.{isBlanking, isLevel, isFinished, levelOf, lastLevel, segmentCountOf, stackCountAt, movesOf, passedOf, waitingOf, progressed}
+use Rattle.search.specs.JobState.{isCoherent, isBlanking, isLevel, isFinished, levelOf, lastLevel, segmentCountOf, stackCountAt, movesOf, passedOf, waitingOf, progressed}
 use Rattle.search.specs.Promise.{Continues}
 use Rattle.search.specs.Settle.{settleRefusal, settleOf}
 use Rattle.search.specs.Logs.{logPart, pending}
@@ -33,7 +34,7 @@ use Rattle.search.proofs.Accepted.{LevelFacts, facts-blank, facts-expan
 use Rattle.search.proofs.BlankKeeps.{blankedWorld, blank-world, passed-here, passed-elsewhere}
 use Rattle.search.proofs.BuildCoherent.{invariant-coherent}
 use Rattle.search.proofs.Children.{children-length}
-use Rattle.search.proofs.CloseKeeps.{closedWorld, close-world, never-past}
+use Rattle.search.proofs.CloseKeeps.{closedWorld, close-world}
 use Rattle.search.proofs.Coherence.{coherent-facts}
 use Rattle.search.proofs.ExpandCases.{room-lacks, falling-le}
 use Rattle.search.proofs.ExpandLaws.{MustWait, expand-passes, expand-waits}
@@ -51,6 +52,44 @@ some-or-none p n = go (eq-or-ne (tally p (from 0 n)) 0)
     go : (tally p (from 0 n) ≡ 0) ⊎ (tally p (from 0 n) ≡ 0 → ⊥) → ((i : ℕ) × (i < n) × (p i ≡ true)) ⊎ ((i : ℕ) → i < n → p i ≡ false)
     go (inl e) = inr (tally-zero p n e)
     go (inr ne) = inl (tally-some p n (omega arith))
+
+-- where a build has not ended, it has not finished, and Close does not say 14
+module _ (job : Job) where
+  pub ended-cases : hasEnded job ≡ true → (isFinished (job .phase) ≡ true) ⊎ (closeRefusal job ≡ 14)
+  unfolding hasEnded
+  ended-cases h = go (isFinished (job .phase)) h
+    where
+      go : (t : Bool) → (t || eqb (closeRefusal job) 14) ≡ true → (t ≡ true) ⊎ (closeRefusal job ≡ 14)
+      go true e = inl refl
+      go false e = inr (eqb-true (closeRefusal job) 14 e)
+
+  pub finished-ended : isFinished (job .phase) ≡ true → hasEnded job ≡ true
+  unfolding hasEnded
+  finished-ended h = ap (λ (t : Bool). t || eqb (closeRefusal job) 14) h
+
+  pub unfinished-ended : isFinished (job .phase) ≡ false → eqb (closeRefusal job) 14 ≡ hasEnded job
+  unfolding hasEnded
+  unfinished-ended h = ap (λ (t : Bool). t || eqb (closeRefusal job) 14) (sym h)
+
+  refused-ended : closeRefusal job ≡ 14 → hasEnded job ≡ true
+  unfolding hasEnded
+  refused-ended h = go (isFinished (job .phase))
+    where
+      go : (t : Bool) → (t || eqb (closeRefusal job) 14) ≡ true
+      go true = refl
+      go false = eq-eqb (closeRefusal job) 14 h
+
+  module _ (on : hasEnded job ≡ false) where
+    pub on-unfinished : isFinished (job .phase) ≡ false
+    on-unfinished = not-is-false (isFinished (job .phase)) (λ e. never (finished-ended e) on)
+
+    pub on-14 : closeRefusal job ≡ 14 → ⊥
+    on-14 h = never (refused-ended h) on
+
+  -- a ready job past the last level is refused 14
+  close-14 : isCoherent job ≡ true → isFinished (job .phase) ≡ false → isReady job ≡ true → isPastLast job ≡ true → closeRefusal job ≡ 14
+  unfolding closeRefusal
+  close-14 coherent unfinished ready past = rw (coherent, unfinished, ready, past)
 
 -- a close brings the end nearer
 next-nearer : (counts : List ℕ) (p : Phase) → isFinished p ≡ false → levelOf p ≤ lastLevel → levelsLeft (nextPhase counts p) < levelsLeft p
@@ -86,20 +125,25 @@ module _ {terms : Terms} (given : Given terms) {w : World} (invariant : Invarian
 
   -- ---- Close
 
-  module _ (ready : isReady (w .job) ≡ true) (unfinished : isFinished (w .job .phase) ≡ false) (low : levelOf (w .job .phase) ≤ lastLevel) where
+  module _ (ready : isReady (w .job) ≡ true) (on : hasEnded (w .job) ≡ false) (low : levelOf (w .job .phase) ≤ lastLevel) where
     pub close-nearer : levelsLeft (closedWorld w .job .phase) < levelsLeft (w .job .phase)
     unfolding closedWorld closed progressed
-    close-nearer = next-nearer (w .job .counts) (w .job .phase) unfinished low
+    close-nearer = next-nearer (w .job .counts) (w .job .phase) (on-unfinished (w .job) on) low
 
     pub close-accepts : closeRefusal (w .job) ≡ 0
     close-accepts =
         facts-close (w .job)
         (record {
           coherent = invariant-coherent given invariant;
-          unfinished = unfinished;
+          unfinished = on-unfinished (w .job) on;
           ready = ready;
-          fits = never-past given invariant ready;
+          fits = fits (test-cases (isPastLast (w .job)));
         })
+      where
+        -- past the last level it would say 14
+        fits : (isPastLast (w .job) ≡ true) ⊎ (isPastLast (w .job) ≡ false) → isPastLast (w .job) ≡ false
+        fits (inl past) = absurd (on-14 (w .job) on (close-14 (w .job) (invariant-coherent given invariant) (on-unfinished (w .job) on) ready past))
+        fits (inr e) = e
 
     unfoldable pub close-advances : Advances
     unfolding outcome isLentOwn refusalOf
@@ -157,9 +201,9 @@ module _ {terms : Terms} (given : Given terms) {w : World} (invariant : Invarian
         each i (inl e) = omega (arith, here, ap (passedOf (w .job)) e, ap (passedOf (blankedWorld w j .job)) e)
         each i (inr ne) = omega (arith, passed-elsewhere given (invariant .shaped) j h i ne)
 
-    blanks-advance : Advances
-    unfolding isFinished levelOf
-    blanks-advance =
+    blanks-advance : hasEnded (w .job) ≡ false → Advances
+    unfolding levelOf
+    blanks-advance on =
         go (some-or-none (λ j. ltb (passedOf (w .job) j) (m terms j)) (G terms))
       where
         go : ((j : ℕ) × (j < G terms) × (ltb (passedOf (w .job) j) (m terms j) ≡ true))
@@ -171,7 +215,7 @@ module _ {terms : Terms} (given : Given terms) {w : World} (invariant : Invarian
             (all-ready
             (λ j h. ltb-false (passedOf (w .job) j) (m terms j) (none j h))
             (λ j h. blanks .none-waits j))
-            (ap isFinished (blanks .phase-is))
+            on
             (omega (arith, ap levelOf (blanks .phase-is)))
 
   -- ---- in a level
@@ -321,9 +365,9 @@ module _ {terms : Terms} (given : Given terms) {w : World} (invariant : Invarian
             each i (inl e) = omega (arith, grown-here, ap (passedOf (w .job)) e, ap (passedOf grown) e)
             each i (inr ne) = omega (arith, grown-others i ne)
 
-    searches-advance : Advances
-    unfolding isFinished levelOf
-    searches-advance = logs (some-or-none (λ j. ltb 0 (waitingOf (w .job) j)) (G terms))
+    searches-advance : hasEnded (w .job) ≡ false → Advances
+    unfolding levelOf
+    searches-advance on = logs (some-or-none (λ j. ltb 0 (waitingOf (w .job) j)) (G terms))
       where
         none-waits : ((j : ℕ) → j < G terms → ltb 0 (waitingOf (w .job) j) ≡ false) → (j : ℕ) → waitingOf (w .job) j ≡ 0
         none-waits none j = go (lt-or-ge j (G terms))
@@ -341,7 +385,7 @@ module _ {terms : Terms} (given : Given terms) {w : World} (invariant : Invarian
         stacks none (inr all) =
             close-advances
             (all-ready (λ j h. ltb-false (passedOf (w .job) j) (m terms j) (all j h)) (λ j h. none j))
-            (ap isFinished (search .phase-is))
+            on
             (omega (arith, ap levelOf (search .phase-is), search .last))
 
         logs : ((j : ℕ) × (j < G terms) × (ltb 0 (waitingOf (w .job) j) ≡ true))
@@ -351,11 +395,11 @@ module _ {terms : Terms} (given : Given terms) {w : World} (invariant : Invarian
             stacks (none-waits none)
             (some-or-none (λ j. ltb (passedOf (w .job) j) (m terms j)) (G terms))
 
-  pub invariant-advances : isFinished (w .job .phase) ≡ false → Advances
+  pub invariant-advances : hasEnded (w .job) ≡ false → Advances
   unfolding isFinished
-  invariant-advances unfinished = go (invariant .phase)
+  invariant-advances on = go (invariant .phase)
     where
       go : InPhase terms w → Advances
-      go (blanking blanks) = blanks-advance blanks
-      go (searching d s) = searches-advance s
-      go (ended d s) = never (ap isFinished (s .phase-is)) unfinished
+      go (blanking blanks) = blanks-advance blanks on
+      go (searching d s) = searches-advance s on
+      go (ended d s) = never (ap isFinished (s .phase-is)) (on-unfinished (w .job) on)

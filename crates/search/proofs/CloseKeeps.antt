@@ -14,7 +14,7 @@ use borrow.Author.Tests.{eqb-true, eq-eqb, ne-eqb}
 use Rattle.base.specs.Words.{unless}
 use Rattle.base.proofs.Counting.{all-below}
 use Rattle.base.proofs.Lists.{replicate-zero}
-use Rattle.base.proofs.Tests.{and-left, and-right, and-fails-left, and-fails-right, never, lt-or-ge, eq-or-ne}
+use Rattle.base.proofs.Tests.{and-left, and-right, never, lt-or-ge, eq-or-ne}
 use Rattle.graph.proofs.Counts.{found-goal, found-start, found-next, found-all}
 use Rattle.graph.proofs.Levels as Levels
 use Rattle.graph.proofs.Tally.{tally-none, tally-zero, tally-some}
@@ -33,7 +33,7 @@ use Rattle.search.proofs.EntryLaws.{get-set-same, get-set-other, blank-
 use Rattle.search.proofs.Invariant.{Shaped, Spares, Blanks, Searches, Ended, Invariant, entryIn, Looked, Logged, InPhase, blanking, searching, ended}
 use Rattle.search.proofs.SegmentLaws.{segment-some, stack-segment, stack-offset}
 use Rattle.search.proofs.Shapes.{size-is, segments-is, stacks-is, goal-is}
-use Rattle.search.proofs.Terms.{Terms, Given, N, G, m, goal, D, levelCount, beyond, some, depths, goal-here, depth-last}
+use Rattle.search.proofs.Terms.{Terms, Given, N, G, m, goal, D, levelCount, beyond, some, depths, goal-here}
 
 -- ---- the entries of a blanked segment
 
@@ -304,6 +304,15 @@ module _ {terms : Terms} (given : Given terms) where
           go (inl r) = r
           go (inr r) = absurd (omega (arith, r .0))
 
+      all-beyond : (v : ℕ) → v < N terms → D terms v ≡ beyond → entryIn (terms .S) (w .segments) v ≡ 3
+      all-beyond v h far = go (Levels.level-end (depths given) (search .level) level-empty v h)
+        where
+          go : ((D terms v < d) × (entryIn (terms .S) (w .segments) v ≡ D terms v % 3))
+              ⊎ ((D terms v ≡ beyond) × (entryIn (terms .S) (w .segments) v ≡ 3))
+              → entryIn (terms .S) (w .segments) v ≡ 3
+          go (inl r) = absurd (omega (arith, r .0, far, search .last))
+          go (inr r) = r .1
+
       closed-last : Ended terms (closedWorld w) (d - 1)
       unfolding closedWorld closed progressed nextPhase countOf
       closed-last =
@@ -315,6 +324,7 @@ module _ {terms : Terms} (given : Given terms) where
             none-passed = closed-passed w;
             none-waits = λ j. closed-waiting w j ∙ complete .none-waits j;
             entries = λ v h near. all-above v h near .1;
+            unreached = all-beyond;
             greatest = λ v h near. omega (arith, all-above v h near .0);
             spares = level-spares;
             counts = λ i near. go i near (lt-or-ge d i);
@@ -374,51 +384,58 @@ close-keeps {terms} {w} given invariant h =
     go (searching d s) = level d s (eq-or-ne (countOf (w .job) d) 0)
     go (ended d s) = never (ap isFinished (s .phase-is)) (facts .unfinished)
 
--- ---- a Close is never refused 14
-
-past-not : (job : Job) → (levelOf (job .phase) ≡ lastLevel → countOf job lastLevel ≡ 0) → isPastLast job ≡ false
-unfolding isPastLast
-past-not job h = go (eq-or-ne (levelOf (job .phase)) lastLevel)
-  where
-    go : (levelOf (job .phase) ≡ lastLevel) ⊎ (levelOf (job .phase) ≡ lastLevel → ⊥)
-        → (eqb (levelOf (job .phase)) lastLevel && not (eqb (countOf job lastLevel) 0)) ≡ false
-    go (inl e) =
-        and-fails-right (eqb (levelOf (job .phase)) lastLevel) (not (eqb (countOf job lastLevel) 0))
-        (ap not (eq-eqb (countOf job lastLevel) 0 (h e)))
-    go (inr ne) =
-        and-fails-left (eqb (levelOf (job .phase)) lastLevel) (not (eqb (countOf job lastLevel) 0)) (ne-eqb (levelOf (job .phase)) lastLevel ne)
-
-pub never-past : {terms : Terms} {w : World} → Given terms → Invariant terms w
-    → isReady (w .job) ≡ true → isPastLast (w .job) ≡ false
-unfolding levelOf
-never-past {terms} {w} given invariant ready = past-not (w .job) (go (invariant .phase))
-  where
-    last : (d : ℕ) → Searches terms w d → d ≡ lastLevel → (countOf (w .job) d ≡ 0) ⊎ (countOf (w .job) d ≡ 0 → ⊥) → countOf (w .job) d ≡ 0
-    last d s e (inl z) = z
-    last d s e (inr ne) =
-        let v = level-some given s (ready-complete given (invariant .shaped) ready s) ne in absurd (omega (arith, v .2, depth-last given (v .0) (v .1)))
-
-    go : InPhase terms w
-        → levelOf (w .job .phase) ≡ lastLevel → countOf (w .job) lastLevel ≡ 0
-    go (blanking s) e = absurd (omega (arith, ap levelOf (s .phase-is), first-level))
-    go (searching d s) e =
-        let q : d ≡ lastLevel = sym (ap levelOf (s .phase-is)) ∙ e in
-        subst (λ (x : ℕ). countOf (w .job) x ≡ 0) q (last d s q (eq-or-ne (countOf (w .job) d) 0))
-    go (ended d s) e = absurd (omega (arith, ap levelOf (s .phase-is), s .last))
+-- ---- a Close that says 14
 
 -- the refusal is a later one
 later : (ok : Bool) (r rest x : ℕ) → (r ≡ x → ⊥) → unless ok r rest ≡ x → (ok ≡ true) × (rest ≡ x)
 later true r rest x ne h = (refl, h)
 later false r rest x ne h = absurd (ne h)
 
-pub never-14 : {terms : Terms} {w : World} → Given terms → Invariant terms w
-    → closeRefusal (w .job) ≡ 14 → ⊥
+-- the job is ready, and the last level has stacks
+pub refused-14 : (job : Job) → closeRefusal job ≡ 14 → (isReady job ≡ true) × (isPastLast job ≡ true)
 unfolding closeRefusal
-never-14 {w} given invariant h =
-    let job = w .job in
+refused-14 job h =
     let fits : ℕ = unless (not (isPastLast job)) 14 0 in
     let ready : ℕ = unless (isReady job) 13 fits in
     let a = later (isCoherent job) 7 (unless (not (isFinished (job .phase))) 8 ready) 14 (λ e. omega arith) h in
     let b = later (not (isFinished (job .phase))) 8 ready 14 (λ e. omega arith) (a .1) in
     let c = later (isReady job) 13 fits 14 (λ e. omega arith) (b .1) in
-    omega (arith, ap (λ (t : Bool). unless (not t) 14 0) (never-past given invariant (c .0)), c .1)
+    (c .0, past (isPastLast job) (c .1))
+  where
+    past : (t : Bool) → unless (not t) 14 0 ≡ 14 → t ≡ true
+    past true e = refl
+    past false e = absurd (omega (arith, e))
+
+-- so the build is in the last level, which it has searched whole, and some stack is that deep
+module _ {terms : Terms} {w : World} (given : Given terms) (invariant : Invariant terms w) (h : closeRefusal (w .job) ≡ 14) where
+  at-last : levelOf (w .job .phase) ≡ lastLevel
+  unfolding isPastLast
+  at-last =
+      eqb-true (levelOf (w .job .phase)) lastLevel
+      (and-left (eqb (levelOf (w .job .phase)) lastLevel) (not (eqb (countOf (w .job) lastLevel) 0)) (refused-14 (w .job) h .1))
+
+  some-last : countOf (w .job) lastLevel ≡ 0 → ⊥
+  unfolding isPastLast
+  some-last e =
+      never
+      (and-right (eqb (levelOf (w .job .phase)) lastLevel) (not (eqb (countOf (w .job) lastLevel) 0)) (refused-14 (w .job) h .1))
+      (ap not (eq-eqb (countOf (w .job) lastLevel) 0 e))
+
+  pub last-searches : Searches terms w lastLevel
+  unfolding levelOf
+  last-searches = go (invariant .phase)
+    where
+      go : InPhase terms w → Searches terms w lastLevel
+      go (blanking s) = absurd (omega (arith, ap levelOf (s .phase-is), at-last, first-level))
+      go (searching d s) = subst (Searches terms w) (sym (ap levelOf (s .phase-is)) ∙ at-last) s
+      go (ended d s) = absurd (omega (arith, ap levelOf (s .phase-is), at-last, s .last))
+
+  pub last-deep : (v : ℕ) × (v < N terms) × (D terms v ≡ lastLevel)
+  last-deep =
+      level-some given last-searches (ready-complete given (invariant .shaped) (refused-14 (w .job) h .0) last-searches) some-last
+
+  pub last-passed : (j : ℕ) → j < G terms → passedOf (w .job) j ≡ m terms j
+  last-passed = ready-passed (invariant .shaped) (refused-14 (w .job) h .0)
+
+  pub last-settled : (j : ℕ) → waitingOf (w .job) j ≡ 0
+  last-settled = ready-complete given (invariant .shaped) (refused-14 (w .job) h .0) last-searches .none-waits

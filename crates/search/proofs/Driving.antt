@@ -1,4 +1,4 @@
--- Build the whole table: each call that the driver chooses carries the build on, so that the driver comes to an end, in a finished build.
+-- Build the whole table: each call that the driver chooses carries the build on, so that the driver comes to an end.
 use mathlib.Core.Path.{_≡_, refl, sym, ap, _∙_, subst}
 use mathlib.Core.Logic.{_⊎_, inl, inr}
 use mathlib.Core.Bool.{Bool, true, false, cond}
@@ -9,13 +9,13 @@ use borrow.Author.Tests.{ltb-true, ltb-false, lt-ltb, le-ltb}
 use Rattle.base.proofs.Radix.{digits-less}
 use Rattle.base.proofs.Tests.{test-cases, never, lt-or-ge}
 use Rattle.search.specs.Build.{World, Lengths, Call, own, doBlank, doExpand, doSettle, doClose, outcome, Outcome, lent, kept}
-use Rattle.search.specs.Drive.{isOpen, isPending, firstOpen, firstPending, nextCall, advanced, drive, mostCalls}
+use Rattle.search.specs.Drive.{isOpen, isPending, firstOpen, firstPending, nextCall, advanced, hasEnded, drive, mostCalls}
 use Rattle.search.specs.JobState.{isBlanking, isFinished, levelOf, lastLevel, segmentCountOf, stackCountAt, passedOf, waitingOf}
 use Rattle.search.specs.Segments.{segmentCount}
 use Rattle.search.specs.declared.Job.{Job}
 use Rattle.search.specs.declared.Phase.{Phase}
 use Rattle.search.specs.declared.Phase.the-variants.{Blanking, Level, Finished}
-use Rattle.search.proofs.Advancing.{Advances, advances, close-advances, all-ready, blank-advances, settle-advances, expand-advances}
+use Rattle.search.proofs.Advancing.{Advances, advances, on-unfinished, close-advances, all-ready, blank-advances, settle-advances, expand-advances}
 use Rattle.search.proofs.ExpandCases.{first-before, first-passes}
 use Rattle.search.proofs.Invariant.{Blanks, Searches, Invariant, InPhase, blanking, searching, ended}
 use Rattle.search.proofs.Shapes.{segments-is, stacks-is}
@@ -96,9 +96,9 @@ module _ {terms : Terms} (given : Given terms) {w : World} (invariant : Invarian
   pub Nexts : Type 0
   Nexts = (a : Advances given invariant) × (a .next .call ≡ nextCall (w .job))
 
-  blanks-next : Blanks terms w → Nexts
-  unfolding Nexts blank-advances close-advances advances isBlanking isFinished levelOf
-  blanks-next blanks = go (lt-or-ge (firstOpen (w .job)) (segmentCountOf (w .job)))
+  blanks-next : hasEnded (w .job) ≡ false → Blanks terms w → Nexts
+  unfolding Nexts blank-advances close-advances advances isBlanking levelOf
+  blanks-next on blanks = go (lt-or-ge (firstOpen (w .job)) (segmentCountOf (w .job)))
     where
       blanking : isBlanking (w .job .phase) ≡ true
       blanking = ap isBlanking (blanks .phase-is)
@@ -110,14 +110,14 @@ module _ {terms : Terms} (given : Given terms) {w : World} (invariant : Invarian
       go (inr h) = (
         close-advances given invariant
             (all-ready given invariant (open-none h) (λ j l. blanks .none-waits j))
-            (ap isFinished (blanks .phase-is))
+            on
             (omega (arith, ap levelOf (blanks .phase-is))),
         sym (next-level (w .job) blanking h),
       )
 
-  searches-next : {d : ℕ} → Searches terms w d → Nexts
-  unfolding Nexts settle-advances expand-advances close-advances advances isBlanking isFinished levelOf
-  searches-next search = logs (lt-or-ge (firstPending (w .job)) (segmentCountOf (w .job)))
+  searches-next : hasEnded (w .job) ≡ false → {d : ℕ} → Searches terms w d → Nexts
+  unfolding Nexts settle-advances expand-advances close-advances advances isBlanking levelOf
+  searches-next on search = logs (lt-or-ge (firstPending (w .job)) (segmentCountOf (w .job)))
     where
       blanked : isBlanking (w .job .phase) ≡ false
       blanked = ap isBlanking (search .phase-is)
@@ -138,7 +138,7 @@ module _ {terms : Terms} (given : Given terms) {w : World} (invariant : Invarian
       stacks h (inr l) = (
         close-advances given invariant
             (all-ready given invariant (open-none l) (pending-none h))
-            (ap isFinished (search .phase-is))
+            on
             (omega (arith, ap levelOf (search .phase-is), search .last)),
         sym (next-close (w .job) blanked h l),
       )
@@ -149,14 +149,14 @@ module _ {terms : Terms} (given : Given terms) {w : World} (invariant : Invarian
           (settle-advances given invariant search j (omega (arith, G-is)) (pending-some h), sym (next-settle (w .job) blanked h))
       logs (inr h) = stacks h (lt-or-ge (firstOpen (w .job)) (segmentCountOf (w .job)))
 
-  next-advances : isFinished (w .job .phase) ≡ false → Nexts
+  next-advances : hasEnded (w .job) ≡ false → Nexts
   unfolding isFinished
-  next-advances unfinished = go (invariant .phase)
+  next-advances on = go (invariant .phase)
     where
       go : InPhase terms w → Nexts
-      go (blanking blanks) = blanks-next blanks
-      go (searching d s) = searches-next s
-      go (ended d s) = never (ap isFinished (s .phase-is)) unfinished
+      go (blanking blanks) = blanks-next on blanks
+      go (searching d s) = searches-next on s
+      go (ended d s) = never (ap isFinished (s .phase-is)) (on-unfinished (w .job) on)
 
 -- ---- the driver's steps
 
@@ -181,12 +181,12 @@ next-same right right′ w =
     go false true false = refl
     go false false false = refl
 
-pub drive-done : (calls : ℕ) (w : World) → isFinished (w .job .phase) ≡ true → drive calls w ≡ w
+pub drive-done : (calls : ℕ) (w : World) → hasEnded (w .job) ≡ true → drive calls w ≡ w
 unfolding drive
 drive-done zero w h = refl
 drive-done (suc calls) w h = ap (λ (t : Bool). cond t w (drive calls (advanced w))) h
 
-drive-on : (calls : ℕ) (w : World) → isFinished (w .job .phase) ≡ false → drive (suc calls) w ≡ drive calls (advanced w)
+drive-on : (calls : ℕ) (w : World) → hasEnded (w .job) ≡ false → drive (suc calls) w ≡ drive calls (advanced w)
 unfolding drive
 drive-on calls w h = ap (λ (t : Bool). cond t w (drive calls (advanced w))) h
 
@@ -216,45 +216,45 @@ module _ {terms : Terms} (given : Given terms) where
     pub advanced-keeps : Invariant terms (advanced w)
     advanced-keeps = subst (Invariant terms) (sym advanced-is) (step-keeps given invariant (nextCall (w .job)))
 
-    pub advanced-falls : isFinished (w .job .phase) ≡ false
+    pub advanced-falls : hasEnded (w .job) ≡ false
         → workLeft (N terms) (terms .S) (advanced w .job) < workLeft (N terms) (terms .S) (w .job)
     unfolding Nexts
-    advanced-falls unfinished =
-        let a = next-advances given invariant unfinished in
+    advanced-falls on =
+        let a = next-advances given invariant on in
         subst (λ (x : World). workLeft (N terms) (terms .S) (x .job) < workLeft (N terms) (terms .S) (w .job)) (sym advanced-is)
         (subst (λ (c : Call (lengthsOf terms)). workLeft (N terms) (terms .S) (outcome w c .world .job) < workLeft (N terms) (terms .S) (w .job))
         (a .1)
         (a .0 .falls))
 
-    -- with nothing left to do it has finished
-    idle-finished : workLeft (N terms) (terms .S) (w .job) ≤ 0 → isFinished (w .job .phase) ≡ true
-    idle-finished h = go (test-cases (isFinished (w .job .phase)))
+    -- with nothing left to do it has ended
+    idle-ended : workLeft (N terms) (terms .S) (w .job) ≤ 0 → hasEnded (w .job) ≡ true
+    idle-ended h = go (test-cases (hasEnded (w .job)))
       where
-        go : (isFinished (w .job .phase) ≡ true) ⊎ (isFinished (w .job .phase) ≡ false) → isFinished (w .job .phase) ≡ true
+        go : (hasEnded (w .job) ≡ true) ⊎ (hasEnded (w .job) ≡ false) → hasEnded (w .job) ≡ true
         go (inl e) = e
         go (inr e) = absurd (omega (arith, advanced-falls e))
 
   -- as many calls as there is work left bring it to its end, and more change nothing
   pub drive-keeps : (calls : ℕ) (w : World) → Invariant terms w → workLeft (N terms) (terms .S) (w .job) ≤ calls
-      → Invariant terms (drive calls w) × (isFinished (drive calls w .job .phase) ≡ true)
+      → Invariant terms (drive calls w) × (hasEnded (drive calls w .job) ≡ true)
   unfolding drive
-  drive-keeps zero w invariant h = (invariant, idle-finished invariant h)
-  drive-keeps (suc calls) w invariant h = go (λ x i l. drive-keeps calls x i l) (isFinished (w .job .phase)) refl
+  drive-keeps zero w invariant h = (invariant, idle-ended invariant h)
+  drive-keeps (suc calls) w invariant h = go (λ x i l. drive-keeps calls x i l) (hasEnded (w .job)) refl
     where
       go : ((x : World) → Invariant terms x → workLeft (N terms) (terms .S) (x .job) ≤ calls
-          → Invariant terms (drive calls x) × (isFinished (drive calls x .job .phase) ≡ true))
-          → (t : Bool) → isFinished (w .job .phase) ≡ t
-          → (let x = cond t w (drive calls (advanced w)) in Invariant terms x × (isFinished (x .job .phase) ≡ true))
+          → Invariant terms (drive calls x) × (hasEnded (drive calls x .job) ≡ true))
+          → (t : Bool) → hasEnded (w .job) ≡ t
+          → (let x = cond t w (drive calls (advanced w)) in Invariant terms x × (hasEnded (x .job) ≡ true))
       go rest true e = (invariant, e)
       go rest false e = rest (advanced w) (advanced-keeps invariant) (omega (arith, advanced-falls invariant e))
 
   drive-more : (calls : ℕ) (w : World) → Invariant terms w → workLeft (N terms) (terms .S) (w .job) ≤ calls
       → drive (suc calls) w ≡ drive calls w
-  drive-more zero w invariant h = drive-done 1 w (idle-finished invariant h) ∙ sym (drive-done 0 w (idle-finished invariant h))
-  drive-more (suc calls) w invariant h = go (λ x i l. drive-more calls x i l) (test-cases (isFinished (w .job .phase)))
+  drive-more zero w invariant h = drive-done 1 w (idle-ended invariant h) ∙ sym (drive-done 0 w (idle-ended invariant h))
+  drive-more (suc calls) w invariant h = go (λ x i l. drive-more calls x i l) (test-cases (hasEnded (w .job)))
     where
       go : ((x : World) → Invariant terms x → workLeft (N terms) (terms .S) (x .job) ≤ calls → drive (suc calls) x ≡ drive calls x)
-          → (isFinished (w .job .phase) ≡ true) ⊎ (isFinished (w .job .phase) ≡ false) → drive (suc (suc calls)) w ≡ drive (suc calls) w
+          → (hasEnded (w .job) ≡ true) ⊎ (hasEnded (w .job) ≡ false) → drive (suc (suc calls)) w ≡ drive (suc calls) w
       go rest (inl e) = drive-done (suc (suc calls)) w e ∙ sym (drive-done (suc calls) w e)
       go rest (inr e) =
           drive-on (suc calls) w e
@@ -262,8 +262,8 @@ module _ {terms : Terms} (given : Given terms) where
           ∙ sym (drive-on calls w e)
 
   pub drive-advanced : (calls : ℕ) (w : World) → Invariant terms w → workLeft (N terms) (terms .S) (w .job) ≤ calls
-      → isFinished (w .job .phase) ≡ false → drive calls w ≡ drive calls (advanced w)
-  drive-advanced zero w invariant h unfinished = absurd (omega (arith, advanced-falls invariant unfinished))
-  drive-advanced (suc calls) w invariant h unfinished =
-      drive-on calls w unfinished
-      ∙ sym (drive-more calls (advanced w) (advanced-keeps invariant) (omega (arith, advanced-falls invariant unfinished)))
+      → hasEnded (w .job) ≡ false → drive calls w ≡ drive calls (advanced w)
+  drive-advanced zero w invariant h on = absurd (omega (arith, advanced-falls invariant on))
+  drive-advanced (suc calls) w invariant h on =
+      drive-on calls w on
+      ∙ sym (drive-more calls (advanced w) (advanced-keeps invariant) (omega (arith, advanced-falls invariant on)))

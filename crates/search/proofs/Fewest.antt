@@ -102,29 +102,8 @@ module _ (kind n : ℕ) (w : List ℤ) (b : ℕ) (in-range : isPaneCount kind n 
 
 module _ (kind n : ℕ) where
   -- the test of the list of turns is that of a turn
-  turns-test : isMove (turnsOf kind n) ≡ isTurn kind n
+  pub turns-test : isMove (turnsOf kind n) ≡ isTurn kind n
   turns-test = λ i k. sym (turn-is-move kind n k) i
-
-  pub turns-fewest : {s w : List ℤ} {d : ℕ} → FewestBy kind (isMove (turnsOf kind n)) s w d → Fewest kind n s w d
-  turns-fewest {s} {w} {d} f = subst (λ (p : ℕ → Bool). FewestBy kind p s w d) turns-test f
-
-  pub turns-counts : {w : List ℤ} {d count : ℕ} → CountsBy kind n (isMove (turnsOf kind n)) w d count → CountsAt kind n w d count
-  turns-counts {w} {d} {count} c = subst (λ (p : ℕ → Bool). CountsBy kind n p w d count) turns-test c
 
   pub turns-road : {ks : List ℕ} {s w : List ℤ} → RoadBy kind (isMove (turnsOf kind n)) ks s w → Road kind n ks s w
   turns-road {ks} {s} {w} r = subst (λ (p : ℕ → Bool). RoadBy kind p ks s w) turns-test r
-
-  -- no stack is deeper than the turns that it takes at most
-  pub turns-depth : (w : List ℤ) (b : ℕ) → isPaneCount kind n ≡ true → isStack kind n w ≡ true
-      → (v : ℕ) → v < stackCount kind n → depth kind n (turnsOf kind n) w b v ≤ turnBound kind n
-  turns-depth w b in-range wanted v h =
-      let s : List ℤ = stackAt kind n v in
-      let stack : isStack kind n s ≡ true = unrank-stack kind n v in-range h in
-      let r = road-bound kind n in-range s w stack wanted in
-      let road : RoadBy kind (isMove (turnsOf kind n)) (r .0) s w = subst (λ (p : ℕ → Bool). RoadBy kind p (r .0) s w) (sym turns-test) (r .1) in
-      omega (
-        arith,
-        r .2,
-        depth-road kind n w b in-range wanted (all-turns kind n in-range) s stack (r .0) road,
-        ap (depth kind n (turnsOf kind n) w b) (rank-unrank kind n v in-range h),
-      )

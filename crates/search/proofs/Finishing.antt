@@ -1,37 +1,43 @@
 -- A finished build is what we promise of one: its table, its counts, its deepest level, and every plan from it.
 use mathlib.Core.Path.{_≡_, refl, sym, ap, _∙_, subst}
-use mathlib.Core.Bool.{true, not}
+use mathlib.Core.Logic.{_⊎_, inl, inr}
+use mathlib.Core.Bool.{Bool, true, not}
 use mathlib.Core.List.{List, _++_, map}
-use Prim.Native.Nat.{ℕ, suc, _+_, _-_, _*_, _/_, _≤_, _<_}
+use Prim.Native.Nat.{ℕ, suc, _+_, _-_, _*_, _/_, _≤_, _<_, min}
 use native.Mathlib.Nat.{zero-add, mul-assoc, mod-lt}
 use native.Mathlib.Omega.{arith}
 use lib.Dec.{ltb, eqb}
 use lib.IntN.{ℤ}
 use lib.ListN.{length, take, drop}
 use lib.Seq.{take-append-seam}
-use borrow.Author.Tests.{lt-ltb, eq-eqb, ne-eqb}
+use borrow.Author.Tests.{lt-ltb, le-ltb, eq-eqb, ne-eqb}
 use Rattle.base.specs.Words.{total, from}
 use Rattle.base.proofs.Counting.{total-from}
-use Rattle.graph.proofs.Tally.{tally-all, tally-values}
+use Rattle.base.proofs.Tests.{lt-or-ge}
+use Rattle.graph.specs.Walks.{isMove}
+use Rattle.graph.proofs.Depths.{between}
+use Rattle.graph.proofs.Distance.{dist-cut}
+use Rattle.graph.proofs.Tally.{tally-same, tally-values}
 use Rattle.stacks.specs.Index.{rankOf, stackAt}
 use Rattle.stacks.specs.Stack.{isStack}
-use Rattle.stacks.specs.Turn.{turnsOf, Road, Fewest}
+use Rattle.stacks.specs.Turn.{turnsOf, RoadBy, FewestBy}
 use Rattle.stacks.proofs.Numbering.{rank-lt, unrank-stack, rank-unrank}
 use Rattle.stacks.proofs.KindLaws.{count-pos}
 use Rattle.search.specs.Build.{World}
 use Rattle.search.specs.Entries.{entryAt, unseen, seenIn, bytesFor}
-use Rattle.search.specs.JobState.{countOf, levelOf, countPlaces}
-use Rattle.search.specs.Plan.{planLimit, routeFrom, planRefusal, planOf}
-use Rattle.search.specs.Promise.{Plans, Finishes, PlanArrives}
+use Rattle.search.specs.JobState.{countOf, levelOf, lastLevel, countPlaces}
+use Rattle.search.specs.Plan.{planLimit, entryOf, routeFrom, planRefusal, planOf}
+use Rattle.search.specs.Promise.{planIn, PlanArrives}
+use Rattle.search.specs.PromiseBy.{NoRoad, EntryBy, Needs, PlansBy, FinishesBy}
 use Rattle.search.specs.Segments.{joined}
 use Rattle.search.specs.declared.Planned.{Planned}
 use Rattle.search.proofs.Accepted.{names-refusal}
-use Rattle.search.proofs.Fewest.{fewest-unique, depth-fewest, counts-by, turns-fewest, turns-counts, turns-road}
+use Rattle.search.proofs.Fewest.{depth, move-depths, fewest-unique, depth-road, depth-fewest, counts-by, turns-road}
 use Rattle.search.proofs.Invariant.{Shaped, Ended, entryIn}
-use Rattle.search.proofs.PlanLaws.{PlanFacts, plan-facts, plan-goes-on, RightTable, route-within, route-arrives, plan-there, plan-fewest}
+use Rattle.search.proofs.PlanLaws.{RowFacts, PlanFacts, plan-facts, plan-goes-on, plan-unseen, RightTable, route-within, route-arrives, plan-there, plan-fewest}
 use Rattle.search.proofs.Shapes.{shaped-segmented}
 use Rattle.search.proofs.SegmentLaws.{Segmented, last-segment, segment-last, spare-offset, bytes-last, joined-entry, joined-length, joined-spare}
-use Rattle.search.proofs.Terms.{Terms, Given, N, G, moves, beyond, D, levelCount, laws, depth-last}
+use Rattle.search.proofs.Terms.{Terms, Given, N, G, moves, step, goal, beyond, D, levelCount, laws, depths}
 use Rattle.search.proofs.Turning.{all-turns}
 
 -- ---- a plan over a right table
@@ -53,36 +59,64 @@ plan-refusal-is kind n wanted given table list =
     names-refusal (λ o. o .1 .refusal) (planRefusal kind n wanted given table (length list) 0)
     (plan-accepted kind n wanted given table list) (plan-refused kind n wanted given table list) refl refl
 
+-- an accepted plan is a road by the moves, and no longer than a plan may be
+module _ (kind n : ℕ) (wanted given : List ℤ) (table list : List ℕ) where
+  pub plan-road : planOf kind n wanted given table list .1 .refusal ≡ 0
+      → (let out = planOf kind n wanted given table list in
+      RoadBy kind (isMove (turnsOf kind n)) (take (out .1 .turns) (out .0)) given wanted × (out .1 .turns ≤ planLimit))
+  plan-road h =
+      let accepts : planRefusal kind n wanted given table (length list) 0 ≡ 0 = sym (plan-refusal-is kind n wanted given table list) ∙ h in
+      let moves : List ℕ = turnsOf kind n in
+      let turns : List ℕ = routeFrom kind n table wanted moves given .turns in
+      let f : PlanFacts kind n wanted given table (length list) = plan-facts kind n wanted given table (length list) 0 accepts .0 in
+      let row = f .row in
+      let road : RoadBy kind (isMove moves) turns given wanted =
+      route-arrives kind n table wanted given (row .of-panes) (all-turns kind n (row .of-panes)) (row .goal) (row .start) (f .plan) in
+      subst (λ (out : List ℕ × Planned). RoadBy kind (isMove moves) (take (out .1 .turns) (out .0)) given wanted × (out .1 .turns ≤ planLimit))
+      (sym (plan-accepted kind n wanted given table list accepts)) (
+        subst (λ (ks : List ℕ). RoadBy kind (isMove moves) ks given wanted) (sym (take-append-seam turns (drop (length turns) list))) road,
+        route-within kind n moves table wanted given .1,
+      )
+
 pub plan-arrives : PlanArrives
 unfolding PlanArrives
 plan-arrives kind n wanted given table list h =
-    let accepts : planRefusal kind n wanted given table (length list) 0 ≡ 0 = sym (plan-refusal-is kind n wanted given table list) ∙ h in
-    let moves : List ℕ = turnsOf kind n in
-    let turns : List ℕ = routeFrom kind n table wanted moves given .turns in
-    let f : PlanFacts kind n wanted given table (length list) = plan-facts kind n wanted given table (length list) 0 accepts .0 in
-    let row = f .row in
-    let road : Road kind n turns given wanted =
-    turns-road kind n (route-arrives kind n table wanted given (row .of-panes) (all-turns kind n (row .of-panes)) (row .goal) (row .start) (f .plan)) in
-    subst (λ (out : List ℕ × Planned). Road kind n (take (out .1 .turns) (out .0)) given wanted × (out .1 .turns ≤ planLimit))
-    (sym (plan-accepted kind n wanted given table list accepts))
-    (subst (λ (ks : List ℕ). Road kind n ks given wanted) (sym (take-append-seam turns (drop (length turns) list))) road, route-within kind n moves table wanted given .1)
+    let r = plan-road kind n wanted given table list h in (turns-road kind n (r .0), r .1)
 
--- what we promise of a plan, as Plans says it of a world
-pub record PlanIs (kind n : ℕ) (wanted given : List ℤ) (out : List ℕ × Planned) : Type 0 where
+-- what we promise of a plan, as PlansBy says it of a world
+pub record PlanIs (kind : ℕ) (isMove : ℕ → Bool) (wanted given : List ℤ) (out : List ℕ × Planned) : Type 0 where
   pub accepts : out .1 .refusal ≡ 0
-  pub arrives : Road kind n (take (out .1 .turns) (out .0)) given wanted
-  pub shortest : Fewest kind n given wanted (out .1 .turns)
+  pub arrives : RoadBy kind isMove (take (out .1 .turns) (out .0)) given wanted
+  pub shortest : FewestBy kind isMove given wanted (out .1 .turns)
 
 -- a plan fits in the levels that are searched
 plans-fit : suc planLimit < beyond
 plans-fit = omega arith
 
 module _ {terms : Terms} (begun : Given terms) where
+  -- an index at a depth that is searched is that of a stack that needs as many moves
+  pub depth-needs : (d : ℕ) → (v : ℕ) × (v < N terms) × (D terms v ≡ d) → d < beyond
+      → Needs (terms .kind) (terms .n) (isMove (moves terms)) (terms .wanted) d
+  depth-needs d v near =
+      let s = stackAt (terms .kind) (terms .n) (v .0) in
+      let stack = unrank-stack (terms .kind) (terms .n) (v .0) (begun .in-range) (v .1) in
+      let here : D terms (rankOf (terms .kind) (terms .n) s) ≡ d =
+      ap (D terms) (rank-unrank (terms .kind) (terms .n) (v .0) (begun .in-range) (v .1)) ∙ v .2 in (
+        s,
+        stack,
+        subst (FewestBy (terms .kind) (isMove (moves terms)) s (terms .wanted)) here
+            (depth-fewest (terms .kind) (terms .n) (terms .wanted) beyond (begun .in-range) (begun .stack) (laws begun) s stack (omega (arith, here))),
+      )
+
+  row-is : (table : List ℕ) → length table ≡ bytesFor (N terms) → (given : List ℤ) (list : List ℕ) → isStack (terms .kind) (terms .n) given ≡ true
+      → planLimit ≤ length list → RowFacts (terms .kind) (terms .n) (terms .wanted) given (length table) (length list)
+  row-is table long given list h l =
+      record { of-kind = begun .is-kind; of-panes = begun .in-range; goal = begun .stack; start = h; long = long; wide = l }
+
   plan-is : (table : List ℕ) → RightTable (terms .kind) (terms .n) (moves terms) (terms .wanted) beyond table → length table ≡ bytesFor (N terms)
       → (given : List ℤ) (list : List ℕ) → isStack (terms .kind) (terms .n) given ≡ true
       → D terms (rankOf (terms .kind) (terms .n) given) ≤ planLimit → planLimit ≤ length list
-      → PlanIs (terms .kind) (terms .n) (terms .wanted) given (planOf (terms .kind) (terms .n) (terms .wanted) given table list)
-  unfolding PlanArrives
+      → PlanIs (terms .kind) (isMove (moves terms)) (terms .wanted) given (planOf (terms .kind) (terms .n) (terms .wanted) given table list)
   plan-is table right long given list h near l =
       let kind = terms .kind in
       let n = terms .n in
@@ -90,16 +124,17 @@ module _ {terms : Terms} (begun : Given terms) where
       let accepts : planRefusal kind n wanted given table (length list) 0 ≡ 0 =
       plan-goes-on kind n wanted given table (length list)
       (record {
-        row = record { of-kind = begun .is-kind; of-panes = begun .in-range; goal = begun .stack; start = h; long = long; wide = l };
+        row = row-is table long given list h l;
         plan = plan-there kind n wanted beyond table (begun .in-range) (begun .stack) (laws begun) plans-fit right given h near;
       })
       0 in
       let none : planOf kind n wanted given table list .1 .refusal ≡ 0 = plan-refusal-is kind n wanted given table list ∙ accepts in
       record {
         accepts = none;
-        arrives = plan-arrives kind n wanted given table list none .0;
-        shortest = subst (λ (out : List ℕ × Planned). Fewest kind n given wanted (out .1 .turns)) (sym (plan-accepted kind n wanted given table list accepts))
-            (turns-fewest kind n (plan-fewest kind n wanted beyond table (begun .in-range) (begun .stack) (laws begun) plans-fit right given h near));
+        arrives = plan-road kind n wanted given table list none .0;
+        shortest = subst (λ (out : List ℕ × Planned). FewestBy kind (isMove (moves terms)) given wanted (out .1 .turns))
+            (sym (plan-accepted kind n wanted given table list accepts))
+            (plan-fewest kind n wanted beyond table (begun .in-range) (begun .stack) (laws begun) plans-fit right given h near);
       }
 
   module _ {w : World} (shaped : Shaped terms w) {d : ℕ} (ended : Ended terms w d) where
@@ -132,85 +167,130 @@ module _ {terms : Terms} (begun : Given terms) where
           ap (λ (x : ℕ). g * x) (let q : terms .S ≡ terms .S / 4 * 4 = omega (arith, whole .four) in q),
         ))
 
-    -- by all turns each stack has a road, and one that a plan may have
-    has-road : (v : ℕ) → v < N terms → D terms v < beyond
-    has-road v l = omega (arith, depth-last begun v l)
+    -- an index has a depth that is searched, or none
+    near-or-far : (v : ℕ) → (D terms v < beyond) ⊎ (D terms v ≡ beyond)
+    near-or-far v = go (lt-or-ge (D terms v) beyond)
+      where
+        go : (D terms v < beyond) ⊎ (beyond ≤ D terms v) → (D terms v < beyond) ⊎ (D terms v ≡ beyond)
+        go (inl near) = inl near
+        go (inr far) = inr (omega (arith, depths begun .cut v))
 
-    stack-road : (s : List ℤ) → isStack (terms .kind) (terms .n) s ≡ true → D terms (rankOf (terms .kind) (terms .n) s) < beyond
-    stack-road s h = has-road (rankOf (terms .kind) (terms .n) s) (rank-lt (terms .kind) (terms .n) s (begun .in-range) h)
+    module _ (s : List ℤ) (h : isStack (terms .kind) (terms .n) s ≡ true) where
+      abbrev place : ℕ
+      place = rankOf (terms .kind) (terms .n) s
 
-    plan-short : (v : ℕ) → v < N terms → D terms v < beyond → D terms v ≤ planLimit
-    plan-short v l near = omega (arith, ended .greatest v l near, ended .last)
+      inside : place < N terms
+      inside = rank-lt (terms .kind) (terms .n) s (begun .in-range) h
 
-    plans-is : (given : List ℤ) (list : List ℕ) → isStack (terms .kind) (terms .n) given ≡ true → planLimit ≤ length list → Plans w given list
-    plans-is given list h l =
+      fewest-is : D terms place < beyond → FewestBy (terms .kind) (isMove (moves terms)) s (terms .wanted) (D terms place)
+      fewest-is = depth-fewest (terms .kind) (terms .n) (terms .wanted) beyond (begun .in-range) (begun .stack) (laws begun) s h
+
+      -- a stack beyond the levels has no road, however long: from a road's stacks one would be at the last level, which is empty
+      far-roadless : D terms place ≡ beyond → NoRoad (terms .kind) (terms .n) (isMove (moves terms)) (terms .wanted) s
+      far-roadless far ks road =
+          let b : ℕ = beyond + length ks in
+          let near : depth (terms .kind) (terms .n) (moves terms) (terms .wanted) b place ≤ length ks =
+          depth-road (terms .kind) (terms .n) (terms .wanted) b (begun .in-range) (begun .stack) (laws begun) s h ks road in
+          let cut : (v : ℕ) → D terms v ≡ min beyond (depth (terms .kind) (terms .n) (moves terms) (terms .wanted) b v) =
+          λ v. dist-cut (moves terms) (step terms) (goal terms) beyond b v (omega arith) in
+          let u =
+          between (move-depths (terms .kind) (terms .n) (terms .wanted) b (begun .in-range) (begun .stack) (laws begun) (omega arith))
+          place lastLevel inside (omega (arith, cut place)) (omega arith) in
+          omega (arith, ended .greatest (u .0) (u .1) (omega (arith, cut (u .0), u .2)), cut (u .0), u .2, ended .last)
+
+      entry-is : EntryBy (terms .kind) (terms .n) (isMove (moves terms)) (terms .wanted) s (entryAt (joined (w .segments)) place)
+      unfolding entryIn
+      entry-is = go (near-or-far place)
+        where
+          go : (D terms place < beyond) ⊎ (D terms place ≡ beyond)
+              → EntryBy (terms .kind) (terms .n) (isMove (moves terms)) (terms .wanted) s (entryAt (joined (w .segments)) place)
+          go (inl near) = inl (D terms place, fewest-is near, table-right s h near)
+          go (inr far) =
+              inr (far-roadless far, joined-entry (N terms) (terms .S) (w .segments) whole place inside ∙ ended .unreached place inside far)
+
+      road-near : (ks : List ℕ) → RoadBy (terms .kind) (isMove (moves terms)) ks s (terms .wanted) → D terms place < beyond
+      road-near ks road = go (near-or-far place)
+        where
+          go : (D terms place < beyond) ⊎ (D terms place ≡ beyond) → D terms place < beyond
+          go (inl near) = near
+          go (inr far) = absurd (far-roadless far ks road)
+
+      roadless-unseen : NoRoad (terms .kind) (terms .n) (isMove (moves terms)) (terms .wanted) s → entryOf (terms .kind) (terms .n) (joined (w .segments)) s ≡ unseen
+      unfolding entryOf unseen
+      roadless-unseen none = go entry-is
+        where
+          go : EntryBy (terms .kind) (terms .n) (isMove (moves terms)) (terms .wanted) s (entryAt (joined (w .segments)) place)
+              → entryAt (joined (w .segments)) place ≡ 3
+          go (inl r) = absurd (none (r .1 .road) (r .1 .leads))
+          go (inr r) = r .1
+
+    long : length (joined (w .segments)) ≡ bytesFor (N terms)
+    long = joined-length (N terms) (terms .S) (w .segments) whole
+
+    plans-is : (given : List ℤ) (list : List ℕ) → isStack (terms .kind) (terms .n) given ≡ true → planLimit ≤ length list
+        → (ks : List ℕ) → RoadBy (terms .kind) (isMove (moves terms)) ks given (terms .wanted)
+        → PlansBy (terms .kind) (terms .n) (isMove (moves terms)) (terms .wanted) w given list
+    plans-is given list h l ks road =
+        let near = road-near given h ks road in
         let p =
-        subst (λ (t : Terms). PlanIs (t .kind) (t .n) (t .wanted) given (planOf (t .kind) (t .n) (t .wanted) given (joined (w .segments)) list)) (sym (shaped .terms-is))
-        (plan-is (joined (w .segments)) table-right (joined-length (N terms) (terms .S) (w .segments) whole) given list h
-        (plan-short (rankOf (terms .kind) (terms .n) given) (rank-lt (terms .kind) (terms .n) given (begun .in-range) h) (stack-road given h)) l) in
+        subst (λ (t : Terms). PlanIs (terms .kind) (isMove (moves terms)) (terms .wanted) given (planOf (t .kind) (t .n) (t .wanted) given (joined (w .segments)) list))
+        (sym (shaped .terms-is))
+        (plan-is (joined (w .segments)) table-right long given list h
+        (omega (arith, ended .greatest (place given h) (inside given h) near, ended .last)) l) in
         record { accepts = p .accepts; arrives = p .arrives; shortest = p .shortest }
 
-    pub ended-finishes : Finishes (terms .kind) (terms .n) (terms .wanted) w
-    unfolding entryIn seenIn unseen countOf
+    refuses-is : (given : List ℤ) (list : List ℕ) → isStack (terms .kind) (terms .n) given ≡ true → planLimit ≤ length list
+        → NoRoad (terms .kind) (terms .n) (isMove (moves terms)) (terms .wanted) given → planIn w given list .1 .refusal ≡ 15
+    refuses-is given list h l none =
+        let table : List ℕ = joined (w .segments) in
+        subst (λ (t : Terms). planOf (t .kind) (t .n) (t .wanted) given table list .1 .refusal ≡ 15) (sym (shaped .terms-is))
+        (plan-refusal-is (terms .kind) (terms .n) (terms .wanted) given table list
+        ∙ plan-unseen (terms .kind) (terms .n) (terms .wanted) given table (length list) (row-is table long given list h l) (roadless-unseen given h none) 0)
+
+    -- the counts add up to the seen: an entry is other than 3 exactly where the depth is searched
+    added-is : total (w .job .counts) ≡ seenIn (joined (w .segments)) (N terms)
+    unfolding seenIn countOf entryIn unseen
+    added-is =
+        total-from (w .job .counts) (levelCount terms) 0
+        (λ i l. ended .counts i (omega (arith, shaped .counts-length)) ∙ ap (levelCount terms) (sym (zero-add i)))
+        ∙ ap (λ (m : ℕ). total (map (levelCount terms) (from 0 m))) (shaped .counts-length)
+        ∙ tally-values (D terms) (N terms) countPlaces
+        ∙ tally-same (λ v. ltb (D terms v) countPlaces) (λ v. not (eqb (entryAt (joined (w .segments)) v) unseen)) (N terms) (λ v l. same v l (near-or-far v))
+      where
+        same : (v : ℕ) → v < N terms → (D terms v < beyond) ⊎ (D terms v ≡ beyond)
+            → ltb (D terms v) countPlaces ≡ not (eqb (entryAt (joined (w .segments)) v) unseen)
+        same v l (inl near) =
+            lt-ltb (D terms v) countPlaces near
+            ∙ sym (ap not (ne-eqb (entryAt (joined (w .segments)) v) unseen
+            (λ e. omega (arith, joined-entry (N terms) (terms .S) (w .segments) whole v l, ended .entries v l near, mod-lt (D terms v) {m = 3} (omega arith)))))
+        same v l (inr far) =
+            le-ltb (D terms v) countPlaces (omega (arith, far))
+            ∙ sym (ap not (eq-eqb (entryAt (joined (w .segments)) v) unseen
+            (joined-entry (N terms) (terms .S) (w .segments) whole v l ∙ ended .unreached v l far)))
+
+    pub ended-finishes : FinishesBy (terms .kind) (terms .n) (isMove (moves terms)) (terms .wanted) w
+    unfolding countOf
     ended-finishes =
         record {
-          entries = λ s h. (
-            D terms (rankOf (terms .kind) (terms .n) s),
-            fewest-is s h,
-            table-right s h (stack-road s h),
-          );
+          entries = entry-is;
           spare = spare-is;
-          counts = λ i l. turns-counts (terms .kind) (terms .n)
-              (counts-by (terms .kind) (terms .n) (terms .wanted) beyond (begun .in-range) (begun .stack) (laws begun) i (omega arith) (countOf (w .job) i)
-              (ended .counts i (omega arith)));
+          counts = λ i l. counts-by (terms .kind) (terms .n) (terms .wanted) beyond (begun .in-range) (begun .stack) (laws begun) i (omega arith) (countOf (w .job) i)
+              (ended .counts i (omega arith));
           past = λ i h. ended .counts-past i (omega (arith, level-is));
-          added = added-is ∙ sym seen-is;
-          all-seen = seen-is;
-          deepest = deepest-is;
+          added = added-is;
+          deepest = subst (Needs (terms .kind) (terms .n) (isMove (moves terms)) (terms .wanted)) (sym level-is)
+              (depth-needs d (ended .deepest) (omega (arith, ended .last)));
           greatest = greatest-is;
+          below = omega (arith, level-is, ended .last);
           given-kind = ap (λ (t : Terms). t .kind) (shaped .terms-is);
           given-n = ap (λ (t : Terms). t .n) (shaped .terms-is);
           given-wanted = ap (λ (t : Terms). t .wanted) (shaped .terms-is);
           plans = plans-is;
+          refuses = refuses-is;
         }
       where
-        fewest-is : (s : List ℤ) → isStack (terms .kind) (terms .n) s ≡ true
-            → Fewest (terms .kind) (terms .n) s (terms .wanted) (D terms (rankOf (terms .kind) (terms .n) s))
-        fewest-is s h =
-            turns-fewest (terms .kind) (terms .n)
-            (depth-fewest (terms .kind) (terms .n) (terms .wanted) beyond (begun .in-range) (begun .stack) (laws begun) s h (stack-road s h))
-
-        -- every stack is seen, and at a depth that has its count
-        seen-is : seenIn (joined (w .segments)) (N terms) ≡ N terms
-        seen-is =
-            tally-all (λ v. not (eqb (entryAt (joined (w .segments)) v) unseen)) (N terms)
-            (λ v l. ap not (ne-eqb (entryAt (joined (w .segments)) v) unseen
-            (λ e. omega (arith, joined-entry (N terms) (terms .S) (w .segments) whole v l, ended .entries v l (has-road v l), mod-lt (D terms v) {m = 3} (omega arith)))))
-
-        added-is : total (w .job .counts) ≡ N terms
-        added-is =
-            total-from (w .job .counts) (levelCount terms) 0
-            (λ i l. ended .counts i (omega (arith, shaped .counts-length)) ∙ ap (levelCount terms) (sym (zero-add i)))
-            ∙ ap (λ (m : ℕ). total (map (levelCount terms) (from 0 m))) (shaped .counts-length)
-            ∙ tally-values (D terms) (N terms) countPlaces
-            ∙ tally-all (λ v. ltb (D terms v) countPlaces) (N terms) (λ v l. lt-ltb (D terms v) countPlaces (omega (arith, has-road v l)))
-
-        deepest-is : (s : List ℤ) × (isStack (terms .kind) (terms .n) s ≡ true) × Fewest (terms .kind) (terms .n) s (terms .wanted) (levelOf (w .job .phase))
-        deepest-is =
-            let v = ended .deepest in
-            let s = stackAt (terms .kind) (terms .n) (v .0) in
-            let stack = unrank-stack (terms .kind) (terms .n) (v .0) (begun .in-range) (v .1) in (
-              s,
-              stack,
-              subst (Fewest (terms .kind) (terms .n) s (terms .wanted)) (ap (D terms) (rank-unrank (terms .kind) (terms .n) (v .0) (begun .in-range) (v .1)) ∙ v .2 ∙ sym level-is)
-                  (fewest-is s stack),
-            )
-
-        greatest-is : (s : List ℤ) (i : ℕ) → isStack (terms .kind) (terms .n) s ≡ true → Fewest (terms .kind) (terms .n) s (terms .wanted) i → i ≤ levelOf (w .job .phase)
+        greatest-is : (s : List ℤ) (i : ℕ) → isStack (terms .kind) (terms .n) s ≡ true → FewestBy (terms .kind) (isMove (moves terms)) s (terms .wanted) i
+            → i ≤ levelOf (w .job .phase)
         greatest-is s i h f =
-            omega (
-              arith,
-              level-is,
-              fewest-unique (fewest-is s h) f,
-              ended .greatest (rankOf (terms .kind) (terms .n) s) (rank-lt (terms .kind) (terms .n) s (begun .in-range) h) (stack-road s h),
-            )
+            let near = road-near s h (f .road) (f .leads) in
+            omega (arith, level-is, fewest-unique (fewest-is s h near) f, ended .greatest (place s h) (inside s h) near)

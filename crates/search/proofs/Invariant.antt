@@ -80,8 +80,9 @@ module _ (terms : Terms) where
     pub last : d < lastLevel
     pub none-passed : (j : ℕ) → passedOf (w .job) j ≡ 0
     pub none-waits : (j : ℕ) → waitingOf (w .job) j ≡ 0
-    -- of each stack that has a road
+    -- of each stack that has a road, and of each that has none
     pub entries : (v : ℕ) → v < N terms → D terms v < beyond → entryIn (terms .S) (w .segments) v ≡ D terms v % 3
+    pub unreached : (v : ℕ) → v < N terms → D terms v ≡ beyond → entryIn (terms .S) (w .segments) v ≡ 3
     pub greatest : (v : ℕ) → v < N terms → D terms v < beyond → D terms v ≤ d
     pub spares : Spares w
     pub counts : (i : ℕ) → i < beyond → countOf (w .job) i ≡ levelCount terms i

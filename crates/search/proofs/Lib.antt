@@ -33,5 +33,6 @@ pub mod BuildCoherent
 pub mod WorkLeft
 pub mod Advancing
 pub mod WholeBuild
+pub mod AllTurns
 pub mod Driving
 pub mod WholeTable

@@ -111,6 +111,14 @@ module _ (kind n : ℕ) (wanted given : List ℤ) (table : List ℕ) (slots : �
       let g = unless-zero plan 14 rest (f .1) in
       (record { row = f .0; plan = g .0 }, g .1)
 
+  -- a given stack that the table has not seen is refused
+  pub plan-unseen : RowFacts kind n wanted given (length table) slots → entryOf kind n table given ≡ unseen
+      → (rest : ℕ) → planRefusal kind n wanted given table slots rest ≡ 15
+  unfolding planRefusal hasPlan
+  plan-unseen f h rest =
+      row-goes-on kind n wanted given (length table) slots f (unless (hasPlan kind n table wanted (turnsOf kind n) given) 15 rest)
+      ∙ rw (eq-eqb (entryOf kind n table given) unseen h)
+
   -- what Plan refuses is refused, whatever the rest
   pub plan-refuses : (r rest : ℕ) → r ≡ planRefusal kind n wanted given table slots 0 → (r ≡ 0 → ⊥) → r ≡ planRefusal kind n wanted given table slots rest
   unfolding planRefusal

@@ -6,7 +6,7 @@
 --   D             the fewest moves from the stack at an index, cut beyond the last level
 --   levelCount    how many stacks are at exactly d moves
 --   Given         what Begin saw to, and what follows: some stacks in a segment, few segments, and the laws of the moves
--- That every stack has a road, shorter than the last level, is a fact about all turns; it enters here alone, as `depth-last`.
+-- That every stack has a road, and a short one, is a fact about all turns, of which nothing is known here.
 use mathlib.Core.Path.{_≡_}
 use mathlib.Core.Bool.{true}
 use mathlib.Core.List.{List}
@@ -19,13 +19,12 @@ use Rattle.graph.proofs.Depths.{Depths}
 use Rattle.stacks.specs.Index.{rankOf}
 use Rattle.stacks.specs.Stack.{isKind, isPaneCount, isStack, stackCount}
 use Rattle.stacks.specs.Turn.{turnsOf}
-use Rattle.stacks.proofs.TurnBound.{turn-bound-30}
 use Rattle.search.specs.Build.{Lengths}
 use Rattle.search.specs.JobState.{lastLevel}
 use Rattle.search.specs.Promise.{rightLengths}
 use Rattle.search.specs.Segments.{segmentLimit, segmentCount, stackCountIn, isSegmentSize, isLogRoom}
 use Rattle.search.specs.declared.Job.{Job}
-use Rattle.search.proofs.Fewest.{depth, move-depths, goal-inside, turns-depth}
+use Rattle.search.proofs.Fewest.{depth, move-depths, goal-inside}
 use Rattle.search.proofs.SegmentLaws.{SegmentSizeFacts, segment-size-facts}
 use Rattle.search.proofs.Turning.{childAt, Moves, all-turns}
 
@@ -99,12 +98,3 @@ module _ {terms : Terms} (given : Given terms) where
 
   pub goal-here : goal terms < N terms
   goal-here = goal-inside (terms .kind) (terms .n) (terms .wanted) beyond (given .in-range) (given .stack) laws
-
-  -- by all turns, no stack is as deep as the last level
-  pub depth-last : (v : ℕ) → v < N terms → D terms v < lastLevel
-  depth-last v h =
-      omega (
-        arith,
-        turns-depth (terms .kind) (terms .n) (terms .wanted) beyond (given .in-range) (given .stack) v h,
-        turn-bound-30 (terms .kind) (terms .n) (given .in-range),
-      )

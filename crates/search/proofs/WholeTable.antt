@@ -14,7 +14,7 @@ use Rattle.base.proofs.Tests.{unless-zero, eq-or-ne}
 use Rattle.stacks.specs.Stack.{stackCount}
 use Rattle.search.specs.Begin.{begun}
 use Rattle.search.specs.Build.{World}
-use Rattle.search.specs.Drive.{advanced, drive, mostCalls, cut, held, laid, buildRefusal, built, buildOf, Builds}
+use Rattle.search.specs.Drive.{advanced, hasEnded, drive, mostCalls, cut, held, laid, buildRefusal, built, buildOf, Builds}
 use Rattle.search.specs.Entries.{bytesFor}
 use Rattle.search.specs.JobState.{beginRefusal, isFinished, isCoherent, stackCountOf}
 use Rattle.search.specs.Promise.{rightBytes, rightWords}
@@ -29,7 +29,7 @@ use Rattle.search.proofs.Invariant.{Shaped, Invariant}
 use Rattle.search.proofs.Terms.{termsWith, Given}
 use Rattle.search.proofs.SegmentLaws.{SegmentSizeFacts, segment-size-facts, Segmented, joined-length}
 use Rattle.search.proofs.Shapes.{size-is, count-is, shaped-segmented}
-use Rattle.search.proofs.WholeBuild.{finishes-is}
+use Rattle.search.proofs.AllTurns.{all-finishes, all-finished}
 use Rattle.search.proofs.WorkLeft.{workLeft}
 
 module _ (kind n : ℕ) (wanted : List ℤ) (S C bytes words : ℕ) where
@@ -121,9 +121,9 @@ module _ {kind n : ℕ} {wanted : List ℤ} {S C : ℕ} {table₀ log₀ : List 
       next-invariant : Invariant (termsWith kind n wanted S C) (held next table′ log′)
       next-invariant = subst (Invariant (termsWith kind n wanted S C)) (sym held-next) (advanced-keeps (driving .given) (driving .invariant))
 
-      pub driving-steps : isFinished (job .phase) ≡ false → Driving kind n wanted S C table₀ log₀ next table′ log′
+      pub driving-steps : hasEnded job ≡ false → Driving kind n wanted S C table₀ log₀ next table′ log′
       unfolding laid held
-      driving-steps unfinished =
+      driving-steps on =
           let N = stackCount kind n in
           let w = held job table log in
           let most = mostCalls N (segmentCount N S) in
@@ -133,25 +133,25 @@ module _ {kind n : ℕ} {wanted : List ℤ} {S C : ℕ} {table₀ log₀ : List 
             long = ap (λ (t : List ℕ × List ℕ × Job). length (t .0)) step
                 ∙ joined-length N S (advanced w .segments) (shaped-segmented (advanced-keeps (driving .given) (driving .invariant) .shaped) (driving .given));
             same = driving .same
-                ∙ drive-advanced (driving .given) most w (driving .invariant) (omega (arith, work-most N S job)) unfinished
+                ∙ drive-advanced (driving .given) most w (driving .invariant) (omega (arith, work-most N S job)) on
                 ∙ ap (drive most) (sym held-next);
           }
 
-      pub driving-falls : isFinished (job .phase) ≡ false → workLeft (stackCount kind n) S next < workLeft (stackCount kind n) S job
+      pub driving-falls : hasEnded job ≡ false → workLeft (stackCount kind n) S next < workLeft (stackCount kind n) S job
       unfolding held
-      driving-falls unfinished =
+      driving-falls on =
           omega (
             arith,
             ap (λ (w : World). workLeft (stackCount kind n) S (w .job)) held-next,
-            advanced-falls (driving .given) (driving .invariant) unfinished,
+            advanced-falls (driving .given) (driving .invariant) on,
           )
 
-    pub driving-ends : isFinished (job .phase) ≡ true → laid (built kind n wanted S C table₀ log₀) ≡ (table, log, job)
+    pub driving-ends : hasEnded job ≡ true → laid (built kind n wanted S C table₀ log₀) ≡ (table, log, job)
     unfolding laid held
-    driving-ends finished =
+    driving-ends end =
         let N = stackCount kind n in
         let w = held job table log in
-        ap laid (driving .same ∙ drive-done (mostCalls N (segmentCount N S)) w finished)
+        ap laid (driving .same ∙ drive-done (mostCalls N (segmentCount N S)) w end)
         ∙ ap (λ (t : List ℕ). (t, log, job))
         (rw (count-is (driving .invariant .shaped), size-is (driving .invariant .shaped))
         (joined-cut N S (some (driving .given)) (facts (driving .given) .four) table (driving .long)))
@@ -167,13 +167,14 @@ build-finishes kind n wanted S C table log accepted =
     let w : World = built kind n wanted S C table log in
     let first : World = held (begun kind n wanted S C) table log in
     let most = mostCalls N (segmentCount N S) in
-    let end : Invariant (termsWith kind n wanted S C) w × (isFinished (w .job .phase) ≡ true) =
-    subst (λ (x : World). Invariant (termsWith kind n wanted S C) x × (isFinished (x .job .phase) ≡ true)) (sym (start .same))
+    let end : Invariant (termsWith kind n wanted S C) w × (hasEnded (w .job) ≡ true) =
+    subst (λ (x : World). Invariant (termsWith kind n wanted S C) x × (hasEnded (x .job) ≡ true)) (sym (start .same))
     (drive-keeps g most first (start .invariant) (omega (arith, work-most N S (first .job)))) in
+    let finished : isFinished (w .job .phase) ≡ true = all-finished g (end .0) (end .1) in
     record {
       leaves = rw (eq-eqb (buildRefusal kind n wanted S C (length table) (length log)) 0 accepted);
-      finished = end .1;
-      finishes = finishes-is g (end .0) (end .1);
+      finished = finished;
+      finishes = all-finishes g (end .0) finished;
       table-length = joined-length N S (w .segments) (shaped-segmented (end .0 .shaped) g) ∙ sym (accepts .bytes-fit);
       log-length = end .0 .shaped .log-length ∙ sym (accepts .words-fit);
     }

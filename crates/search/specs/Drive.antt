@@ -1,11 +1,12 @@
 -- Build the whole table: a build that is run from Begin to its end, in a table and a log area that are lent whole.
 --   nextCall    the call that the driver makes next
 --   cut         a whole table as segments, which joined puts together again
---   drive       the calls chosen so, one after the other, until the build has finished
+--   hasEnded    whether a build has ended, in Finished or where Close says 14
+--   drive       the calls chosen so, one after the other, until the build has ended
 --   buildOf     what the operation leaves in the table and the log area, and its answer
 --   Builds      what we promise of it
 use mathlib.Core.Path.{_≡_}
-use mathlib.Core.Bool.{Bool, true, cond}
+use mathlib.Core.Bool.{Bool, true, _||_, cond}
 use mathlib.Core.List.{List, map}
 use Prim.Native.Nat.{ℕ, zero, suc, _*_, _/_}
 use lib.Dec.{ltb, eqb}
@@ -15,6 +16,7 @@ use Rattle.base.specs.Words.{unless, from, firstFrom}
 use Rattle.stacks.specs.Stack.{stackPlaces, stackCount}
 use Rattle.search.specs.Begin.{begun}
 use Rattle.search.specs.Build.{World, Lengths, Call, own, doBlank, doExpand, doSettle, doClose, outcome}
+use Rattle.search.specs.Close.{closeRefusal}
 use Rattle.search.specs.Entries.{bytesFor}
 use Rattle.search.specs.JobState.{lastLevel, beginRefusal, stackCountOf, segmentCountOf, stackCountAt, passedOf, waitingOf, isBlanking, isFinished}
 use Rattle.search.specs.Promise.{rightWords, rightLengths, Finishes}
@@ -52,10 +54,14 @@ unfoldable pub advanced : World → World
 advanced w =
     outcome {right = rightLengths (w .job .kind) (w .job .n) (w .job .size) (w .job .room)} w (nextCall (w .job)) .world
 
+-- it has finished, or Close says that there is no level after the last
+unfoldable pub hasEnded : Job → Bool
+hasEnded job = isFinished (job .phase) || eqb (closeRefusal job) 14
+
 -- at most as many calls as are named; the let waits until the test is known
 unfoldable pub drive : ℕ → World → World
 drive zero w = w
-drive (suc calls) w = let rest = drive calls (advanced w) in cond (isFinished (w .job .phase)) w rest
+drive (suc calls) w = let rest = drive calls (advanced w) in cond (hasEnded (w .job)) w rest
 
 -- each call leaves less to do, levels first, then stacks not passed, then logs with entries, so that no build makes more calls
 unfoldable pub mostCalls : ℕ → ℕ → ℕ

@@ -15,4 +15,5 @@ pub mod Read
 pub mod Plan
 pub mod Build
 pub mod Promise
+pub mod PromiseBy
 pub mod Drive

@@ -6,7 +6,7 @@ use borrow.Author.Tests.{not-true, not-false}
 use lib.ListN.{length}
 use Rattle.stacks.specs.Stack.{stackCount}
 use Rattle.search.specs.Begin.{begun}
-use Rattle.search.specs.JobState.{isFinished}
+use Rattle.search.specs.Drive.{hasEnded}
 use Rattle.search.proofs.WholeTable.{Accepts, build-accepts, Driving, driving-coherent, driving-bytes, driving-steps, driving-falls}
 use Rattle.search.proofs.WorkLeft.{workLeft}
 use Rattle.build.proofs.Building.{begin-zeros, begin-accepted, build-begins, build-wants, build-refused, build-ends, table-kept, log-kept}
@@ -52,24 +52,24 @@ loop-holds c =
     let a = c .before .before .before .before .before .args in
     build-begins (a .kind) (a .n) (a .wanted) (a .size) (a .room) (a .table .now) (a .log .now) (c .begun-job2 .result) (first-job c) (accepts (c .before))
 
-has-finished-requires : tie.Need-has-finished-requires Inv-loop μ-loop
-has-finished-requires c κs = search needs
+has-ended-requires : tie.Need-has-ended-requires Inv-loop μ-loop
+has-ended-requires c κs = search needs
 
 advance-requires : tie.Need-advance-requires Inv-loop μ-loop
 advance-requires c κs =
     let driving = c .before .before .before .before .loop .inv in
     (driving-coherent driving, driving-bytes driving)
 
-unfinished : (c : tie.Then2 Inv-loop μ-loop) → isFinished (c .before .before .loop .job .phase) ≡ false
-unfinished c = let f = c .before .has-finished in sym (f .ensures) ∙ not-true (f .result) (c .if2 .taken)
+goes-on : (c : tie.Then2 Inv-loop μ-loop) → hasEnded (c .before .before .loop .job) ≡ false
+goes-on c = let f = c .before .has-ended in sym (f .ensures) ∙ not-true (f .result) (c .if2 .taken)
 
 loop-less : tie.Need-loop-less Inv-loop μ-loop
 loop-less c =
-    driving-falls (c .before .before .before .before .before .before .before .before .before .loop .inv) (c .before .before .before .before .advance .ensures) (unfinished (c .before .before .before .before .before .before .before))
+    driving-falls (c .before .before .before .before .before .before .before .before .before .loop .inv) (c .before .before .before .before .advance .ensures) (goes-on (c .before .before .before .before .before .before .before))
 
 loop-again : tie.Need-loop-again Inv-loop μ-loop
 loop-again c =
-    driving-steps (c .before .before .before .before .before .before .before .before .before .loop .inv) (c .before .before .before .before .advance .ensures) (unfinished (c .before .before .before .before .before .before .before))
+    driving-steps (c .before .before .before .before .before .before .before .before .before .loop .inv) (c .before .before .before .before .advance .ensures) (goes-on (c .before .before .before .before .before .before .before))
 
 -- the loop's build is that of the wanted stack
 wants : (c : tie.At-loop Inv-loop μ-loop) → let a = c .before .before .before .before .before .before .args in
@@ -95,7 +95,7 @@ returns-2 c =
     let l = c .before .before in
     let a = l .before .before .before .before .before .before .args in
     let f = l .before .before .before .build-refusal in
-    let end = c .before .has-finished in
+    let end = c .before .has-ended in
     build-ends (a .kind) (a .n) (a .wanted) (a .size) (a .room) (a .table .now) (a .log .now) (f .result) (f .ensures) (l .before .before .if1 .left) (wants l)
     (sym (end .ensures) ∙ not-false (end .result) (c .if2 .left))
 
@@ -110,7 +110,7 @@ build-table-spec =
     returns
     begun-job-requires-2
     loop-holds
-    has-finished-requires
+    has-ended-requires
     advance-requires
     loop-less
     loop-again

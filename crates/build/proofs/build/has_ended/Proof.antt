@@ -1,0 +1,28 @@
+-- `build::build::has_ended` meets its contract.
+use mathlib.Core.Path.{sym, ap, _∙_}
+use Prim.Native.Nat.{ℕ}
+use lib.Dec.{eqb}
+use borrow.Author.Needs.{needs}
+use Rattle.search.proofs.Advancing.{finished-ended, unfinished-ended}
+use Rattle.build.proofs.build.has_ended.Statement.{statement}
+use Rattle.build.proofs.build.has_ended.Tie as tie
+
+is-finished-requires : tie.Need-is-finished-requires
+is-finished-requires c κs = search needs
+
+returns : tie.Need-returns
+returns c =
+    let f = c .before .is-finished in
+    sym (finished-ended (c .before .before .args .job) (sym (f .ensures) ∙ c .if1 .taken))
+
+close-refusal-requires : tie.Need-close-refusal-requires
+close-refusal-requires c κs = search needs
+
+returns-2 : tie.Need-returns-2
+returns-2 c =
+    let f = c .before .before .is-finished in
+    ap (λ (r : ℕ). eqb r 14) (c .close-refusal .ensures)
+    ∙ unfinished-ended (c .before .before .before .args .job) (sym (f .ensures) ∙ c .before .if1 .left)
+
+pub has-ended-spec : {M : Type 1} → statement M
+has-ended-spec = tie.close (tie.spec is-finished-requires returns close-refusal-requires returns-2)
