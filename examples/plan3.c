@@ -10,6 +10,8 @@ enum { KIND = HOKRUND_PLAIN, PANES = 3, S = 4, C = 16 };
 /* N is no enum constant: that of coated 10 does not fit an int. */
 #define N HOKRUND_STACKS(KIND, PANES)
 #define G HOKRUND_SEGMENT_COUNT(N, S)
+/* The frame lifts every size that is a turn. */
+#define GROUPS HOKRUND_ALL_GROUPS(KIND, PANES)
 
 /* The segments stand in the table itself. */
 static uint8_t table[HOKRUND_TABLE_BYTES(N)];
@@ -35,7 +37,7 @@ static HokrundJob next_of(HokrundAnswer answer)
 
 static void build(HokrundStack wanted)
 {
-    HokrundJob job = next_of(hokrund_begin(KIND, PANES, wanted, S, C));
+    HokrundJob job = next_of(hokrund_begin(KIND, PANES, wanted, GROUPS, S, C));
     for (uint32_t j = 0; j < G; j++)
         job = next_of(hokrund_blank(job, j, SEGMENT(j)));
     job = next_of(hokrund_close(job));
@@ -60,7 +62,7 @@ int main(void)
     build(wanted);
     for (int i = 0; i < 4; i++) {
         uint8_t turns[HOKRUND_TURN_LIST];
-        HokrundPlanned p = hokrund_plan(KIND, PANES, wanted, given[i], table, sizeof table, turns, sizeof turns);
+        HokrundPlanned p = hokrund_plan(KIND, PANES, wanted, given[i], GROUPS, table, sizeof table, turns, sizeof turns);
         printf("%d %d %d:", given[i].places[0], given[i].places[1], given[i].places[2]);
         for (uint32_t t = 0; t < p.turns; t++)
             printf(" %d", turns[t]);

@@ -11,7 +11,8 @@
  * it was, and the job comes back as it was given. Every other number of a refused answer is 0.
  *
  * A build, by hokrund_build_table alone, or call by call: begin; blank each segment; close; then for each level expand each segment, settle
- * a segment for which expand waits and expand on, settle every segment, and close, until the phase is HOKRUND_FINISHED.
+ * a segment for which expand waits and expand on, settle every segment, and close, until the phase is HOKRUND_FINISHED or, by a set that is
+ * not full, close says 14.
  * examples/coated.c is the first way, examples/plan3.c the second. The segments in order are the table that read_entry, plan and price take.
  *
  * The archive is target/staticlib/libhokrund.a. `rt staticlib hokrund` proves the library and makes it; the gate, .ci/run, clears target/
@@ -30,7 +31,7 @@ extern "C" {
 #endif
 
 /* Rises with every change of a function, a struct or a number that is declared here. */
-#define HOKRUND_VERSION 2
+#define HOKRUND_VERSION 3
 
 /* Kinds: plain panes 1 to n, with n from 1 to 12; coated panes, minus for coat down, with n from 1 to 10. */
 #define HOKRUND_PLAIN 0
@@ -41,15 +42,15 @@ extern "C" {
 #define HOKRUND_LEVEL 1
 #define HOKRUND_FINISHED 2
 
-/* An entry of the table that no level has reached. */
+/* An entry of the table that no level has reached. In a finished table: no turns of the set lead from that stack to the wanted one. */
 #define HOKRUND_UNSEEN 3
 
 /* What the structs hold, the fewest bytes of the turn list of plan and price, and the most thousandths of a penny that a line may ask. */
 #define HOKRUND_PLACES 12
 #define HOKRUND_SEGMENTS 64
-#define HOKRUND_LEVELS 32
+#define HOKRUND_LEVELS 256
 #define HOKRUND_LINES 12
-#define HOKRUND_TURN_LIST 30
+#define HOKRUND_TURN_LIST 254
 #define HOKRUND_MOST_PRICE 1000000
 
 /* Refusals. */
@@ -67,14 +68,16 @@ extern "C" {
 #define HOKRUND_REFUSED_PASSED 11       /* all stacks of the segment are passed */
 #define HOKRUND_REFUSED_OFFSET 12       /* an offset that waits in the log is m or more */
 #define HOKRUND_REFUSED_NOT_READY 13    /* a segment has stacks not passed or entries waiting */
-#define HOKRUND_REFUSED_LAST_LEVEL 14   /* level 31 brought stacks */
-#define HOKRUND_REFUSED_NO_PLAN 15      /* the table leads from the given stack nowhere, or not in 30 turns */
+#define HOKRUND_REFUSED_LAST_LEVEL 14   /* level 255 brought stacks; in a build, some stack needs exactly 255 turns */
+#define HOKRUND_REFUSED_NO_PLAN 15      /* the table leads from the given stack nowhere, or not in 254 turns */
 #define HOKRUND_REFUSED_LINE 17         /* over 12 lines, or a line starts at 0, ends before it starts or above n, or has too high a price */
 #define HOKRUND_REFUSED_NO_LINE 18      /* a size from 1 to n has no line */
 #define HOKRUND_REFUSED_TWO_LINES 19    /* a size from 1 to n has two lines */
+#define HOKRUND_REFUSED_NO_ROAD 20      /* the given stack's entry is 3 */
+#define HOKRUND_REFUSED_GROUPS 21       /* the set names a size that is no turn, or is empty although n has turns */
 
-/* The macros below compute in 64 bits, whatever integers they are given, and are constant where their arguments are. They evaluate an argument
- * more than once. */
+/* The macros below compute in 64 bits, but for the sets, which have 32, whatever integers they are given, and are constant where their arguments
+ * are. They evaluate an argument more than once. */
 
 /* N, the stacks of a kind and n: n! if plain, n! x 2^n if coated, and 0 where there is no such kind or n. */
 #define HOKRUND_STACKS(kind, n)                                                                                       \
@@ -86,6 +89,12 @@ extern "C" {
     ((uint64_t)((n) == 0 || (n) == 1 ? 1 : (n) == 2 ? 2 : (n) == 3 ? 6 : (n) == 4 ? 24 : (n) == 5 ? 120               \
      : (n) == 6 ? 720 : (n) == 7 ? 5040 : (n) == 8 ? 40320 : (n) == 9 ? 362880 : (n) == 10 ? 3628800                  \
      : (n) == 11 ? 39916800 : (n) == 12 ? 479001600 : 0))
+
+/* A set of group sizes, which are those that the frame lifts: size k is the bit of weight 2^(k-1). The full set of a kind and n, which names
+ * every turn, is empty for plain 1; 0 where there is no such kind or n. A set for a frame that lifts 2 and 4 only: (1u << 1) | (1u << 3). */
+#define HOKRUND_ALL_GROUPS(kind, n)                                                                                   \
+    (HOKRUND_STACKS(kind, n) == 0 ? (uint32_t)0                                                                       \
+     : (((uint32_t)1 << ((n) & 15)) - 1) & ((kind) == HOKRUND_PLAIN ? ~(uint32_t)1 : ~(uint32_t)0))
 
 /* G, the segments of N stacks by an S above 0. m, the stacks of segment j: those with index from j x S to just below the lesser of
  * (j + 1) x S and N; 0 from segment G up. */
@@ -108,22 +117,23 @@ typedef struct HokrundStack {
 } HokrundStack;
 
 /* A build. It is coherent when
- *   begin would accept kind, n, wanted, size and room;
- *   phase is HOKRUND_BLANKING and level 0, HOKRUND_LEVEL and level 1 to 31, or HOKRUND_FINISHED and level 0 to 30;
+ *   begin would accept kind, n, wanted, groups, size and room;
+ *   phase is HOKRUND_BLANKING and level 0, HOKRUND_LEVEL and level 1 to 255, or HOKRUND_FINISHED and level 0 to 254;
  *   passed is at most m of its segment and waiting at most C, and both are 0 from segment G up;
  *   each count is at most 2^60.
- * The job of an accepted begin is coherent, and so is every job that the calls after it give. */
+ * The job of an accepted begin is coherent, and so is every job that the calls after it give. Four bytes before counts belong to no field. */
 typedef struct HokrundJob {
     uint8_t kind;
     uint8_t n;
     uint8_t phase;
     uint8_t level;
     HokrundStack wanted;
+    uint32_t groups;                    /* the set of group sizes that the frame lifts */
     uint32_t size;                      /* S, the stacks of a segment */
     uint32_t room;                      /* C, the places of a log */
     uint32_t passed[HOKRUND_SEGMENTS];  /* of each segment, the stacks passed in this phase */
     uint32_t waiting[HOKRUND_SEGMENTS]; /* of each segment, the entries that wait in its log */
-    uint64_t counts[HOKRUND_LEVELS];    /* of each level, the stacks at exactly that many turns */
+    uint64_t counts[HOKRUND_LEVELS];    /* of each level, the stacks at exactly that many turns of the set */
 } HokrundJob;
 
 typedef struct HokrundIndexed {
@@ -201,8 +211,9 @@ HokrundStacked hokrund_stack_at_index(uint8_t kind, uint8_t n, uint32_t index);
 HokrundStacked hokrund_turn(uint8_t kind, uint8_t n, HokrundStack stack, uint8_t k);
 
 /* Begin: a job in Blanking with nothing passed, waiting or counted. Beside a refusal stands a job of zeros, which every call refuses 7.
- * Refused 1, 2, 3 for wanted, 5, 6. */
-HokrundAnswer hokrund_begin(uint8_t kind, uint8_t n, HokrundStack wanted, uint32_t size, uint32_t room);
+ * Only the turns that groups names make children; HOKRUND_ALL_GROUPS(kind, n) names them all.
+ * Refused 1, 2, 3 for wanted, 21, 5, 6. */
+HokrundAnswer hokrund_begin(uint8_t kind, uint8_t n, HokrundStack wanted, uint32_t groups, uint32_t size, uint32_t room);
 
 /* In the calls on a job length must be HOKRUND_SEGMENT_BYTES(m) of segment j, and words HOKRUND_LOG_WORDS(G, C), of the whole log area.
  * A segment has an entry for each of its stacks, the fewest turns modulo 3 or HOKRUND_UNSEEN: that of stack i is in byte i / 4, at the two
@@ -227,33 +238,37 @@ HokrundAnswer hokrund_settle(HokrundJob job, uint32_t j, uint8_t *segment, size_
 HokrundLook hokrund_look(HokrundJob job, uint32_t j, const uint32_t *log, size_t words);
 
 /* Close: Blanking becomes Level 1; a level that brought nothing new ends the search, any other makes way for the next.
- * Refused 7, 8 when Finished, 13, 14. */
+ * Refused 7, 8 when Finished, 13, 14 when level 255 brought stacks: where some stack needs exactly 255 turns, and only then, a build ends
+ * there, and no call carries it on. By the full set no stack needs more than 30. */
 HokrundAnswer hokrund_close(HokrundJob job);
 
-/* Build the whole table: a build from begin to Finished, in a table of HOKRUND_TABLE_BYTES(N) bytes and a log area of
- * HOKRUND_LOG_WORDS(G, C) numbers that hold anything. The job is the finished one, with the deepest level and the counts; of zeros beside a
- * refusal. It returns when the build has ended; by the calls above a build can be stopped after any of them, saved and gone on with.
- * Refused 1, 2, 3 for wanted, 5, 6, 10 for the table, 10 for the log area. */
-HokrundAnswer hokrund_build_table(uint8_t kind, uint8_t n, HokrundStack wanted, uint32_t size, uint32_t room, uint8_t *table,
-                                  size_t length, uint32_t *log, size_t words);
+/* Build the whole table: a build from begin to its end, in a table of HOKRUND_TABLE_BYTES(N) bytes and a log area of
+ * HOKRUND_LOG_WORDS(G, C) numbers that hold anything. The job is the last one: HOKRUND_FINISHED, with the deepest level and the counts; or, where
+ * some stack needs exactly 255 turns, HOKRUND_LEVEL at level 255, of which close says 14, and the table is not finished, though refusal is 0; of
+ * zeros beside a refusal. It returns when the build has ended; by the calls above a build can be stopped after any of them, saved and gone on
+ * with.
+ * Refused 1, 2, 3 for wanted, 21, 5, 6, 10 for the table, 10 for the log area. */
+HokrundAnswer hokrund_build_table(uint8_t kind, uint8_t n, HokrundStack wanted, uint32_t groups, uint32_t size, uint32_t room,
+                                  uint8_t *table, size_t length, uint32_t *log, size_t words);
 
 /* Read an entry of the table.
  * Refused 1, 2, 10 when length is not HOKRUND_TABLE_BYTES(N), 4. */
 HokrundEntry hokrund_read_entry(uint8_t kind, uint8_t n, const uint8_t *table, size_t length, uint32_t index);
 
-/* Plan: turns that take the given stack to the wanted one come to the front of list, and turns is how many; the rest of list stays. From the
- * table of a finished build for the same wanted stack no list of turns is shorter, and no stack is refused 15. From any other table of that
- * length an accepted plan still arrives, but need not be the shortest.
- * Refused 1, 2, 3 for wanted, 3 for given, 10 when length is not HOKRUND_TABLE_BYTES(N), 10 when slots is under HOKRUND_TURN_LIST, 15: the
- * given stack is unseen, the wanted stack's entry is not 0, no turn leads nearer, or 30 do not suffice. */
-HokrundPlanned hokrund_plan(uint8_t kind, uint8_t n, HokrundStack wanted, HokrundStack given, const uint8_t *table, size_t length,
-                            uint8_t *list, size_t slots);
+/* Plan: turns of the set that take the given stack to the wanted one come to the front of list, and turns is how many; the rest of list
+ * stays. From the table of a finished build for the same wanted stack and set no list of turns of the set is shorter, no stack is refused 15,
+ * and a stack is refused 20 where no list of turns of the set arrives; by the full set there is no such stack. From any other table of that
+ * length an accepted plan still arrives by turns of the set, but need not be the shortest.
+ * Refused 1, 2, 3 for wanted, 3 for given, 21, 10 when length is not HOKRUND_TABLE_BYTES(N), 10 when slots is under HOKRUND_TURN_LIST, 20,
+ * 15: the wanted stack's entry is not 0, no turn of the set leads nearer, or 254 do not suffice. */
+HokrundPlanned hokrund_plan(uint8_t kind, uint8_t n, HokrundStack wanted, HokrundStack given, uint32_t groups, const uint8_t *table,
+                            size_t length, uint8_t *list, size_t slots);
 
 /* Price: what plan does, and what the turns of its plan cost by the tariff: the sum of their prices, rounded once to the penny, halves up. The
- * lines must cover each size from 1 to n once; size 1 of plain panes too, which is no turn. Refused for its tariff it leaves list as it was.
+ * lines must cover each size from 1 to n once; those that are no turns of the set too. Refused for its tariff it leaves list as it was.
  * Refused as plan, then 17, 18, 19: each looks at every line or size before the next is tried. */
-HokrundPriced hokrund_price(uint8_t kind, uint8_t n, HokrundStack wanted, HokrundStack given, const uint8_t *table, size_t length,
-                            uint8_t *list, size_t slots, HokrundTariff tariff);
+HokrundPriced hokrund_price(uint8_t kind, uint8_t n, HokrundStack wanted, HokrundStack given, uint32_t groups, const uint8_t *table,
+                            size_t length, uint8_t *list, size_t slots, HokrundTariff tariff);
 
 /* The layout that the library was compiled for. An array that may not be declared, as C99 and C++98 have no other assertion. */
 #define HOKRUND_ASSERT(test) extern const char hokrund_layout[(test) ? 1 : -1]
@@ -267,22 +282,23 @@ HOKRUND_ASSERT_FIELD(HokrundJob, n, 1);
 HOKRUND_ASSERT_FIELD(HokrundJob, phase, 2);
 HOKRUND_ASSERT_FIELD(HokrundJob, level, 3);
 HOKRUND_ASSERT_FIELD(HokrundJob, wanted, 4);
-HOKRUND_ASSERT_FIELD(HokrundJob, size, 16);
-HOKRUND_ASSERT_FIELD(HokrundJob, room, 20);
-HOKRUND_ASSERT_FIELD(HokrundJob, passed, 24);
-HOKRUND_ASSERT_FIELD(HokrundJob, waiting, 280);
-HOKRUND_ASSERT_FIELD(HokrundJob, counts, 536);
-HOKRUND_ASSERT_SIZE(HokrundJob, 792);
+HOKRUND_ASSERT_FIELD(HokrundJob, groups, 16);
+HOKRUND_ASSERT_FIELD(HokrundJob, size, 20);
+HOKRUND_ASSERT_FIELD(HokrundJob, room, 24);
+HOKRUND_ASSERT_FIELD(HokrundJob, passed, 28);
+HOKRUND_ASSERT_FIELD(HokrundJob, waiting, 284);
+HOKRUND_ASSERT_FIELD(HokrundJob, counts, 544);
+HOKRUND_ASSERT_SIZE(HokrundJob, 2592);
 HOKRUND_ASSERT_FIELD(HokrundIndexed, index, 4);
 HOKRUND_ASSERT_SIZE(HokrundIndexed, 8);
 HOKRUND_ASSERT_FIELD(HokrundStacked, stack, 1);
 HOKRUND_ASSERT_SIZE(HokrundStacked, 13);
 HOKRUND_ASSERT_FIELD(HokrundAnswer, job, 8);
-HOKRUND_ASSERT_SIZE(HokrundAnswer, 800);
+HOKRUND_ASSERT_SIZE(HokrundAnswer, 2600);
 HOKRUND_ASSERT_FIELD(HokrundExpanded, waits, 1);
 HOKRUND_ASSERT_FIELD(HokrundExpanded, on, 4);
 HOKRUND_ASSERT_FIELD(HokrundExpanded, job, 8);
-HOKRUND_ASSERT_SIZE(HokrundExpanded, 800);
+HOKRUND_ASSERT_SIZE(HokrundExpanded, 2600);
 HOKRUND_ASSERT_FIELD(HokrundLook, start, 8);
 HOKRUND_ASSERT_FIELD(HokrundLook, length, 16);
 HOKRUND_ASSERT_SIZE(HokrundLook, 24);

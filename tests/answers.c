@@ -1,5 +1,5 @@
-/* What the header says of the library beside its declarations, met by calls: every refusal by its name, the limits of a coherent job and of a
- * tariff, the order of the stacks and where an entry stands. C99 and C++98. */
+/* What the header says of the library beside its declarations, met by calls: every refusal by its name, the limits of a coherent job, of a set
+ * of sizes, of a plan and of a tariff, the order of the stacks and where an entry stands. C99 and C++98. */
 #include "hokrund.h"
 #include <stdio.h>
 #include <stdlib.h>
@@ -11,6 +11,9 @@
 #define N HOKRUND_STACKS(KIND, PANES)
 #define G HOKRUND_SEGMENT_COUNT(N, S)
 #define WORDS HOKRUND_LOG_WORDS(G, C)
+#define GROUPS HOKRUND_ALL_GROUPS(KIND, PANES)
+/* A set of one size. */
+#define SIZE(k) ((uint32_t)1 << ((k) - 1))
 
 static const HokrundStack wanted = {{1, 2, 3}}, other = {{3, 1, 2}}, none = {{1, 1, 3}};
 static uint8_t table[HOKRUND_TABLE_BYTES(N)];
@@ -27,15 +30,21 @@ static void same(const char *what, unsigned long found, unsigned long expected)
 
 static HokrundJob begun(void)
 {
-    return hokrund_begin(KIND, PANES, wanted, S, C).job;
+    return hokrund_begin(KIND, PANES, wanted, GROUPS, S, C).job;
+}
+
+static HokrundJob in_phase(uint8_t phase, uint8_t level)
+{
+    HokrundJob job = begun();
+    job.phase = phase;
+    job.level = level;
+    return job;
 }
 
 /* A job in a level, all of its stacks passed. */
 static HokrundJob passed_at(uint8_t level)
 {
-    HokrundJob job = begun();
-    job.phase = HOKRUND_LEVEL;
-    job.level = level;
+    HokrundJob job = in_phase(HOKRUND_LEVEL, level);
     job.passed[0] = HOKRUND_SEGMENT_STACKS(N, S, 0);
     job.passed[1] = HOKRUND_SEGMENT_STACKS(N, S, 1);
     return job;
@@ -53,12 +62,13 @@ static void stack_refusals(void)
 
 static void job_refusals(void)
 {
-    HokrundJob job = begun(), last = passed_at(31), waits = passed_at(1);
-    last.counts[31] = 1;
+    HokrundJob job = begun(), last = passed_at(255), waits = passed_at(1);
+    last.counts[255] = 1;
     waits.waiting[1] = 1;
     logs[C] = 2;
-    same("SIZE", hokrund_begin(KIND, PANES, wanted, 6, C).refusal, HOKRUND_REFUSED_SIZE);
-    same("ROOM", hokrund_begin(KIND, PANES, wanted, S, 15).refusal, HOKRUND_REFUSED_ROOM);
+    same("GROUPS", hokrund_begin(KIND, PANES, wanted, SIZE(1), S, C).refusal, HOKRUND_REFUSED_GROUPS);
+    same("SIZE", hokrund_begin(KIND, PANES, wanted, GROUPS, 6, C).refusal, HOKRUND_REFUSED_SIZE);
+    same("ROOM", hokrund_begin(KIND, PANES, wanted, GROUPS, S, 15).refusal, HOKRUND_REFUSED_ROOM);
     same("PHASE", hokrund_expand(job, 0, table, 1, logs, WORDS).refusal, HOKRUND_REFUSED_PHASE);
     same("SEGMENT", hokrund_blank(job, G, table, 1).refusal, HOKRUND_REFUSED_SEGMENT);
     same("LENGTH", hokrund_blank(job, 0, table, 2).refusal, HOKRUND_REFUSED_LENGTH);
@@ -75,25 +85,23 @@ static void limit(const char *what, HokrundJob at, HokrundJob past)
     same(what, hokrund_look(past, 0, logs, WORDS).refusal, HOKRUND_REFUSED_INCOHERENT);
 }
 
-static HokrundJob in_phase(uint8_t phase, uint8_t level)
-{
-    HokrundJob job = begun();
-    job.phase = phase;
-    job.level = level;
-    return job;
-}
-
 static void coherence(void)
 {
     HokrundJob at = begun(), past = begun();
     limit("level of Blanking", in_phase(HOKRUND_BLANKING, 0), in_phase(HOKRUND_BLANKING, 1));
     limit("first level", in_phase(HOKRUND_LEVEL, 1), in_phase(HOKRUND_LEVEL, 0));
-    limit("last level", in_phase(HOKRUND_LEVEL, 31), in_phase(HOKRUND_LEVEL, 32));
-    limit("deepest", in_phase(HOKRUND_FINISHED, 30), in_phase(HOKRUND_FINISHED, 31));
+    same("last level", hokrund_look(in_phase(HOKRUND_LEVEL, 255), 0, logs, WORDS).refusal, HOKRUND_ACCEPTED);
+    limit("deepest", in_phase(HOKRUND_FINISHED, 254), in_phase(HOKRUND_FINISHED, 255));
     limit("phase", in_phase(HOKRUND_FINISHED, 0), in_phase(HOKRUND_FINISHED + 1, 0));
     past.room = 15;
     limit("what begin accepts", at, past);
     past = at;
+    at.groups = SIZE(3);
+    past.groups = SIZE(3) | SIZE(1);
+    limit("sizes", at, past);
+    past.groups = 0;
+    limit("no size", at, past);
+    at.groups = past.groups = GROUPS;
     at.passed[1] = HOKRUND_SEGMENT_STACKS(N, S, 1);
     past.passed[1] = HOKRUND_SEGMENT_STACKS(N, S, 1) + 1;
     limit("passed", at, past);
@@ -108,9 +116,57 @@ static void coherence(void)
     past.waiting[G] = 1;
     limit("waiting past the last segment", at, past);
     past = at;
-    at.counts[31] = (uint64_t)1 << 60;
-    past.counts[31] = ((uint64_t)1 << 60) + 1;
+    at.counts[255] = (uint64_t)1 << 60;
+    past.counts[255] = ((uint64_t)1 << 60) + 1;
     limit("count", at, past);
+}
+
+/* Level 254 makes way, and level 255 finishes, if it brought nothing. */
+static void last_levels(void)
+{
+    HokrundJob job = passed_at(254);
+    job.counts[254] = 1;
+    job = hokrund_close(job).job;
+    same("phase after level 254", job.phase, HOKRUND_LEVEL);
+    same("level after level 254", job.level, 255);
+    job = hokrund_close(passed_at(255)).job;
+    same("phase after level 255", job.phase, HOKRUND_FINISHED);
+    same("deepest after level 255", job.level, 254);
+}
+
+/* Level 255 where it brings stacks. The wanted stack's entry is 2, that of level 254; turn 2 leads to stack 2 and turn 3 to stack 5. */
+static void level_255(uint32_t groups, uint8_t first, unsigned long brought)
+{
+    HokrundJob job = in_phase(HOKRUND_LEVEL, 255);
+    job.groups = groups;
+    table[0] = 0xfe;
+    table[1] = 0xff;
+    for (uint32_t j = 0; j < G; j++)
+        job = hokrund_expand(job, j, table + j, 1, logs, WORDS).job;
+    job = hokrund_settle(job, 1, table + 1, 1, logs, WORDS).job;
+    same("marked at level 255", table[0], first);
+    same("settled at level 255", table[1], 0xf3);
+    same("count of level 255", job.counts[255], brought);
+    same("closed at level 255", hokrund_close(job).refusal, HOKRUND_REFUSED_LAST_LEVEL);
+    same("expanded at level 255", hokrund_expand(job, 0, table, 1, logs, WORDS).refusal, HOKRUND_REFUSED_PASSED);
+}
+
+/* Every size by itself and beside the others: begin takes those that are turns. */
+static void sets(uint8_t kind, uint8_t n)
+{
+    HokrundStack ordered = {{0}};
+    uint32_t all = HOKRUND_ALL_GROUPS(kind, n), largest = 67108864;
+    for (int p = 0; p < n; p++)
+        ordered.places[p] = (int8_t)(p + 1);
+    for (uint8_t k = 1; k <= 32; k++) {
+        bool turns = hokrund_turn(kind, n, ordered, k).refusal == HOKRUND_ACCEPTED;
+        uint8_t refusal = turns ? HOKRUND_ACCEPTED : HOKRUND_REFUSED_GROUPS;
+        same("one size", hokrund_begin(kind, n, ordered, SIZE(k), largest, C).refusal, refusal);
+        same("one more size", hokrund_begin(kind, n, ordered, all | SIZE(k), largest, C).refusal, refusal);
+    }
+    same("every size", hokrund_begin(kind, n, ordered, all, largest, C).job.groups, all);
+    same("every size", hokrund_begin(kind, n, ordered, all, largest, C).refusal, HOKRUND_ACCEPTED);
+    same("no size", hokrund_begin(kind, n, ordered, 0, largest, C).refusal, all == 0 ? HOKRUND_ACCEPTED : HOKRUND_REFUSED_GROUPS);
 }
 
 /* Whether b comes after a: by the panes, and then by the coats, up before down. */
@@ -143,31 +199,152 @@ static void level(void)
     same("settled", hokrund_settle(job, 1, table + 1, 1, logs, WORDS).refusal, HOKRUND_ACCEPTED);
 }
 
-/* A whole table; then a table in which no stack is seen. */
+static HokrundPlanned plan(HokrundStack given, uint32_t groups, size_t length, size_t slots)
+{
+    static uint8_t list[HOKRUND_TURN_LIST];
+    return hokrund_plan(KIND, PANES, wanted, given, groups, table, length, list, slots);
+}
+
+/* A whole table; then tables in which few stacks are seen. */
 static void tables(void)
 {
-    uint8_t list[HOKRUND_TURN_LIST];
-    HokrundAnswer built = hokrund_build_table(KIND, PANES, wanted, S, C, table, sizeof table, logs, WORDS);
+    const size_t slots = HOKRUND_TURN_LIST;
+    HokrundAnswer built = hokrund_build_table(KIND, PANES, wanted, GROUPS, S, C, table, sizeof table, logs, WORDS);
     same("built", built.refusal, HOKRUND_ACCEPTED);
     same("phase", built.job.phase, HOKRUND_FINISHED);
     same("deepest", built.job.level, 3);
     for (uint32_t i = 0; i < N; i++)
         same("entry", (unsigned long)((table[i / 4] >> (2 * (i % 4))) & 3), hokrund_read_entry(KIND, PANES, table, sizeof table, i).entry);
     same("spare entries", table[1] >> 4, 15);
-    same("planned", hokrund_plan(KIND, PANES, wanted, other, table, sizeof table, list, sizeof list).turns, 2);
-    same("table", hokrund_build_table(KIND, PANES, wanted, S, C, table, 1, logs, WORDS).refusal, HOKRUND_REFUSED_LENGTH);
-    same("log", hokrund_build_table(KIND, PANES, wanted, S, C, table, 2, logs, C).refusal, HOKRUND_REFUSED_LENGTH);
-    same("list", hokrund_plan(KIND, PANES, wanted, other, table, 2, list, HOKRUND_TURN_LIST - 1).refusal, HOKRUND_REFUSED_LENGTH);
+    same("planned", plan(other, GROUPS, sizeof table, slots).turns, 2);
+    same("another set", plan(other, SIZE(3), sizeof table, slots).refusal, HOKRUND_REFUSED_NO_PLAN);
+    same("table", hokrund_build_table(KIND, PANES, wanted, GROUPS, S, C, table, 1, logs, WORDS).refusal, HOKRUND_REFUSED_LENGTH);
+    same("log", hokrund_build_table(KIND, PANES, wanted, GROUPS, S, C, table, 2, logs, C).refusal, HOKRUND_REFUSED_LENGTH);
+    same("list", plan(other, GROUPS, sizeof table, slots - 1).refusal, HOKRUND_REFUSED_LENGTH);
     table[0] = table[1] = 255;
     same("unseen", hokrund_read_entry(KIND, PANES, table, sizeof table, 0).entry, HOKRUND_UNSEEN);
-    same("NO_PLAN", hokrund_plan(KIND, PANES, wanted, other, table, sizeof table, list, sizeof list).refusal, HOKRUND_REFUSED_NO_PLAN);
+    same("NO_ROAD", plan(other, GROUPS, sizeof table, slots).refusal, HOKRUND_REFUSED_NO_ROAD);
+    table[1] = 0xfd;
+    same("NO_PLAN", plan(other, GROUPS, sizeof table, slots).refusal, HOKRUND_REFUSED_NO_PLAN);
+}
+
+/* Where several refusals apply: 21 comes after every 3 and before the rest, 20 after every 10 and before 15 and a tariff's. No stack is seen. */
+static void first_refusals(void)
+{
+    HokrundTariff tariff = {HOKRUND_LINES + 1, {{0, 0, 0}}};
+    uint8_t list[HOKRUND_TURN_LIST];
+    table[0] = table[1] = 255;
+    same("3, 21", hokrund_begin(KIND, PANES, none, 0, S, C).refusal, HOKRUND_REFUSED_STACK);
+    same("21, 5", hokrund_begin(KIND, PANES, wanted, 0, 6, C).refusal, HOKRUND_REFUSED_GROUPS);
+    same("21, 6", hokrund_begin(KIND, PANES, wanted, 0, S, 15).refusal, HOKRUND_REFUSED_GROUPS);
+    same("21, 10, build", hokrund_build_table(KIND, PANES, wanted, 0, S, C, table, 1, logs, C).refusal, HOKRUND_REFUSED_GROUPS);
+    same("3, 21, plan", plan(none, 0, sizeof table, sizeof list).refusal, HOKRUND_REFUSED_STACK);
+    same("21, 10, table", plan(other, 0, 1, sizeof list).refusal, HOKRUND_REFUSED_GROUPS);
+    same("21, 10, list", plan(other, 0, sizeof table, sizeof list - 1).refusal, HOKRUND_REFUSED_GROUPS);
+    same("10, 20, table", plan(other, GROUPS, 1, sizeof list).refusal, HOKRUND_REFUSED_LENGTH);
+    same("10, 20, list", plan(other, GROUPS, sizeof table, sizeof list - 1).refusal, HOKRUND_REFUSED_LENGTH);
+    same("20, 15", plan(wanted, GROUPS, sizeof table, sizeof list).refusal, HOKRUND_REFUSED_NO_ROAD);
+    same("20, 17", hokrund_price(KIND, PANES, wanted, other, GROUPS, table, sizeof table, list, sizeof list, tariff).refusal,
+         HOKRUND_REFUSED_NO_ROAD);
+}
+
+/* A frame for size 3 alone: 1 2 3 and 3 2 1, stacks 0 and 5, have a road, and the other four none. */
+static void one_size(void)
+{
+    const size_t slots = HOKRUND_TURN_LIST;
+    HokrundStack reversed = {{3, 2, 1}};
+    HokrundAnswer built = hokrund_build_table(KIND, PANES, wanted, SIZE(3), S, C, table, sizeof table, logs, WORDS);
+    same("one size, built", built.refusal, HOKRUND_ACCEPTED);
+    same("one size, phase", built.job.phase, HOKRUND_FINISHED);
+    same("one size, deepest", built.job.level, 1);
+    same("one size, groups", built.job.groups, SIZE(3));
+    for (int d = 0; d < HOKRUND_LEVELS; d++)
+        same("one size, count", built.job.counts[d], d < 2);
+    same("one size, first segment", table[0], 0xfc);
+    same("one size, second segment", table[1], 0xf7);
+    same("one size, planned", plan(reversed, SIZE(3), sizeof table, slots).turns, 1);
+    same("one size, no road", plan(other, SIZE(3), sizeof table, slots).refusal, HOKRUND_REFUSED_NO_ROAD);
+}
+
+/* A frame of plain 9 for sizes 4, 5 and 9, each of which makes an even number of exchanges. */
+#define NINE HOKRUND_STACKS(HOKRUND_PLAIN, 9)
+#define EVEN (SIZE(4) | SIZE(5) | SIZE(9))
+#define NINE_SIZE 40000
+#define NINE_ROOM 256
+#define NINE_WORDS HOKRUND_LOG_WORDS(HOKRUND_SEGMENT_COUNT(NINE, NINE_SIZE), NINE_ROOM)
+
+static const HokrundStack nine = {{1, 2, 3, 4, 5, 6, 7, 8, 9}};
+static uint8_t nine_table[HOKRUND_TABLE_BYTES(NINE)];
+
+static HokrundPlanned nine_plan(HokrundStack given, uint8_t *list)
+{
+    return hokrund_plan(HOKRUND_PLAIN, 9, nine, given, EVEN, nine_table, sizeof nine_table, list, HOKRUND_TURN_LIST);
+}
+
+static bool is_even(HokrundStack stack)
+{
+    int exchanges = 0;
+    for (int p = 0; p < 9; p++)
+        for (int q = p + 1; q < 9; q++)
+            exchanges += stack.places[p] > stack.places[q];
+    return exchanges % 2 == 0;
+}
+
+/* The even orders have a road and the odd ones none. Counts and plan are those of a search over the orders themselves. */
+static void even_orders(void)
+{
+    static const unsigned long counts[] = {1, 3, 6, 12, 21, 33, 51, 78, 118, 180, 276, 423, 648, 990, 1489, 2255, 3370, 4951, 6972, 9573,
+                                           12865, 16290, 19734, 22035, 21490, 19349, 16320, 11542, 6525, 2758, 939, 102, 26, 12, 3};
+    static const char turns[] = "4549454549549545495495454954954595";
+    static uint32_t nine_logs[NINE_WORDS];
+    HokrundStack far = {{8, 6, 9, 7, 5, 2, 4, 1, 3}}, odd = {{2, 1, 3, 4, 5, 6, 7, 8, 9}};
+    uint8_t list[HOKRUND_TURN_LIST];
+    HokrundAnswer built = hokrund_build_table(HOKRUND_PLAIN, 9, nine, EVEN, NINE_SIZE, NINE_ROOM, nine_table, sizeof nine_table, nine_logs,
+                                              NINE_WORDS);
+    same("even, built", built.refusal, HOKRUND_ACCEPTED);
+    same("even, phase", built.job.phase, HOKRUND_FINISHED);
+    same("even, deepest", built.job.level, 34);
+    for (int d = 0; d < HOKRUND_LEVELS; d++)
+        same("even, count", built.job.counts[d], d <= 34 ? counts[d] : 0);
+    for (uint32_t i = 0; i < NINE; i++) {
+        bool seen = hokrund_read_entry(HOKRUND_PLAIN, 9, nine_table, sizeof nine_table, i).entry != HOKRUND_UNSEEN;
+        same("even, seen", seen, is_even(hokrund_stack_at_index(HOKRUND_PLAIN, 9, i).stack));
+    }
+    same("even, turns", nine_plan(far, list).turns, 34);
+    for (int t = 0; t < 34; t++)
+        same("even, turn", list[t], (unsigned long)(turns[t] - '0'));
+    same("even, odd", nine_plan(odd, list).refusal, HOKRUND_REFUSED_NO_ROAD);
+}
+
+/* A table that no build makes: along a road of 255 turns the entries rise by one modulo 3, and one turn of the set leads back along it. Plan
+ * goes 254 of them, and refuses 255. */
+static void longest_plan(void)
+{
+    static const char road[] = "495954954549459545";
+    HokrundTariff tariff = {1, {{1, 9, HOKRUND_MOST_PRICE}}};
+    HokrundStack stack = nine;
+    uint8_t list[HOKRUND_TURN_LIST];
+    for (size_t i = 0; i < sizeof nine_table; i++)
+        nine_table[i] = 255;
+    for (int t = 0; t <= 255; t++) {
+        uint32_t i = hokrund_index_of_stack(HOKRUND_PLAIN, 9, stack).index;
+        nine_table[i / 4] = (uint8_t)(nine_table[i / 4] ^ ((t % 3 ^ HOKRUND_UNSEEN) << (2 * (i % 4))));
+        HokrundPlanned planned = nine_plan(stack, list);
+        same("road, refusal", planned.refusal, t <= 254 ? HOKRUND_ACCEPTED : HOKRUND_REFUSED_NO_PLAN);
+        same("road, turns", planned.turns, t <= 254 ? (unsigned long)t : 0);
+        for (int u = 0; u < (int)planned.turns; u++)
+            same("road, turn", list[u], (unsigned long)(road[(t - 1 - u) % 18] - '0'));
+        HokrundPriced priced = hokrund_price(HOKRUND_PLAIN, 9, nine, stack, EVEN, nine_table, sizeof nine_table, list, sizeof list, tariff);
+        same("road, pennies", priced.pennies, t <= 254 ? (unsigned long)t * 1000 : 0);
+        stack = hokrund_turn(HOKRUND_PLAIN, 9, stack, (uint8_t)(road[t % 18] - '0')).stack;
+    }
 }
 
 /* The price of the plan 3, 2. Where it is refused, nothing stands beside the refusal and the list is as it was. */
 static uint32_t pennies(const char *what, HokrundTariff tariff, uint8_t refusal)
 {
     uint8_t list[HOKRUND_TURN_LIST] = {7, 7, 7};
-    HokrundPriced priced = hokrund_price(KIND, PANES, wanted, other, table, sizeof table, list, sizeof list, tariff);
+    HokrundPriced priced = hokrund_price(KIND, PANES, wanted, other, GROUPS, table, sizeof table, list, sizeof list, tariff);
     bool accepted = refusal == HOKRUND_ACCEPTED;
     same(what, priced.refusal, refusal);
     same(what, priced.turns, accepted ? 2 : 0);
@@ -194,7 +371,7 @@ static void line(const char *what, uint32_t count, uint8_t first, uint8_t last, 
 static void prices(void)
 {
     HokrundTariff tariff = {2, {{1, 2, 1250}, {3, 3, 1250}}};
-    hokrund_build_table(KIND, PANES, wanted, S, C, table, sizeof table, logs, WORDS);
+    hokrund_build_table(KIND, PANES, wanted, GROUPS, S, C, table, sizeof table, logs, WORDS);
     same("price", pennies("priced", tariff, HOKRUND_ACCEPTED), 3);
     line("one line", 1, 1, PANES, HOKRUND_MOST_PRICE, HOKRUND_ACCEPTED);
     line("LINE, price", 1, 1, PANES, HOKRUND_MOST_PRICE + 1, HOKRUND_REFUSED_LINE);
@@ -212,10 +389,21 @@ int main(void)
     stack_refusals();
     job_refusals();
     coherence();
+    last_levels();
+    level_255(GROUPS, 0xce, 2);
+    level_255(SIZE(3), 0xfe, 1);
+    for (uint8_t n = 1; n <= 12; n++)
+        sets(HOKRUND_PLAIN, n);
+    for (uint8_t n = 1; n <= 10; n++)
+        sets(HOKRUND_COATED, n);
     order(HOKRUND_PLAIN, 4);
     order(HOKRUND_COATED, 3);
     level();
     tables();
+    first_refusals();
+    one_size();
+    even_orders();
+    longest_plan();
     prices();
     return differences != 0;
 }

@@ -33,6 +33,16 @@ static uint64_t stacks(int kind, int n)
     return n < 1 || most_panes(kind) < n ? 0 : product(n, kind + 1);
 }
 
+/* The weights of the turns, from the first one's on, each twice the one before. */
+static uint64_t groups(int kind, int n)
+{
+    uint64_t set = 0, weight = kind == 0 ? 2 : 1;
+    if (stacks(kind, n) > 0)
+        for (int k = kind == 0 ? 2 : 1; k <= n; k++, weight *= 2)
+            set += weight;
+    return set;
+}
+
 /* Any kind and n, as an int and as a byte. */
 static void counts(void)
 {
@@ -41,6 +51,8 @@ static void counts(void)
             uint8_t small_kind = (uint8_t)kind, small_n = (uint8_t)n;
             same("N", kind, n, 0, HOKRUND_STACKS(kind, n), stacks(kind, n));
             same("N of bytes", small_kind, small_n, 0, HOKRUND_STACKS(small_kind, small_n), stacks(small_kind, small_n));
+            same("groups", kind, n, 0, HOKRUND_ALL_GROUPS(kind, n), groups(kind, n));
+            same("groups of bytes", small_kind, small_n, 0, HOKRUND_ALL_GROUPS(small_kind, small_n), groups(small_kind, small_n));
         }
     for (int n = -1; n <= 256; n++)
         same("n!", 0, n, 0, HOKRUND_FACTORIAL(n), n < 0 || 12 < n ? 0 : product(n, 1));
@@ -93,6 +105,13 @@ static const uint64_t coated[] = {
     ARRAY(HOKRUND_STACKS(HOKRUND_COATED, 7)), ARRAY(HOKRUND_STACKS(HOKRUND_COATED, 8)), ARRAY(HOKRUND_STACKS(HOKRUND_COATED, 9)),
     ARRAY(HOKRUND_STACKS(HOKRUND_COATED, 10))};
 
+/* Sets from n = 0 to one past the last; one more each, as an array is not empty. */
+#define SET(kind, n) ARRAY(HOKRUND_ALL_GROUPS(kind, n) + 1)
+#define SETS(kind)                                                                                                    \
+    {SET(kind, 0), SET(kind, 1), SET(kind, 2), SET(kind, 3), SET(kind, 4), SET(kind, 5), SET(kind, 6),                \
+     SET(kind, 7), SET(kind, 8), SET(kind, 9), SET(kind, 10), SET(kind, 11), SET(kind, 12), SET(kind, 13)}
+static const uint64_t sets[][14] = {SETS(HOKRUND_PLAIN), SETS(HOKRUND_COATED), SETS(2)};
+
 #define LARGEST_COUNT HOKRUND_SEGMENT_COUNT(HOKRUND_STACKS(HOKRUND_COATED, 10), 67108864)
 #define LARGEST_STACKS(j) HOKRUND_SEGMENT_STACKS(HOKRUND_STACKS(HOKRUND_COATED, 10), 67108864, j)
 
@@ -103,10 +122,23 @@ static void constants(void)
         same("plain N as a constant", 0, n, 0, plain[n - 1], product(n, 1));
     for (int n = 1; n <= 10; n++)
         same("coated N as a constant", 1, n, 0, coated[n - 1], product(n, 2));
+    for (int kind = 0; kind <= 2; kind++)
+        for (int n = 0; n <= 13; n++)
+            same("groups as a constant", kind, n, 0, sets[kind][n], groups(kind, n) + 1);
     same("table as a constant", 1, 10, 0, ARRAY(HOKRUND_TABLE_BYTES(HOKRUND_STACKS(HOKRUND_COATED, 10))), all / 4);
     same("log as a constant", 1, 10, 0, ARRAY(HOKRUND_LOG_WORDS(64, 1048576)), (uint64_t)64 * 1048576);
     same("m as a constant", 1, 10, 35, ARRAY(LARGEST_STACKS(35)), 67108864);
     same("the last m as a constant", 1, 10, 55, ARRAY(LARGEST_STACKS(LARGEST_COUNT - 1)), all % 67108864);
+}
+
+/* What the structs hold, and the least turn list. */
+static void held(void)
+{
+    HokrundJob *job = 0;
+    same("levels", 0, 0, 0, sizeof job->counts / sizeof job->counts[0], 256);
+    same("segments", 0, 0, 0, sizeof job->passed / sizeof job->passed[0], 64);
+    same("places", 0, 0, 0, sizeof job->wanted.places, 12);
+    same("turn list", 0, 0, 0, HOKRUND_TURN_LIST, 254);
 }
 
 int main(void)
@@ -116,5 +148,6 @@ int main(void)
         for (int n = 1; n <= most_panes(kind); n++)
             sizes(kind, n);
     constants();
+    held();
     return differences != 0;
 }

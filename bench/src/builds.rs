@@ -8,7 +8,7 @@ use outside::linked::{Library, JOB_BYTES};
 use outside::rng::Rng;
 use outside::system::*;
 
-use crate::fast::{stacks_of, Fast};
+use crate::fast::{all_groups, stacks_of, Fast};
 use crate::queue;
 
 #[derive(Clone, Copy, PartialEq, Debug)]
@@ -47,7 +47,7 @@ impl Method {
     }
 }
 
-// A kind and n to build for the ordered stack, with about so many segments and so much room in each log.
+// A kind and n to build for the ordered stack by every turn, with about so many segments and so much room in each log.
 #[derive(Clone, Copy, PartialEq, Debug)]
 pub struct Subject {
     pub kind: u8,
@@ -65,7 +65,8 @@ impl fmt::Display for Subject {
 impl Subject {
     pub fn fields(&self) -> Fields {
         let size = size_for(self.stacks(), self.segments).min(67_108_864);
-        Fields { kind: self.kind, n: self.n, wanted: ordered(self.n), size, room: self.room }
+        let groups = all_groups(self.kind, self.n);
+        Fields { kind: self.kind, n: self.n, wanted: ordered(self.n), groups, size, room: self.room }
     }
 
     pub fn stacks(&self) -> u64 {
@@ -78,7 +79,7 @@ impl Subject {
 
     // The children that a method generates. The two-bit methods expand at level d the stacks of d-1, d-4, d-7 and so
     // on; a stack before which Expand stops is counted once.
-    pub fn children(&self, method: Method, counts: &[u64; 32]) -> u64 {
+    pub fn children(&self, method: Method, counts: &[u64; 256]) -> u64 {
         let expanded = match method {
             Method::Queue => self.stacks(),
             _ => {
@@ -133,7 +134,7 @@ fn on_processor() -> Option<f64> {
 // What a build gave.
 pub struct Built {
     pub took: Took,
-    pub counts: [u64; 32],
+    pub counts: [u64; 256],
     // The two-bit table, or the turns of each stack.
     pub cells: Vec<u8>,
 }
@@ -147,9 +148,9 @@ impl Subject {
             return Lent::Queue { turns: vec![fill; stacks], queue: vec![u32::from(fill); stacks] };
         };
         let fields = self.fields();
-        let Fields { kind, n, wanted, size, room } = fields;
+        let Fields { kind, n, wanted, groups, size, room } = fields;
         let measures = fields.measures().expect("the subject is right");
-        let job = system.begin(kind, n, wanted, size, room).job;
+        let job = system.begin(kind, n, wanted, groups, size, room).job;
         let segments = (0..measures.segments).map(|j| vec![fill; measures.bytes_of(j)]).collect();
         let logs = vec![u32::from(fill); measures.log_numbers()];
         Lent::TwoBits { system, build: Box::new(Build { job, measures, segments, logs }) }

@@ -9,6 +9,7 @@ use outside::rng::Rng;
 use outside::system::*;
 
 use crate::builds::{timed, Method, Subject};
+use crate::fast::{all_groups, MOST_TURNS};
 
 const STACKS: usize = 4096;
 
@@ -55,8 +56,8 @@ impl Calls {
     // Nanoseconds a call, over enough calls for a good part of a second.
     pub fn nanoseconds(&self, system: &dyn System) -> f64 {
         let rounds = if matches!(self.what, What::Plan { .. }) { 100 } else { 2000 };
-        let wanted = ordered(self.n);
-        let mut list = [0; 30];
+        let (wanted, groups) = (ordered(self.n), all_groups(self.kind, self.n));
+        let mut list = [0; MOST_TURNS];
         let ((), took) = timed(|| {
             for _ in 0..rounds {
                 for (stack, index) in self.stacks.iter().zip(&self.indices) {
@@ -68,7 +69,8 @@ impl Calls {
                             black_box(system.stack_at_index(self.kind, self.n, black_box(*index)));
                         }
                         What::Plan { table } => {
-                            black_box(system.plan(self.kind, self.n, wanted, black_box(*stack), table, &mut list));
+                            let given = black_box(*stack);
+                            black_box(system.plan(self.kind, self.n, wanted, given, groups, table, &mut list));
                         }
                     }
                 }

@@ -1,4 +1,4 @@
-// Before anything is measured: methods (b) and (c) give what document 01 says.
+// Before anything is measured: methods (b) and (c) give what documents 01 and 02 say.
 
 use outside::build::{Build, Order, Refused};
 use outside::cases::{Family, FAMILIES};
@@ -16,6 +16,9 @@ pub fn check(seed: u64) -> Result<(), String> {
     println!("examples: {}", checks::examples(&Fast)?);
     println!("numbering: {}", checks::numbering(&Fast)?);
     println!("builds: {}", checks::builds(&Fast, seed)?);
+    println!("limited sets: {}", checks::limited(&Fast, seed)?);
+    println!("deep builds: {}", checks::deep(&Fast, &checks::DEEP)?);
+    println!("last level: {}", checks::late(&Fast)?);
     println!("diameters: {}", checks::diameters(&Fast, 10, 8)?);
     let mut tally = Tally::default();
     for family in FAMILIES {

@@ -1,4 +1,4 @@
-// Method (b): the paper's method in plain efficient Rust, with the operations and answers of document 01.
+// Method (b): the paper's method in plain efficient Rust, with the operations and answers of documents 01 and 02.
 // A stack is unranked once when it is expanded; each child is turned and ranked.
 
 use outside::system::*;
@@ -14,8 +14,8 @@ const FACTORIAL: [u32; 13] = {
 };
 const UNSEEN: u8 = 3;
 const SEGMENTS: usize = 64;
-const LAST_LEVEL: u8 = 31;
-const MOST_TURNS: usize = 30;
+const LAST_LEVEL: u8 = 255;
+pub const MOST_TURNS: usize = 254;
 const MOST_CHILDREN: usize = 12;
 const MOST_COUNT: u64 = 1 << 60;
 
@@ -107,6 +107,27 @@ fn first_turn(kind: u8) -> u8 {
     2 - kind
 }
 
+// The set of every turn.
+pub fn all_groups(kind: u8, n: u8) -> Groups {
+    (1 << n) - (1 << (first_turn(kind) - 1))
+}
+
+fn is_set(kind: u8, n: u8, groups: Groups) -> bool {
+    let turns = all_groups(kind, n);
+    groups & !turns == 0 && (groups != 0 || turns == 0)
+}
+
+// The sizes of a right set, rising, and how many.
+#[inline]
+fn sizes_of(groups: Groups) -> ([usize; MOST_CHILDREN], usize) {
+    let (mut sizes, mut count) = ([0; MOST_CHILDREN], 0);
+    for k in (1..=MOST_CHILDREN).filter(|k| groups >> (k - 1) & 1 == 1) {
+        sizes[count] = k;
+        count += 1;
+    }
+    (sizes, count)
+}
+
 // What the fields of Begin measure.
 #[derive(Clone, Copy)]
 struct Shape {
@@ -130,13 +151,16 @@ impl Shape {
     }
 }
 
-fn shape(kind: u8, n: u8, wanted: &Stack, size: u32, room: u32) -> Result<Shape, u8> {
+fn shape(kind: u8, n: u8, wanted: &Stack, groups: Groups, size: u32, room: u32) -> Result<Shape, u8> {
     match refusal_of_kind(kind, n) {
         0 => {}
         refusal => return Err(refusal),
     }
     if !is_stack(kind, n, wanted) {
         return Err(3);
+    }
+    if !is_set(kind, n, groups) {
+        return Err(21);
     }
     let stacks = stacks_of(kind, n);
     if !size.is_multiple_of(4) || !(4..=67_108_864).contains(&size) || stacks.div_ceil(size) > SEGMENTS as u32 {
@@ -150,7 +174,7 @@ fn shape(kind: u8, n: u8, wanted: &Stack, size: u32, room: u32) -> Result<Shape,
 
 // The shape of a coherent job.
 fn coherent(job: &Job) -> Result<Shape, u8> {
-    let shape = shape(job.kind, job.n, &job.wanted, job.size, job.room).map_err(|_| 7)?;
+    let shape = shape(job.kind, job.n, &job.wanted, job.groups, job.size, job.room).map_err(|_| 7)?;
     let phase = match job.phase {
         Phase::Blanking => true,
         Phase::Level(d) => (1..=LAST_LEVEL).contains(&d),
@@ -231,7 +255,7 @@ fn expand<const COATED: bool>(
     logs: &mut [u32],
 ) -> Option<u32> {
     let n = job.n as usize;
-    let first = if COATED { 1 } else { 2 };
+    let (sizes, children) = sizes_of(job.groups);
     let (nearer, label) = ((d - 1) % 3, d % 3);
     let stacks = shape.stacks_of(j);
     let mut marked = 0;
@@ -243,9 +267,9 @@ fn expand<const COATED: bool>(
         }
         let stack = unrank::<COATED>(n, j * shape.size + i);
         let mut places = [(0, 0); MOST_CHILDREN];
-        let places = &mut places[..n + 1 - first];
+        let places = &mut places[..children];
         let mut tight = false;
-        for (place, k) in places.iter_mut().zip(first..) {
+        for (place, k) in places.iter_mut().zip(sizes) {
             let child = rank::<COATED>(n, &flip::<COATED>(&stack, k));
             let t = child / shape.size;
             *place = (t, child - t * shape.size);
@@ -279,36 +303,41 @@ fn full_log(job: &Job, shape: Shape, j: u32, places: &[(u32, u32)]) -> Option<u3
     places.iter().map(|(t, _)| *t).filter(full).min()
 }
 
-// The turns of a plan over a table of the right length.
+// The turns of a plan over a table of the right length, and how many.
 fn plan<const COATED: bool>(
     n: usize,
     wanted: &Stack,
     given: &Stack,
+    groups: Groups,
     table: &[u8],
-) -> Result<([u8; MOST_TURNS], usize), u8> {
+    turns: &mut [u8; MOST_TURNS],
+) -> Result<usize, u8> {
     let goal = rank::<COATED>(n, wanted);
     let mut at = rank::<COATED>(n, given);
     let mut entry = entry_at(table, at);
-    if entry == UNSEEN || entry_at(table, goal) != 0 {
+    if entry == UNSEEN {
+        return Err(20);
+    }
+    if entry_at(table, goal) != 0 {
         return Err(15);
     }
+    let (sizes, count) = sizes_of(groups);
     let mut stack = *given;
-    let mut turns = [0; MOST_TURNS];
     let mut len = 0;
     while at != goal {
         let nearer = (entry + 2) % 3;
-        let leads = |k: usize| {
+        let leads = |&k: &usize| {
             let child = flip::<COATED>(&stack, k);
             let index = rank::<COATED>(n, &child);
             (entry_at(table, index) == nearer).then_some((k, child, index))
         };
-        let next = (if COATED { 1 } else { 2 }..=n).find_map(leads);
+        let next = sizes[..count].iter().find_map(leads);
         let (Some((k, child, index)), true) = (next, len < MOST_TURNS) else { return Err(15) };
         turns[len] = k as u8;
         len += 1;
         (stack, at, entry) = (child, index, nearer);
     }
-    Ok((turns, len))
+    Ok(len)
 }
 
 // ---- The operations
@@ -437,9 +466,9 @@ impl System for Fast {
         Stacked { refusal, stack }
     }
 
-    fn begin(&self, kind: u8, n: u8, wanted: Stack, size: u32, room: u32) -> Answer {
-        let begun = shape(kind, n, &wanted, size, room).map(|_| Job { kind, n, wanted, size, room, ..NO_JOB });
-        answer(begun, &NO_JOB)
+    fn begin(&self, kind: u8, n: u8, wanted: Stack, groups: Groups, size: u32, room: u32) -> Answer {
+        let begun = shape(kind, n, &wanted, groups, size, room);
+        answer(begun.map(|_| Job { kind, n, wanted, groups, size, room, ..NO_JOB }), &NO_JOB)
     }
 
     fn blank(&self, job: &Job, j: u32, segment: &mut [u8]) -> Answer {
@@ -483,9 +512,19 @@ impl System for Fast {
         Entry { refusal, entry: if refusal == 0 { entry_at(table, index) } else { 0 } }
     }
 
-    fn plan(&self, kind: u8, n: u8, wanted: Stack, given: Stack, table: &[u8], list: &mut [u8]) -> Planned {
+    fn plan(
+        &self,
+        kind: u8,
+        n: u8,
+        wanted: Stack,
+        given: Stack,
+        groups: Groups,
+        table: &[u8],
+        list: &mut [u8],
+    ) -> Planned {
         let refusal = match refusal_of_kind(kind, n) {
             0 if !is_stack(kind, n, &wanted) || !is_stack(kind, n, &given) => 3,
+            0 if !is_set(kind, n, groups) => 21,
             0 if table.len() != stacks_of(kind, n).div_ceil(4) as usize || list.len() < MOST_TURNS => 10,
             refusal => refusal,
         };
@@ -493,8 +532,9 @@ impl System for Fast {
             return Planned { refusal, turns: 0 };
         }
         let plan = if kind == 0 { plan::<false> } else { plan::<true> };
-        match plan(n as usize, &wanted, &given, table) {
-            Ok((turns, len)) => {
+        let mut turns = [0; MOST_TURNS];
+        match plan(n as usize, &wanted, &given, groups, table, &mut turns) {
+            Ok(len) => {
                 list[..len].copy_from_slice(&turns[..len]);
                 Planned { refusal: 0, turns: len as u32 }
             }

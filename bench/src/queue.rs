@@ -7,10 +7,10 @@ use crate::fast::{flip, rank, unrank};
 pub const UNKNOWN: u8 = u8::MAX;
 
 // Fills the fewest turns of every stack; gives the counts by level. Both buffers have one place a stack.
-pub fn search<const COATED: bool>(n: usize, wanted: &Stack, turns: &mut [u8], queue: &mut [u32]) -> [u64; 32] {
+pub fn search<const COATED: bool>(n: usize, wanted: &Stack, turns: &mut [u8], queue: &mut [u32]) -> [u64; 256] {
     turns.fill(UNKNOWN);
     let start = rank::<COATED>(n, wanted);
-    let mut counts = [0; 32];
+    let mut counts = [0; 256];
     counts[0] = 1;
     turns[start as usize] = 0;
     queue[0] = start;

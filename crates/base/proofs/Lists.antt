@@ -1,5 +1,6 @@
--- Laws on lists: reversal, mapping, cutting, the list of numbers from a on, and a list of one element, many times.
-use mathlib.Core.Path.{_≡_, refl, sym, ap, _∙_}
+-- Laws on lists: reversal, mapping, cutting, the list of numbers from a on, a list of one element, many times, and what a test leaves.
+use mathlib.Core.Path.{_≡_, refl, sym, ap, ap₂, _∙_}
+use mathlib.Core.Bool.{Bool, true, false, cond}
 use mathlib.Core.List.{List, [], _∷_, _++_, map, reverse, reverse-cons}
 use Prim.Native.Nat.{ℕ, zero, suc, _+_, _-_, _<_, _≤_}
 use native.Mathlib.Nat.{add-zero, le-of-suc-le-suc, not-suc-le-zero}
@@ -7,8 +8,8 @@ use native.Mathlib.Omega.{arith}
 use lib.ListN.{length, getD, take, drop, replicate, length-reverse, length-replicate, getD-replicate, replicate-append-replicate, List·getD-append, List·getD-eq-default}
 use mathlib.Core.Logic.{_⊎_, inl, inr}
 use lib.Seq.{getD-at, take-at}
-use Rattle.base.proofs.Tests.{lt-or-ge}
-use Rattle.base.specs.Words.{from}
+use Rattle.base.proofs.Tests.{and-left, and-right, lt-or-ge}
+use Rattle.base.specs.Words.{all, filter, from}
 
 module _ {A B : Type 0} (f : A → B) where
   pub map-append : (xs ys : List A) → map f (xs ++ ys) ≡ map f xs ++ map f ys
@@ -89,3 +90,46 @@ take-replicate w n a h =
     ap (λ (k : ℕ). take w (replicate k a)) (let e : n ≡ w + (n - w) = omega arith in e)
     ∙ ap (take w) (sym (replicate-append-replicate w (n - w) a))
     ∙ take-at (replicate w a) (replicate (n - w) a) w (length-replicate w a)
+
+-- ---- what a test leaves of a list
+
+module _ {A : Type 0} (p : A → Bool) where
+  pub length-filter : (xs : List A) → length (filter p xs) ≤ length xs
+  unfolding filter
+  length-filter [] = omega arith
+  length-filter (x ∷ xs) = go (p x) (length-filter xs)
+    where
+      go : (t : Bool) → length (filter p xs) ≤ length xs → length (cond t (x ∷ filter p xs) (filter p xs)) ≤ suc (length xs)
+      go true h = omega arith
+      go false h = omega arith
+
+  pub filter-append : (xs ys : List A) → filter p (xs ++ ys) ≡ filter p xs ++ filter p ys
+  unfolding filter
+  filter-append [] ys = refl
+  filter-append (x ∷ xs) ys = go (p x) (filter-append xs ys)
+    where
+      go : (t : Bool) → filter p (xs ++ ys) ≡ filter p xs ++ filter p ys
+          → cond t (x ∷ filter p (xs ++ ys)) (filter p (xs ++ ys)) ≡ cond t (x ∷ filter p xs) (filter p xs) ++ filter p ys
+      go true h = ap (λ (zs : List A). x ∷ zs) h
+      go false h = h
+
+  -- all of it, if the test holds of all
+  pub filter-all : (xs : List A) → all p xs ≡ true → filter p xs ≡ xs
+  unfolding filter all
+  filter-all [] h = refl
+  filter-all (x ∷ xs) h =
+      ap (λ (t : Bool). cond t (x ∷ filter p xs) (filter p xs)) (and-left (p x) (all p xs) h)
+      ∙ ap (λ (zs : List A). x ∷ zs) (filter-all xs (and-right (p x) (all p xs) h))
+
+-- the numbers up to some, and the others; and up to one more
+pub from-split : (a m p : ℕ) → from a (m + p) ≡ from a m ++ from (a + m) p
+unfolding from
+from-split a zero p = ap₂ from (let e : a ≡ a + 0 = omega arith in e) (let e : 0 + p ≡ p = omega arith in e)
+from-split a (suc m) p =
+    ap (from a) (let e : suc m + p ≡ suc (m + p) = omega arith in e)
+    ∙ ap (λ (xs : List ℕ). a ∷ xs)
+    (from-split (suc a) m p ∙ ap (λ (x : ℕ). from (suc a) m ++ from x p) (let e : suc a + m ≡ a + suc m = omega arith in e))
+
+pub from-more : (a n : ℕ) → from a (suc n) ≡ from a n ++ ((a + n) ∷ [])
+unfolding from
+from-more a n = ap (from a) (let e : suc n ≡ n + 1 = omega arith in e) ∙ from-split a n 1

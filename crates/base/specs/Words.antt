@@ -2,6 +2,7 @@
 --   unless ok r rest   the refusal r where ok fails, else what rest says: a row of these is an ordered list of refusals
 --   all p xs           p holds of each element
 --   tally p xs         how many elements p holds of
+--   filter p xs        those elements, in their order
 --   total xs           the sum of a list
 --   fact n             n!
 --   from a n           the n numbers a, a + 1, ..
@@ -24,6 +25,10 @@ module _ {A : Type 0} where
   unfoldable pub tally : (A → Bool) → List A → ℕ
   tally p [] = 0
   tally p (x ∷ xs) = cond (p x) 1 0 + tally p xs
+
+  unfoldable pub filter : (A → Bool) → List A → List A
+  filter p [] = []
+  filter p (x ∷ xs) = cond (p x) (x ∷ filter p xs) (filter p xs)
 
   unfoldable pub without : ℕ → List A → List A
   without i xs = take i xs ++ drop (suc i) xs

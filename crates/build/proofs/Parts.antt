@@ -24,7 +24,7 @@ pub sizes : (job : Job) → isCoherent job ≡ true → SegmentSizeFacts (stackC
 unfolding stackCountOf
 sizes job coherent =
     segment-size-facts (stackCountOf job) (job .size)
-    (begin-given (job .kind) (job .n) (job .wanted) (job .size) (job .room) (coherent-facts job coherent .begins) .segments)
+    (begin-given (job .kind) (job .n) (job .wanted) (job .groups) (job .size) (job .room) (coherent-facts job coherent .begins) .segments)
 
 -- as many segments of as many bytes as there may be: the table is below 2^30
 pub start-small : (size j : ℕ) → size ≤ mostSize → j ≤ segmentLimit → j * (size / 4) ≤ segmentLimit * 16777216

@@ -17,14 +17,15 @@ fn build_refusal(
     kind: u8,
     n: u8,
     wanted: [i8; PLACES],
+    groups: u32,
     size: u32,
     room: u32,
     bytes: usize,
     words: usize,
 ) -> u8
-    ensures { λ r. ⌜ r ≡ buildRefusal kind n wanted size room bytes words ⌝ }
+    ensures { λ r. ⌜ r ≡ buildRefusal kind n wanted groups size room bytes words ⌝ }
 {
-    let refusal = coherence::begin_refusal(kind, n, wanted, size, room);
+    let refusal = coherence::begin_refusal(kind, n, wanted, groups, size, room);
     if refusal != 0 {
         return refusal;
     }
@@ -40,10 +41,10 @@ fn build_refusal(
 }
 
 // The job that Begin answers: a new one, or one of zeros where it refuses.
-fn begun_job(kind: u8, n: u8, wanted: [i8; PLACES], size: u32, room: u32) -> Job
-    ensures { λ r. ⌜ r ≡ (beginOf kind n wanted size room) .job ⌝ }
+fn begun_job(kind: u8, n: u8, wanted: [i8; PLACES], groups: u32, size: u32, room: u32) -> Job
+    ensures { λ r. ⌜ r ≡ (beginOf kind n wanted groups size room) .job ⌝ }
 {
-    let begun = begin::begin(kind, n, wanted, size, room);
+    let begun = begin::begin(kind, n, wanted, groups, size, room);
     begun.job
 }
 
@@ -55,7 +56,20 @@ fn has_ended(job: Job) -> bool
     if phase::is_finished(phase) {
         return true;
     }
-    close::close_refusal(job) == 14
+    let wanted = job.wanted;
+    let refusal = close::close_refusal(
+        job.kind,
+        job.n,
+        wanted,
+        job.groups,
+        job.size,
+        job.room,
+        phase,
+        &job.passed,
+        &job.waiting,
+        &job.counts,
+    );
+    refusal == 14
 }
 
 // A build from Begin to its end, in a table and a log area of the right lengths. Refused, both are as they were, and the job is one of zeros.
@@ -63,19 +77,20 @@ pub fn build_table(
     kind: u8,
     n: u8,
     wanted: [i8; PLACES],
+    groups: u32,
     size: u32,
     room: u32,
     table: &mut [u8],
     log: &mut [u32],
 ) -> Answer
-    ensures { λ r. ⌜ (now (table .exit), now (log .exit), r) ≡ buildOf kind n wanted size room (now (table .entry)) (now (log .entry)) ⌝ }
+    ensures { λ r. ⌜ (now (table .exit), now (log .exit), r) ≡ buildOf kind n wanted groups size room (now (table .entry)) (now (log .entry)) ⌝ }
 {
-    let refusal = build_refusal(kind, n, wanted, size, room, table.len(), log.len());
+    let refusal = build_refusal(kind, n, wanted, groups, size, room, table.len(), log.len());
     if refusal != 0 {
-        let none = begun_job(0, 0, [0i8; PLACES], 0, 0);
+        let none = begun_job(0, 0, [0i8; PLACES], 0, 0, 0);
         return Answer { refusal, job: none };
     }
-    let mut job = begun_job(kind, n, wanted, size, room);
+    let mut job = begun_job(kind, n, wanted, groups, size, room);
     while !has_ended(job) {
         job = advance::advance(job, table, log);
     }

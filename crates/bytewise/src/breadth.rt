@@ -1,8 +1,11 @@
-// A plain breadth-first search, one byte a stack: the fewest turns, or 255 for unseen.
+// A plain breadth-first search by the turns of a set, one byte a stack: the fewest turns, or 255 for unseen.
 ghost use Prim.Native.Nat.{_≤_};
 ghost use lib.ListN.{length};
 use crate::stack;
 use search::COUNT_PLACES;
+
+// What stands for a stack without a road.
+pub const UNSEEN: u8 = 255;
 
 // 1 where the stack at index i was unseen and is now marked, else 0.
 fn reach(bytes: &mut [u8], i: usize, mark: u8) -> u64
@@ -11,60 +14,73 @@ fn reach(bytes: &mut [u8], i: usize, mark: u8) -> u64
     if i >= bytes.len() {
         return 0;
     }
-    if bytes[i] != 255 {
+    if bytes[i] != UNSEEN {
         return 0;
     }
     bytes[i] = mark;
     1
 }
 
-// The largest number that is no turn.
-fn no_turn(kind: u8) -> usize {
-    if kind == 0 { 1 } else { 0 }
+// What reach does for the child by turn k, where the set names it.
+fn reach_by(
+    kind: u8,
+    n: usize,
+    groups: u32,
+    bytes: &mut [u8],
+    parent: [u8; 12],
+    k: usize,
+    mark: u8,
+) -> u64
+    requires { ⌜ n ≤ 12 ⌝ }
+    ensures { λ r. ⌜ r ≤ 1 ⌝ }
+{
+    if !stack::lifts(groups, k) {
+        return 0;
+    }
+    let child = stack::rank(kind, n, stack::turned(kind, parent, k));
+    reach(bytes, child, mark)
 }
 
 // Marks the children of the stack at index i, and answers how many were unseen.
-fn spread(kind: u8, n: usize, bytes: &mut [u8], i: usize, mark: u8) -> u64
+fn spread(kind: u8, n: usize, groups: u32, bytes: &mut [u8], i: usize, mark: u8) -> u64
     requires { ⌜ n ≤ 12 ⌝ }
     ensures { λ r. ⌜ r ≤ n ⌝ }
 {
     let parent = stack::unrank(kind, n, i);
     let mut found: u64 = 0;
-    let least = no_turn(kind);
     let mut k = n;
-    while k > least {
-        let child = stack::rank(kind, n, stack::turned(kind, parent, k));
-        found += reach(bytes, child, mark);
+    while k > 0 {
+        found += reach_by(kind, n, groups, bytes, parent, k, mark);
         k -= 1;
     }
     found
 }
 
-// What spread does where the stack at index i is at d turns.
-fn spread_from(kind: u8, n: usize, bytes: &mut [u8], i: usize, d: u8) -> u64
+// What spread does where the stack at index i is at d turns. None is marked as unseen.
+fn spread_from(kind: u8, n: usize, groups: u32, bytes: &mut [u8], i: usize, d: u8) -> u64
     requires { ⌜ n ≤ 12 ⌝ }
     ensures { λ r. ⌜ r ≤ n ⌝ }
 {
     if i >= bytes.len() {
         return 0;
     }
-    if d > 100 {
+    if d > 253 {
         return 0;
     }
     if bytes[i] != d {
         return 0;
     }
-    spread(kind, n, bytes, i, d + 1)
+    spread(kind, n, groups, bytes, i, d + 1)
 }
 
 // Searches the level after d, and answers how many stacks it has.
-fn level(kind: u8, n: usize, bytes: &mut [u8], d: u8) -> u64
-    requires { ⌜ (n ≤ 12) × (length (now bytes) ≤ 65536) ⌝ }
+fn level(kind: u8, n: usize, groups: u32, bytes: &mut [u8], d: u8) -> u64
+    requires { ⌜ (n ≤ 12) × (length (now bytes) ≤ 1048576) ⌝ }
 {
     let mut found: u64 = 0;
     let mut i: usize = 0;
     while i < bytes.len() {
-        found += spread_from(kind, n, bytes, i, d);
+        found += spread_from(kind, n, groups, bytes, i, d);
         i += 1;
     }
     found
@@ -73,7 +89,7 @@ fn level(kind: u8, n: usize, bytes: &mut [u8], d: u8) -> u64
 fn clear(bytes: &mut [u8]) {
     let mut i: usize = 0;
     while i < bytes.len() {
-        bytes[i] = 255;
+        bytes[i] = UNSEEN;
         i += 1;
     }
 }
@@ -81,18 +97,44 @@ fn clear(bytes: &mut [u8]) {
 // The last level that has a count.
 const LAST: usize = COUNT_PLACES - 1;
 
-// Fills the bytes from the stack at index goal, and answers how many stacks each level has.
-pub fn search(kind: u8, n: usize, bytes: &mut [u8], goal: usize) -> [u64; COUNT_PLACES]
-    requires { ⌜ (n ≤ 12) × (length (now bytes) ≤ 65536) ⌝ }
+// Fills the bytes from the stack at index goal, and answers how many stacks each level has. It ends at a level that has none.
+pub fn search(kind: u8, n: usize, groups: u32, bytes: &mut [u8], goal: usize) -> [u64; COUNT_PLACES]
+    requires { ⌜ (n ≤ 12) × (length (now bytes) ≤ 1048576) ⌝ }
 {
     clear(bytes);
     let mut counts = [0u64; COUNT_PLACES];
     counts[0] = reach(bytes, goal, 0);
     let mut d: usize = 0;
     while d < LAST {
-        let next = level(kind, n, bytes, d as u8);
+        let next = level(kind, n, groups, bytes, d as u8);
+        if next == 0 {
+            return counts;
+        }
         d += 1;
         counts[d] = next;
     }
     counts
+}
+
+// The last level that has a stack.
+pub fn deepest(counts: [u64; COUNT_PLACES]) -> usize {
+    let mut d: usize = LAST;
+    while d > 0 {
+        if counts[d] != 0 {
+            return d;
+        }
+        d -= 1;
+    }
+    0
+}
+
+// How many stacks have a road.
+pub fn roads(counts: [u64; COUNT_PLACES]) -> u64 {
+    let mut sum: u64 = 0;
+    let mut d: usize = 0;
+    while d < COUNT_PLACES {
+        sum = std::num::wrapping_add_u64(sum, counts[d]);
+        d += 1;
+    }
+    sum
 }

@@ -1,11 +1,33 @@
 // The library's answers beside the search's. Each function answers how many differ.
 ghost use Prim.Native.Nat.{_≤_};
 ghost use lib.ListN.{length};
+use crate::breadth::UNSEEN;
 use crate::stack;
+use job::phase;
 use search::COUNT_PLACES;
 use search::PLAN_LIMIT;
+use search::Phase;
 
-// 1 where the stack at index i has another entry than its d turns modulo 3, else 0.
+// 1 where a build was refused, is not finished or has another deepest level than the search, else 0.
+pub fn build_differs(refusal: u8, phase: Phase, deepest: usize) -> u64 {
+    if refusal != 0 {
+        return 1;
+    }
+    if !phase::is_finished(phase) {
+        return 1;
+    }
+    if phase::level_of(phase) as usize != deepest {
+        return 1;
+    }
+    0
+}
+
+// The entry of a stack at d turns, or without a road.
+fn entry_for(d: u8) -> u8 {
+    if d == UNSEEN { 3 } else { d % 3 }
+}
+
+// 1 where the stack at index i has another entry than is due to it, else 0.
 fn entry_differs(kind: u8, n: u8, table: &[u8], i: u32, d: u8) -> u64
     ensures { λ r. ⌜ r ≤ 1 ⌝ }
 {
@@ -13,14 +35,14 @@ fn entry_differs(kind: u8, n: u8, table: &[u8], i: u32, d: u8) -> u64
     if read.refusal != 0 {
         return 1;
     }
-    if read.entry != d % 3 {
+    if read.entry != entry_for(d) {
         return 1;
     }
     0
 }
 
 pub fn entries(kind: u8, n: u8, table: &[u8], bytes: &[u8]) -> u64
-    requires { ⌜ length (now bytes) ≤ 65536 ⌝ }
+    requires { ⌜ length (now bytes) ≤ 1048576 ⌝ }
 {
     let mut differ: u64 = 0;
     let mut i: usize = 0;
@@ -47,6 +69,21 @@ pub fn counts(a: [u64; COUNT_PLACES], b: [u64; COUNT_PLACES]) -> u64 {
     differ
 }
 
+// Whether a set names each turn at the front of a list.
+fn are_lifted(groups: u32, list: &[u8], turns: usize) -> bool {
+    if turns > list.len() {
+        return false;
+    }
+    let mut t: usize = 0;
+    while t < turns {
+        if !stack::lifts(groups, list[t] as usize) {
+            return false;
+        }
+        t += 1;
+    }
+    true
+}
+
 // Where the turns at the front of a list lead.
 fn follow(kind: u8, given: [u8; 12], list: &[u8], turns: usize) -> [u8; 12] {
     let mut at = given;
@@ -62,8 +99,27 @@ fn follow(kind: u8, given: [u8; 12], list: &[u8], turns: usize) -> [u8; 12] {
     at
 }
 
-// 1 where the plan from the stack at index i has not d turns or leads elsewhere than to the stack at index goal, else 0.
-fn plan_differs(kind: u8, n: u8, goal: usize, table: &[u8], i: usize, d: u8) -> u64
+// Whether the turns at the front of a list are of the set and lead from the given stack to the one at index goal.
+fn arrives(
+    kind: u8,
+    n: usize,
+    groups: u32,
+    goal: usize,
+    given: [u8; 12],
+    list: &[u8],
+    turns: usize,
+) -> bool
+    requires { ⌜ n ≤ 12 ⌝ }
+{
+    if !are_lifted(groups, list, turns) {
+        return false;
+    }
+    stack::rank(kind, n, follow(kind, given, list, turns)) == goal
+}
+
+// 1 where the plan from the stack at index i has not d turns or does not arrive, or where the stack has no road and is not refused 20,
+// else 0.
+fn plan_differs(kind: u8, n: u8, groups: u32, goal: usize, table: &[u8], i: usize, d: u8) -> u64
     requires { ⌜ n ≤ 12 ⌝ }
     ensures { λ r. ⌜ r ≤ 1 ⌝ }
 {
@@ -73,28 +129,53 @@ fn plan_differs(kind: u8, n: u8, goal: usize, table: &[u8], i: usize, d: u8) -> 
     let to = stack::places(wanted);
     let from = stack::places(given);
     let mut list = [0u8; PLAN_LIMIT];
-    let planned = plan::plan::plan(kind, n, to, from, table, &mut list);
+    let planned = plan::plan::plan(kind, n, to, from, groups, table, &mut list);
+    if d == UNSEEN {
+        return number_differs(planned.refusal, 20);
+    }
     if planned.refusal != 0 {
         return 1;
     }
     if planned.turns != d as u32 {
         return 1;
     }
-    let at = follow(kind, given, &list, planned.turns as usize);
-    if stack::rank(kind, panes, at) != goal {
+    if !arrives(
+        kind,
+        panes,
+        groups,
+        goal,
+        given,
+        &list,
+        planned.turns as usize,
+    ) {
         return 1;
     }
     0
 }
 
-pub fn plans(kind: u8, n: u8, goal: usize, table: &[u8], bytes: &[u8]) -> u64
-    requires { ⌜ n ≤ 12 ⌝ }
+fn number_differs(a: u8, b: u8) -> u64
+    ensures { λ r. ⌜ r ≤ 1 ⌝ }
+{
+    if a == b { 0 } else { 1 }
+}
+
+// The plans from each stack whose index is a multiple of step.
+pub fn plans(
+    kind: u8,
+    n: u8,
+    groups: u32,
+    goal: usize,
+    table: &[u8],
+    bytes: &[u8],
+    step: usize,
+) -> u64
+    requires { ⌜ (n ≤ 12) × (1 ≤ step) × (step ≤ 1000) × (length (now bytes) ≤ 1048576) ⌝ }
 {
     let mut differ: u64 = 0;
     let mut i: usize = 0;
     while i < bytes.len() {
-        differ += plan_differs(kind, n, goal, table, i, bytes[i]);
-        i += 1;
+        differ += plan_differs(kind, n, groups, goal, table, i, bytes[i]);
+        i += step;
     }
     differ
 }

@@ -138,9 +138,9 @@ fn coated(stack: [u8; 12], n: usize, index: usize) -> [u8; 12]
     next
 }
 
-// An index halved n times.
-fn halved(n: usize, index: usize) -> usize {
-    let mut left = index;
+// A number halved n times.
+fn halved(n: usize, number: usize) -> usize {
+    let mut left = number;
     let mut p = n;
     while p > 0 {
         left /= 2;
@@ -156,6 +156,28 @@ pub fn unrank(kind: u8, n: usize, index: usize) -> [u8; 12]
         return order_at(n, index);
     }
     coated(order_at(n, halved(n, index)), n, index)
+}
+
+// Whether a set of groups names size k: the first of its bits is size 1.
+pub fn lifts(groups: u32, k: usize) -> bool {
+    if k < 1 {
+        return false;
+    }
+    halved(k - 1, groups as usize) % 2 == 1
+}
+
+// Whether a frame may lift a set: sizes of turns alone, and some of them unless there are none.
+pub fn is_set(kind: u8, n: usize, groups: u32) -> bool {
+    if halved(n, groups as usize) != 0 {
+        return false;
+    }
+    if kind != 0 {
+        return groups != 0;
+    }
+    if groups % 2 != 0 {
+        return false;
+    }
+    groups != 0 || n == 1
 }
 
 fn flipped(kind: u8, pane: u8) -> u8 {

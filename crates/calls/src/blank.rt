@@ -3,30 +3,33 @@ ghost use mathlib.Core.Bool.{true};
 ghost use mathlib.Core.Path.{_≡_};
 ghost use Prim.Native.Nat.{_<_};
 ghost use lib.ListN.{set};
+ghost use Rattle.job.specs.Standing.{Stands, Tells};
 ghost use Rattle.calls.specs.Lent.{BlankFits, blankedBy};
 ghost use Rattle.search.specs.Blank.{blankRefusal, blankOf};
 ghost use Rattle.search.specs.JobState.{isCoherent, segmentCountOf, stackCountAt, progressed};
 use job::geometry;
 use job::phase;
 use job::refusals;
+use job::standing;
+use job::standing::Standing;
 use perm::numbering;
 use search::Answer;
 use search::Job;
 use stacks::PLACES;
 use twobit::entry;
 
-fn blank_refusal(job: Job, j: u32, bytes: usize) -> u8
-    ensures { λ r. ⌜ r ≡ blankRefusal job j bytes ⌝ }
+fn blank_refusal(standing: Standing, j: u32, bytes: usize) -> u8
+    requires { ⌜ Stands standing j ⌝ }
+    ensures { λ r. ⌜ Tells standing j (λ job. blankRefusal job j bytes) r ⌝ }
 {
-    let phase = job.phase;
+    let phase = standing.phase;
     let in_blanking = phase::is_blanking(phase);
-    let refusal = refusals::segment_refusal(job, in_blanking, j, bytes);
+    let refusal = refusals::segment_refusal(standing, in_blanking, j, bytes);
     if refusal != 0 {
         return refusal;
     }
-    let stacks = geometry::stack_count_at(job.kind, job.n, job.size, j);
-    let passed = job.passed;
-    if stacks <= passed[j as usize] {
+    let stacks = geometry::stack_count_at(standing.kind, standing.n, standing.size, j);
+    if stacks <= standing.passed {
         return 11;
     }
     0
@@ -60,11 +63,25 @@ fn pass_all(job: Job, j: u32) -> Job
 pub fn blank(job: Job, j: u32, segment: &mut [u8]) -> Answer
     ensures { λ r. ⌜ (now (segment .exit), r) ≡ blankOf job j (now (segment .entry)) ⌝ }
 {
-    let refusal = blank_refusal(job, j, segment.len());
+    let wanted = job.wanted;
+    let phase = job.phase;
+    let standing = standing::standing_of(
+        job.kind,
+        job.n,
+        wanted,
+        job.groups,
+        job.size,
+        job.room,
+        phase,
+        &job.passed,
+        &job.waiting,
+        &job.counts,
+        j,
+    );
+    let refusal = blank_refusal(standing, j, segment.len());
     if refusal != 0 {
         return Answer { refusal, job };
     }
-    let wanted = job.wanted;
     blank_entries(job.kind, job.n, wanted, job.size, j, segment);
     let next = pass_all(job, j);
     Answer {

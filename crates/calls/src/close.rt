@@ -3,11 +3,12 @@ ghost use mathlib.Core.Bool.{true, false, _&&_, cond};
 ghost use mathlib.Core.Path.{_≡_};
 ghost use Prim.Native.Nat.{_+_, _-_, _≤_};
 ghost use lib.Dec.{eqb};
-ghost use lib.ListN.{getD};
+ghost use lib.ListN.{length, getD};
+ghost use Rattle.job.specs.Standing.{jobWith};
 ghost use Rattle.calls.specs.Lent.{readyBy, pastLast};
 ghost use Rattle.stacks.specs.Stack.{isPaneCount, stackCount};
 ghost use Rattle.search.specs.Close.{isPastLast, closeRefusal, nextPhase, nextCounts, closed, closeOf};
-ghost use Rattle.search.specs.JobState.{lastLevel, levelOf, phaseFits, isCoherent};
+ghost use Rattle.search.specs.JobState.{countPlaces, lastLevel, levelOf, phaseFits, isCoherent};
 ghost use Rattle.search.specs.Segments.{stackCountIn, isSegmentSize};
 ghost use Rattle.search.specs.declared.Phase.the-variants.{Level, Finished};
 use job::coherence;
@@ -19,6 +20,7 @@ use search::Job;
 use search::LAST_LEVEL;
 use search::Phase;
 use search::SEGMENT_LIMIT;
+use stacks::PLACES;
 use twobit::segment;
 
 // Segment j has all its stacks passed and no entry waiting.
@@ -32,15 +34,15 @@ fn is_done(count: u32, size: u32, j: u32, passed: u32, waiting: u32) -> bool
 }
 
 // Each segment is done.
-fn is_ready(
+fn is_ready<'a>(
     kind: u8,
     n: u8,
     size: u32,
-    passed: [u32; SEGMENT_LIMIT],
-    waiting: [u32; SEGMENT_LIMIT],
+    passed: &'a [u32; SEGMENT_LIMIT],
+    waiting: &'a [u32; SEGMENT_LIMIT],
 ) -> bool
     requires { ⌜ (isPaneCount kind n ≡ true) × (isSegmentSize (stackCount kind n) size ≡ true) ⌝ }
-    ensures { λ r. ⌜ r ≡ readyBy (stackCount kind n) size passed waiting ⌝ }
+    ensures { λ r. ⌜ r ≡ readyBy (stackCount kind n) size (now (passed .entry)) (now (waiting .entry)) ⌝ }
 {
     let count = kind::stack_count(kind, n);
     let segments = segment::segment_count(count, size);
@@ -55,8 +57,8 @@ fn is_ready(
 }
 
 // The last level is searched, and brought stacks: no level can follow it.
-fn is_past_last(phase: Phase, counts: [u64; COUNT_PLACES]) -> bool
-    ensures { λ r. ⌜ r ≡ pastLast (levelOf phase) (getD counts lastLevel 0) ⌝ }
+fn is_past_last(phase: Phase, counts: &[u64; COUNT_PLACES]) -> bool
+    ensures { λ r. ⌜ r ≡ pastLast (levelOf phase) (getD (now (counts .entry)) lastLevel 0) ⌝ }
 {
     if phase::level_of(phase) != LAST_LEVEL {
         return false;
@@ -64,22 +66,42 @@ fn is_past_last(phase: Phase, counts: [u64; COUNT_PLACES]) -> bool
     counts[LAST_LEVEL as usize] != 0
 }
 
-pub fn close_refusal(job: Job) -> u8
-    ensures { λ r. ⌜ r ≡ closeRefusal job ⌝ }
+// Close's refusals of the job with these fields. Its arrays are lent, so that the job is not copied.
+pub fn close_refusal<'a>(
+    kind: u8,
+    n: u8,
+    wanted: [i8; PLACES],
+    groups: u32,
+    size: u32,
+    room: u32,
+    phase: Phase,
+    passed: &'a [u32; SEGMENT_LIMIT],
+    waiting: &'a [u32; SEGMENT_LIMIT],
+    counts: &'a [u64; COUNT_PLACES],
+) -> u8
+    requires { ⌜ length (now counts) ≡ countPlaces ⌝ }
+    ensures { λ r. ⌜ r ≡ closeRefusal (jobWith kind n wanted groups size room phase (now (passed .entry)) (now (waiting .entry)) (now (counts .entry))) ⌝ }
 {
-    if !coherence::is_coherent(job) {
+    if !coherence::is_coherent(
+        kind,
+        n,
+        wanted,
+        groups,
+        size,
+        room,
+        phase,
+        passed,
+        waiting,
+        counts,
+    ) {
         return 7;
     }
-    let phase = job.phase;
     if phase::is_finished(phase) {
         return 8;
     }
-    let passed = job.passed;
-    let waiting = job.waiting;
-    if !is_ready(job.kind, job.n, job.size, passed, waiting) {
+    if !is_ready(kind, n, size, passed, waiting) {
         return 13;
     }
-    let counts = job.counts;
     if is_past_last(phase, counts) {
         return 14;
     }
@@ -134,6 +156,7 @@ fn closed_job(job: Job) -> Job
         kind: job.kind,
         n: job.n,
         wanted,
+        groups: job.groups,
         size: job.size,
         room: job.room,
         phase,
@@ -147,7 +170,20 @@ fn closed_job(job: Job) -> Job
 pub fn close(job: Job) -> Answer
     ensures { λ r. ⌜ r ≡ closeOf job ⌝ }
 {
-    let refusal = close_refusal(job);
+    let wanted = job.wanted;
+    let phase = job.phase;
+    let refusal = close_refusal(
+        job.kind,
+        job.n,
+        wanted,
+        job.groups,
+        job.size,
+        job.room,
+        phase,
+        &job.passed,
+        &job.waiting,
+        &job.counts,
+    );
     if refusal != 0 {
         return Answer { refusal, job };
     }

@@ -2,21 +2,25 @@
 ghost use mathlib.Core.Path.{_≡_};
 ghost use Prim.Native.Nat.{_+_, _*_, _≤_};
 ghost use lib.ListN.{length};
+ghost use Rattle.job.specs.Standing.{Stands, Tells};
 ghost use Rattle.search.specs.Look.{lookRefusal, lookOf};
 ghost use Rattle.search.specs.Logs.{logPart};
 ghost use Rattle.search.specs.Segments.{segmentLimit, mostRoom};
 use job::geometry;
 use job::refusals;
+use job::standing;
+use job::standing::Standing;
 use search::Job;
 
-fn look_refusal(job: Job, j: u32, words: usize) -> u8
-    ensures { λ r. ⌜ r ≡ lookRefusal job j words ⌝ }
+fn look_refusal(standing: Standing, j: u32, words: usize) -> u8
+    requires { ⌜ Stands standing j ⌝ }
+    ensures { λ r. ⌜ Tells standing j (λ job. lookRefusal job j words) r ⌝ }
 {
-    let refusal = refusals::call_refusal(job, true, j);
+    let refusal = refusals::call_refusal(standing, true, j);
     if refusal != 0 {
         return refusal;
     }
-    let area = geometry::log_length(job.kind, job.n, job.size, job.room);
+    let area = geometry::log_length(standing.kind, standing.n, standing.size, standing.room);
     if words != area {
         return 10;
     }
@@ -37,11 +41,25 @@ pub(crate) fn waiting_part<'a>(room: u32, j: u32, waiting: u32, log: &'a [u32]) 
 pub fn look<'a, 'b>(job: Job, j: u32, log: &'a [u32], number: &'b mut u8) -> &'a [u32]
     ensures { λ r. ⌜ (now r, now (number .exit)) ≡ lookOf job j (now (log .entry)) ⌝ }
 {
-    let refusal = look_refusal(job, j, log.len());
+    let wanted = job.wanted;
+    let phase = job.phase;
+    let standing = standing::standing_of(
+        job.kind,
+        job.n,
+        wanted,
+        job.groups,
+        job.size,
+        job.room,
+        phase,
+        &job.passed,
+        &job.waiting,
+        &job.counts,
+        j,
+    );
+    let refusal = look_refusal(standing, j, log.len());
     *number = refusal;
     if refusal != 0 {
         return &log[..0];
     }
-    let waiting = job.waiting;
-    waiting_part(job.room, j, waiting[j as usize], log)
+    waiting_part(standing.room, j, standing.waiting, log)
 }

@@ -6,6 +6,7 @@ ghost use Prim.Native.Nat.{_<_};
 ghost use lib.Dec.{ltb};
 ghost use lib.ListN.{set};
 ghost use Rattle.base.specs.Words.{all};
+ghost use Rattle.job.specs.Standing.{Stands, Tells};
 ghost use Rattle.calls.specs.Lent.{OffsetsFit};
 ghost use Rattle.search.specs.JobState.{isCoherent, segmentCountOf};
 ghost use Rattle.search.specs.Logs.{indexesOf};
@@ -16,6 +17,8 @@ use crate::look;
 use job::geometry;
 use job::phase;
 use job::refusals;
+use job::standing;
+use job::standing::Standing;
 use search::Answer;
 use search::Job;
 use twobit::entry;
@@ -35,17 +38,17 @@ fn offsets_fit(offsets: &[u32], stacks: u32) -> bool
     true
 }
 
-fn settle_refusal(job: Job, j: u32, bytes: usize, log: &[u32]) -> u8
-    ensures { λ r. ⌜ r ≡ settleRefusal job j bytes (now (log .entry)) ⌝ }
+fn settle_refusal(standing: Standing, j: u32, bytes: usize, log: &[u32]) -> u8
+    requires { ⌜ Stands standing j ⌝ }
+    ensures { λ r. ⌜ Tells standing j (λ job. settleRefusal job j bytes (now (log .entry))) r ⌝ }
 {
-    let refusal = refusals::level_refusal(job, j, bytes, log.len());
+    let refusal = refusals::level_refusal(standing, j, bytes, log.len());
     if refusal != 0 {
         return refusal;
     }
-    let stacks = geometry::stack_count_at(job.kind, job.n, job.size, j);
-    let waiting = job.waiting;
+    let stacks = geometry::stack_count_at(standing.kind, standing.n, standing.size, j);
     if !offsets_fit(
-        look::waiting_part(job.room, j, waiting[j as usize], log),
+        look::waiting_part(standing.room, j, standing.waiting, log),
         stacks,
     ) {
         return 12;
@@ -93,17 +96,29 @@ fn emptied(job: Job, j: u32, found: Found) -> Job
 pub fn settle(job: Job, j: u32, segment: &mut [u8], log: &[u32]) -> Answer
     ensures { λ r. ⌜ (now (segment .exit), r) ≡ settleOf job j (now (segment .entry)) (now (log .entry)) ⌝ }
 {
-    let refusal = settle_refusal(job, j, segment.len(), log);
+    let wanted = job.wanted;
+    let phase = job.phase;
+    let standing = standing::standing_of(
+        job.kind,
+        job.n,
+        wanted,
+        job.groups,
+        job.size,
+        job.room,
+        phase,
+        &job.passed,
+        &job.waiting,
+        &job.counts,
+        j,
+    );
+    let refusal = settle_refusal(standing, j, segment.len(), log);
     if refusal != 0 {
         return Answer { refusal, job };
     }
-    let phase = job.phase;
     let level = phase::level_of(phase);
-    let counts = job.counts;
-    let waiting = job.waiting;
     let label = entry::next_entry((level - 1) % 3);
-    let offsets = look::waiting_part(job.room, j, waiting[j as usize], log);
-    let count = counts[level as usize];
+    let offsets = look::waiting_part(standing.room, j, standing.waiting, log);
+    let count = job.counts[level as usize];
     let found = Found { count };
     let marked = mark_all(segment, job.size, j, offsets, label, found);
     let next = emptied(job, j, marked);

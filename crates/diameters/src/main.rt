@@ -38,7 +38,18 @@ fn measure(kind: u8, n: u8, size: u32, room: u32, order: u8) {
     let mut table = [0u8; 11520];
     let mut log = [0u32; 65536];
     let wanted = build::ordered(n);
-    let built = build::build(kind, n, wanted, size, room, order, &mut table, &mut log);
+    let groups = build::all_groups(kind, n);
+    let built = build::build(
+        kind,
+        n,
+        wanted,
+        groups,
+        size,
+        room,
+        order,
+        &mut table,
+        &mut log,
+    );
     print::kind_and_n(kind, n);
     print::field(
         b"segments",

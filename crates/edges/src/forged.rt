@@ -8,9 +8,9 @@ use search::Phase;
 use trial::build;
 use trial::print;
 
-// Two segments, of 4 stacks and of 2, and logs of 16 places.
+// Every turn, two segments, of 4 stacks and of 2, and logs of 16 places.
 pub fn begun() -> Job {
-    let answer = begin::begin(0, 3, build::ordered(3), 4, 16);
+    let answer = begin::begin(0, 3, build::ordered(3), 6, 4, 16);
     answer.job
 }
 
@@ -23,6 +23,7 @@ pub fn with_phase(job: Job, phase: Phase) -> Job {
         kind: job.kind,
         n: job.n,
         wanted,
+        groups: job.groups,
         size: job.size,
         room: job.room,
         phase,
@@ -30,6 +31,12 @@ pub fn with_phase(job: Job, phase: Phase) -> Job {
         waiting,
         counts,
     }
+}
+
+pub fn with_groups(job: Job, groups: u32) -> Job {
+    let mut next = job;
+    next.groups = groups;
+    next
 }
 
 pub fn with_passed(job: Job, j: usize, stacks: u32) -> Job
@@ -49,7 +56,7 @@ pub fn with_waiting(job: Job, j: usize, entries: u32) -> Job
 }
 
 pub fn with_count(job: Job, d: usize, stacks: u64) -> Job
-    requires { ⌜ d < 32 ⌝ }
+    requires { ⌜ d < 256 ⌝ }
 {
     let mut next = job;
     next.counts[d] = stacks;
@@ -64,6 +71,12 @@ fn look_at(job: Job) {
     print::verdict(refusal);
     print::field(b"shown", part.len() as u64);
     print::end();
+}
+
+fn lifting(groups: u32) {
+    print::word(b"job");
+    print::field(b"groups", groups as u64);
+    look_at(with_groups(begun(), groups));
 }
 
 fn level(d: u8) {
@@ -97,7 +110,7 @@ fn waiting(j: usize, entries: u32)
 }
 
 fn count(d: usize, stacks: u64)
-    requires { ⌜ d < 32 ⌝ }
+    requires { ⌜ d < 256 ⌝ }
 {
     print::word(b"job");
     print::field(b"level", d as u64);
@@ -105,14 +118,24 @@ fn count(d: usize, stacks: u64)
     look_at(with_count(begun(), d, stacks));
 }
 
+fn sets() {
+    lifting(0);
+    lifting(1);
+    lifting(2);
+    lifting(4);
+    lifting(7);
+    lifting(8);
+    lifting(2147483648);
+}
+
 fn phases() {
     level(0);
     level(1);
-    level(31);
-    level(32);
+    level(254);
+    level(255);
     deepest(0);
-    deepest(30);
-    deepest(31);
+    deepest(254);
+    deepest(255);
 }
 
 fn segments() {
@@ -131,14 +154,21 @@ fn segments() {
 fn counts() {
     count(0, 1152921504606846976);
     count(0, 1152921504606846977);
-    count(31, 1152921504606846976);
-    count(31, 1152921504606846977);
+    count(255, 1152921504606846976);
+    count(255, 1152921504606846977);
 }
 
-// Close at a level, all stacks passed, with a count at it.
-fn close_at(d: u8, stacks: u64)
-    requires { ⌜ d < 32 ⌝ }
-{
+// The phase that a job is in.
+fn print_phase(phase: Phase) {
+    match phase {
+        Phase::Blanking => print::word(b" blanking"),
+        Phase::Level(d) => print::field(b"level", d as u64),
+        Phase::Finished(d) => print::field(b"deepest", d as u64),
+    }
+}
+
+// Close at a level, all stacks passed, with a count at it, and the phase that follows.
+fn close_at(d: u8, stacks: u64) {
     let done = with_passed(with_passed(begun(), 0, 4), 1, 2);
     let job = with_count(with_phase(done, Phase::Level(d)), d as usize, stacks);
     let answer = close::close(job);
@@ -146,16 +176,23 @@ fn close_at(d: u8, stacks: u64)
     print::field(b"level", d as u64);
     print::field(b"count", stacks);
     print::verdict(answer.refusal);
+    let next = answer.job;
+    let phase = next.phase;
+    print_phase(phase);
     print::end();
 }
 
 fn closes() {
-    close_at(30, 1);
-    close_at(31, 0);
-    close_at(31, 1);
+    close_at(1, 0);
+    close_at(1, 1);
+    close_at(254, 0);
+    close_at(254, 1);
+    close_at(255, 0);
+    close_at(255, 1);
 }
 
 pub fn lines() {
+    sets();
     phases();
     segments();
     counts();

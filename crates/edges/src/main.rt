@@ -2,6 +2,8 @@
 mod begins;
 mod counted;
 mod forged;
+mod last;
+mod longest;
 mod numbered;
 mod planned;
 mod priced;
@@ -12,7 +14,9 @@ fn main() {
     numbered::lines();
     begins::lines();
     forged::lines();
+    last::lines();
     refused::lines();
     planned::lines();
     priced::lines();
+    longest::lines();
 }

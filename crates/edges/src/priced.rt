@@ -7,12 +7,20 @@ use trial::build;
 use trial::print;
 
 // The first line at the front, and the other in every place past it.
-fn price_in(text: &[u8], table: &[u8], list: &mut [u8], count: u32, one: Line, other: Line) {
+fn price_in(
+    text: &[u8],
+    groups: u32,
+    table: &[u8],
+    list: &mut [u8],
+    count: u32,
+    one: Line,
+    other: Line,
+) {
     let given = [3, 1, 2, 0, 0, 0, 0, 0, 0, 0, 0, 0];
     let mut lines = [other; LINE_LIMIT];
     lines[0] = one;
     let tariff = Tariff { count, lines };
-    let priced = price::price::price(0, 3, build::ordered(3), given, table, list, tariff);
+    let priced = price::price::price(0, 3, build::ordered(3), given, groups, table, list, tariff);
     print::word(text);
     print::field(b"lines", count as u64);
     print::verdict(priced.refusal);
@@ -23,8 +31,8 @@ fn price_in(text: &[u8], table: &[u8], list: &mut [u8], count: u32, one: Line, o
 
 fn price(text: &[u8], count: u32, one: Line, other: Line) {
     let table = TABLE;
-    let mut list = [0u8; 30];
-    price_in(text, &table, &mut list, count, one, other);
+    let mut list = [0u8; 254];
+    price_in(text, 6, &table, &mut list, count, one, other);
 }
 
 fn one_line(text: &[u8], first: u8, last: u8, price_a_turn: u32) {
@@ -91,22 +99,26 @@ fn covers() {
 fn plan_first() {
     let table = TABLE;
     let unseen = [0xffu8; 2];
-    let mut short = [0u8; 29];
-    let mut list = [0u8; 30];
+    let ones = [0x55u8; 2];
+    let mut short = [0u8; 253];
+    let mut list = [0u8; 254];
     let none = Line {
         first: 0,
         last: 0,
         price: 0,
     };
-    price_in(b"price in 29 slots", &table, &mut short, 13, none, none);
+    price_in(b"price with no group", 0, &table, &mut list, 13, none, none);
+    price_in(b"price in 253 slots", 6, &table, &mut short, 13, none, none);
     price_in(
         b"price over unseen entries",
+        6,
         &unseen,
         &mut list,
         13,
         none,
         none,
     );
+    price_in(b"price over entries 1", 6, &ones, &mut list, 13, none, none);
 }
 
 pub fn lines() {

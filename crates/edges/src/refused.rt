@@ -132,10 +132,32 @@ fn closes() {
     );
 }
 
+// A job that lifts no group is not coherent.
+fn damaged() {
+    let mut byte = [0xffu8; 1];
+    let mut log = [0u32; 32];
+    let blanking = forged::with_groups(forged::begun(), 0);
+    let job = forged::with_groups(searching(), 0);
+    verdict(
+        b"blank, no group",
+        blank::blank(blanking, 0, &mut byte).refusal,
+    );
+    verdict(
+        b"expand, no group",
+        expand::expand::expand(job, 0, &mut byte, &mut log).refusal,
+    );
+    verdict(
+        b"settle, no group",
+        settle::settle(job, 0, &mut byte, &log).refusal,
+    );
+    verdict(b"close, no group", close::close(job).refusal);
+}
+
 pub fn lines() {
     blanks();
     expands();
     settles();
     looks();
     closes();
+    damaged();
 }

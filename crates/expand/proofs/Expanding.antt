@@ -13,7 +13,7 @@ use Rattle.base.specs.Words.{unless, firstFrom}
 use Rattle.base.proofs.Tests.{lt-or-ge}
 use Rattle.job.proofs.Rows.{level-refuses, level-goes-on}
 use Rattle.stacks.specs.Stack.{stackCount}
-use Rattle.stacks.specs.Turn.{turnsOf}
+use Rattle.stacks.specs.Turn.{turnsIn}
 use Rattle.search.specs.Entries.{entryAt, nextEntry}
 use Rattle.search.specs.Expand.{Expansion, isParent, expandRefusal, childrenOf, placeChild, placeAll, passOne, waitFor, expandStack, expandNext, expandRun, expansion, expandedJob, expandOf}
 use Rattle.search.specs.JobState.{isCoherent, levelOf, stackCountOf, segmentCountOf, stackCountAt, logLength, movesOf, passedOf, waitingOf, countOf}
@@ -41,25 +41,26 @@ module _ (job : Job) (j bytes logs : ℕ) {r : ℕ} (e : r ≡ levelRefusal job 
   unfolding expandRefusal
   refusal-level = level-refuses job j bytes logs rest r e
 
-  module _ {m : ℕ} (all : m ≡ stackCountIn (stackCount (job .kind) (job .n)) (job .size) j) (none : r ≡ 0) where
+  module _ {m : ℕ} (all : m ≡ stackCountAt job j) (none : r ≡ 0) where
     pub refusal-passed : m ≤ passedOf job j → 11 ≡ expandRefusal job j bytes logs
-    unfolding expandRefusal stackCountAt stackCountOf
+    unfolding expandRefusal
     refusal-passed l =
         ap (λ (t : Bool). unless t 11 0) (sym (le-ltb (passedOf job j) (stackCountAt job j) (omega arith)))
         ∙ level-goes-on job j bytes logs rest r e none
 
     pub refusal-none : passedOf job j < m → 0 ≡ expandRefusal job j bytes logs
-    unfolding expandRefusal stackCountAt stackCountOf
+    unfolding expandRefusal
     refusal-none l =
         ap (λ (t : Bool). unless t 11 0) (sym (lt-ltb (passedOf job j) (stackCountAt job j) (omega arith)))
         ∙ level-goes-on job j bytes logs rest r e none
 
 -- ---- the scan, as the code fills it
-pub scan-is : (kind n S C level j : ℕ) {segments turns mark : ℕ} → segments ≡ segmentCount (stackCount kind n) S → turns ≡ length (turnsOf kind n)
+pub scan-is : (kind n groups S C level j : ℕ) {segments turns mark : ℕ} → segments ≡ segmentCount (stackCount kind n) S → turns ≡ length (turnsIn kind n groups)
     → 1 ≤ level → mark ≡ nextEntry ((level - 1) % 3)
     → _≡_ {A = Scan} (record {
       kind = kind;
       n = n;
+      groups = groups;
       size = S;
       room = C;
       segments = segments;
@@ -68,9 +69,9 @@ pub scan-is : (kind n S C level j : ℕ) {segments turns mark : ℕ} → segment
       level = level;
       from = (level - 1) % 3;
       mark = mark;
-    }) (scanFor kind n S C level j)
+    }) (scanFor kind n groups S C level j)
 unfolding scanFor
-scan-is kind n S C level j a b some e = rw (a, b, e ∙ next-level level some)
+scan-is kind n groups S C level j a b some e = rw (a, b, e ∙ next-level level some)
 
 -- what a level of the job has found
 abbrev foundAt : Job → ℕ → Found
@@ -110,9 +111,10 @@ module _ (job : Job) (j : ℕ) where
   scan-fits : isCoherent job ≡ true → j < segmentCountOf job → ScanFits (scanOf job j)
   unfolding scanJob scanFor segmentCountOf stackCountOf levelOf
   scan-fits coherent inside =
-      let given = begin-given (job .kind) (job .n) (job .wanted) (job .size) (job .room) (coherent-facts job coherent .begins) in
+      let given = begin-given (job .kind) (job .n) (job .wanted) (job .groups) (job .size) (job .room) (coherent-facts job coherent .begins) in
       record {
         is-pane-count = given .in-range;
+        set-fits = given .of-set;
         size-fits = given .segments;
         room-fits = given .room;
         segments-are = refl;
@@ -140,16 +142,16 @@ module _ (job : Job) (j : ℕ) where
     pub call-facts : LevelFacts job j (length segment) (length log)
     call-facts = expand-facts job j (length segment) (length log) accepted .0
 
-    -- the level, the scan and m as the code has them
-    module _ {scan : Scan} {level stacks : ℕ} (on-level : level ≡ levelOf (job .phase))
-        (is : scan ≡ scanFor (job .kind) (job .n) (job .size) (job .room) level j)
-        (all : stacks ≡ stackCountIn (stackCount (job .kind) (job .n)) (job .size) j) where
+    -- the level, the scan, m and the stacks passed as the code has them
+    module _ {scan : Scan} {level stacks at : ℕ} (on-level : level ≡ levelOf (job .phase))
+        (is : scan ≡ scanFor (job .kind) (job .n) (job .groups) (job .size) (job .room) level j)
+        (all : stacks ≡ stackCountIn (stackCount (job .kind) (job .n)) (job .size) j) (passed : at ≡ passedOf job j) where
       -- what a run over the segment asks
-      pub run-given : length (job .waiting) ≡ segmentLimit → RunFits scan (getD (job .passed) j 0) stacks (foundAt job level) segment log (job .waiting)
+      pub run-given : length (job .waiting) ≡ segmentLimit → RunFits scan at stacks (foundAt job level) segment log (job .waiting)
       unfolding scanJob scanFor stackCountAt stackCountOf segmentCountOf logLength levelOf passedOf countOf
       run-given long =
           let f = call-facts in
-          rw (is, all, on-level)
+          rw (is, all, on-level, passed)
           (record {
             fit = scan-fits (f .called .coherent) (f .called .inside);
             lent = record { bytes = f .long; places = f .wide; logs = long; most = waiting-most (f .called .coherent) long };
@@ -162,16 +164,16 @@ module _ (job : Job) (j : ℕ) where
       abbrev before : ℕ → Expansion
       before = running segment (foundAt job level) log (job .waiting)
 
-      run-is : expandRun (scanJob scan) (scan .j) (stacks - getD (job .passed) j 0) (before (getD (job .passed) j 0)) ≡ expansion job j segment log
+      run-is : expandRun (scanJob scan) (scan .j) (stacks - at) (before at) ≡ expansion job j segment log
       unfolding scanFor expansion stackCountAt stackCountOf passedOf countOf
       run-is =
-          rw (is, all, on-level)
+          rw (is, all, on-level, passed)
           (run-same (stackCountAt job j - passedOf job j)
           (running segment (foundAt job (levelOf (job .phase))) log (job .waiting) (passedOf job j)))
 
       -- the answer, from how far the run came and what it leaves
       pub answer-is : (reached : Reached) {segment′ log′ waiting′ : List ℕ} {next : Job}
-          → Runs scan (getD (job .passed) j 0) stacks before (reachedWith reached segment′ log′ waiting′)
+          → Runs scan at stacks before (reachedWith reached segment′ log′ waiting′)
           → next ≡ expandedJob job j (reachedWith reached [] [] waiting′)
           → _≡_ {A = List ℕ × List ℕ × Expanded} (segment′, log′, record { refusal = 0; waits = reached .waits; on = reached .on; job = next }) (expandOf job j segment log)
       unfolding expandedJob

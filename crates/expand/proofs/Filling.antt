@@ -1,76 +1,93 @@
--- The children of a stack as an array is filled with them, place by place.
+-- The children of a stack as an array is filled with them, turn by turn of a set that is halved.
 use mathlib.Core.Path.{_≡_, refl, sym, ap, _∙_}
-use mathlib.Core.Bool.{true}
-use mathlib.Core.List.{List, _++_}
-use Prim.Native.Nat.{ℕ, suc, _+_, _-_, _<_, _≤_}
+use mathlib.Core.Logic.{_⊎_, inl, inr}
+use mathlib.Core.Bool.{true, false}
+use mathlib.Core.List.{List, [], _∷_, _++_, map, append-nil}
+use Prim.Native.Nat.{ℕ, suc, _+_, _-_, _/_, _%_, _^_, _<_, _≤_}
 use native.Mathlib.Numerals.{add-one}
 use native.Mathlib.Omega.{arith}
+use lib.Dec.{eqb}
 use lib.IntN.{ℤ}
-use lib.ListN.{length, getD, set, take, replicate}
-use lib.Seq.{take-suc, take-all, set-at, append-snoc, length-take-le}
-use Rattle.base.proofs.Lists.{getD-from, getD-map}
+use lib.ListN.{length, set, replicate, length-append, length-map}
+use lib.Seq.{set-at, append-snoc}
+use Rattle.base.specs.Words.{filter}
+use Rattle.base.proofs.Lists.{map-append}
+use Rattle.base.proofs.Tests.{lt-or-ge}
 use Rattle.stacks.specs.Index.{rankOf, stackAt}
-use Rattle.stacks.specs.Stack.{isPaneCount}
-use Rattle.stacks.specs.Turn.{firstTurn, lastTurn, turnsOf, turnOf}
-use Rattle.stacks.proofs.TurnLaws.{first-inside, turns-length}
+use Rattle.stacks.specs.Turn.{firstTurn, lastTurn, lifts, turnsIn, turnOf}
 use Rattle.search.specs.Expand.{childrenOf}
 use Rattle.search.proofs.Children.{children-length}
-use Rattle.search.proofs.Turning.{all-turns}
-use Rattle.expand.specs.Scan.{mostMoves}
+use Rattle.perm.specs.Moves.{mostMoves}
+use Rattle.perm.proofs.Sizes.{namedTo, named-none, named-more, filter-named, filter-unnamed, named-rest}
 
--- the first and the last turn, and how many there are
-module _ (kind n : ℕ) where
-  pub last-le : lastTurn kind n ≤ n
-  unfolding lastTurn
-  last-le = omega arith
+-- the next size is the lowest bit of what is left of a set
+pub lifts-is : (groups k rest : ℕ) → rest ≡ groups / 2 ^ (k - 1) → lifts groups k ≡ eqb (rest % 2) 1
+unfolding lifts
+lifts-is groups k rest e = ap (λ (x : ℕ). eqb (x % 2) 1) (sym e)
 
-  pub first-le : isPaneCount kind n ≡ true → firstTurn kind ≤ lastTurn kind n + 1
-  unfolding lastTurn
-  first-le = first-inside kind n
+-- what is left of a set of turns is left of a turn
+pub still-turn : (groups last k rest : ℕ) → groups / 2 ^ last ≡ 0 → k ≤ last + 1 → rest ≡ groups / 2 ^ (k - 1) → (rest ≡ 0 → ⊥) → k ≤ last
+still-turn groups last k rest none l e some = go (lt-or-ge last k)
+  where
+    go : (last < k) ⊎ (k ≤ last) → k ≤ last
+    go (inl h) = absurd (some (e ∙ ap (λ (j : ℕ). groups / 2 ^ j) (let q : k - 1 ≡ last = omega arith in q) ∙ none))
+    go (inr h) = h
 
-  pub turns-between : length (turnsOf kind n) ≡ suc (lastTurn kind n) - firstTurn kind
-  unfolding lastTurn
-  turns-between = turns-length kind n
+module _ (kind n groups v : ℕ) where
+  -- the turns below k that the set names, their children, and zeros after them
+  abbrev pub named : ℕ → List ℕ
+  named k = namedTo groups (firstTurn kind) k
 
--- zeros after the first i children
-unfoldable pub filledTo : ℕ → ℕ → ℕ → ℕ → List ℕ
-filledTo kind n v i = take i (childrenOf kind n (turnsOf kind n) v) ++ replicate (mostMoves - i) 0
+  unfoldable pub filledTo : ℕ → List ℕ
+  filledTo k = childrenOf kind n (named k) v ++ replicate (mostMoves - length (named k)) 0
 
-module _ (kind n v : ℕ) where
-  child-at : (i : ℕ) → i < length (turnsOf kind n)
-      → getD (childrenOf kind n (turnsOf kind n) v) i 0 ≡ rankOf kind n (turnOf kind (firstTurn kind + i) (stackAt kind n v))
-  unfolding childrenOf turnsOf
-  child-at i h =
-      getD-map (λ k. rankOf kind n (turnOf kind k (stackAt kind n v))) (turnsOf kind n) i 0 0 h
-      ∙ ap (λ (k : ℕ). rankOf kind n (turnOf kind k (stackAt kind n v)))
-      (getD-from (firstTurn kind) (suc (lastTurn kind n) - firstTurn kind) i 0 (omega (arith, turns-between kind n)))
+  pub filled-none : filledTo (firstTurn kind) ≡ replicate mostMoves 0
+  unfolding filledTo childrenOf
+  filled-none = ap (λ (ks : List ℕ). childrenOf kind n ks v ++ replicate (mostMoves - length ks) 0) (named-none groups (firstTurn kind))
 
-  pub filled-none : filledTo kind n v 0 ≡ replicate mostMoves 0
-  unfolding filledTo
-  filled-none = refl
+  children-more : (ks : List ℕ) (k : ℕ)
+      → childrenOf kind n (ks ++ (k ∷ [])) v ≡ childrenOf kind n ks v ++ (rankOf kind n (turnOf kind k (stackAt kind n v)) ∷ [])
+  unfolding childrenOf
+  children-more ks k = map-append (λ j. rankOf kind n (turnOf kind j (stackAt kind n v))) ks (k ∷ [])
 
-  -- turn k of the stack makes child i
-  pub filled-more : (children : List ℕ) (k i r : ℕ) (stack : List ℤ) → isPaneCount kind n ≡ true → children ≡ filledTo kind n v i
-      → k ≡ firstTurn kind + i → k ≤ lastTurn kind n → stack ≡ stackAt kind n v → r ≡ rankOf kind n (turnOf kind k stack)
-      → set children i r ≡ filledTo kind n v (i + 1)
-  unfolding filledTo
-  filled-more children k i r stack size e at l is h =
-      let xs = childrenOf kind n (turnsOf kind n) v in
-      let within : i < length (turnsOf kind n) = omega (arith, turns-between kind n) in
-      let inside : i < length xs = omega (arith, children-length kind n (turnsOf kind n) v) in
-      let few : i < mostMoves = omega (arith, all-turns kind n size .few) in
-      let same : r ≡ getD xs i 0 = h ∙ rw (is, at) (sym (child-at i within)) in
-      let zeros : mostMoves - i ≡ suc (mostMoves - suc i) = omega arith in
-      rw (e, zeros, add-one i, take-suc xs i 0 inside, ← same)
-      (set-at (take i xs) 0 (replicate (mostMoves - suc i) 0) r i (length-take-le i xs (omega arith))
-      ∙ sym (append-snoc (take i xs) r (replicate (mostMoves - suc i) 0)))
+  module _ (children : List ℕ) (k i : ℕ) (e : children ≡ filledTo k) (h : firstTurn kind ≤ k) (at : i ≡ length (named k)) where
+    -- the set names k, whose child is r
+    module _ (yes : lifts groups k ≡ true) where
+      one-more : named (k + 1) ≡ named k ++ (k ∷ [])
+      one-more = named-more groups (firstTurn kind) k h ∙ ap (λ (ks : List ℕ). named k ++ ks) (filter-named groups k yes)
 
-  pub filled-all : (children : List ℕ) (k i : ℕ) → children ≡ filledTo kind n v i → k ≡ firstTurn kind + i → lastTurn kind n < k
-      → k ≤ lastTurn kind n + 1 → children ≡ childrenOf kind n (turnsOf kind n) v ++ replicate (mostMoves - length (turnsOf kind n)) 0
-  unfolding filledTo
-  filled-all children k i e at h l =
-      let xs = childrenOf kind n (turnsOf kind n) v in
-      let all : i ≡ length (turnsOf kind n) = omega (arith, turns-between kind n) in
-      e
-      ∙ rw (← all)
-      (ap (λ (ys : List ℕ). ys ++ replicate (mostMoves - i) 0) (take-all i xs (omega (arith, children-length kind n (turnsOf kind n) v))))
+      pub taken-count : i + 1 ≡ length (named (k + 1))
+      taken-count = omega (arith, ap length one-more, length-append (named k) (k ∷ []))
+
+      pub filled-taken : (r : ℕ) (stack : List ℤ) → i < mostMoves → stack ≡ stackAt kind n v → r ≡ rankOf kind n (turnOf kind k stack)
+          → set children i r ≡ filledTo (k + 1)
+      unfolding filledTo
+      filled-taken r stack few is made =
+          let xs : List ℕ = childrenOf kind n (named k) v in
+          let zeros : mostMoves - length (named k) ≡ suc (mostMoves - suc (length (named k))) = omega arith in
+          let long : length (named k ++ (k ∷ [])) ≡ suc (length (named k)) = omega (arith, length-append (named k) (k ∷ [])) in
+          let same : r ≡ rankOf kind n (turnOf kind k (stackAt kind n v)) = made ∙ ap (λ (s : List ℤ). rankOf kind n (turnOf kind k s)) is in
+          rw (e, zeros, one-more, long, children-more (named k) k, ← same)
+          (set-at xs 0 (replicate (mostMoves - suc (length (named k))) 0) r i (children-length kind n (named k) v ∙ sym at)
+          ∙ sym (append-snoc xs r (replicate (mostMoves - suc (length (named k))) 0)))
+
+    -- it does not
+    module _ (no-turn : lifts groups k ≡ false) where
+      none-more : named (k + 1) ≡ named k
+      none-more =
+          named-more groups (firstTurn kind) k h ∙ ap (λ (ks : List ℕ). named k ++ ks) (filter-unnamed groups k no-turn) ∙ append-nil (named k)
+
+      pub left-count : i ≡ length (named (k + 1))
+      left-count = at ∙ ap length (sym none-more)
+
+      pub filled-left : children ≡ filledTo (k + 1)
+      unfolding filledTo
+      filled-left = e ∙ ap (λ (ks : List ℕ). childrenOf kind n ks v ++ replicate (mostMoves - length ks) 0) (sym none-more)
+
+    -- with nothing left of the set they are all there
+    pub filled-all : k ≤ lastTurn kind n + 1 → 1 ≤ k → groups / 2 ^ (k - 1) ≡ 0
+        → children ≡ childrenOf kind n (turnsIn kind n groups) v ++ replicate (mostMoves - length (turnsIn kind n groups)) 0
+    unfolding filledTo
+    filled-all l some none =
+        e
+        ∙ ap (λ (ks : List ℕ). childrenOf kind n ks v ++ replicate (mostMoves - length ks) 0) (named-rest kind n groups k h l some none)

@@ -5,8 +5,9 @@ use Rattle.stacks.proofs.KindLaws.{count-fits}
 use Rattle.search.specs.JobState.{stackCountOf}
 use Rattle.search.specs.Segments.{segmentLimit, mostSize, mostRoom}
 use Rattle.search.proofs.SegmentLaws.{SegmentSizeFacts, LogRoomFacts, segment-size-facts, log-room-facts}
-use Rattle.search.proofs.Turning.{all-turns}
-use Rattle.expand.specs.Scan.{mostMoves, ScanFits, scanJob}
+use Rattle.search.proofs.Turning.{set-turns}
+use Rattle.perm.specs.Moves.{mostMoves}
+use Rattle.expand.specs.Scan.{ScanFits, scanJob}
 use Rattle.expand.specs.declared.scan.Scan.{Scan}
 
 pub record ScanFacts (scan : Scan) : Type 0 where
@@ -27,6 +28,6 @@ scan-facts scan fit =
       panes-most = sizes .most;
       few = omega arith;
       room-most = rooms .most;
-      turns-few = omega (arith, all-turns (scan .kind) (scan .n) (fit .is-pane-count) .few);
+      turns-few = omega (arith, set-turns (scan .kind) (scan .n) (fit .is-pane-count) (scan .groups) .few);
       count-fits = count-fits (scan .kind) (scan .n) (fit .is-pane-count);
     }

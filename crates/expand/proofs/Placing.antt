@@ -23,7 +23,8 @@ use Rattle.search.proofs.SegmentLaws.{stack-segment, stack-offset}
 use Rattle.twobit.specs.Mark.{marksOf, MarkFits}
 use Rattle.twobit.specs.declared.marking.Found.{Found}
 use Rattle.twobit.proofs.LeafMarks.{count-le, mark-level}
-use Rattle.expand.specs.Scan.{mostMoves, LentFits, HasRoom, ChildFits, ChildrenFit, PlacesChild, PlacesAll, running, scanJob}
+use Rattle.perm.specs.Moves.{mostMoves}
+use Rattle.expand.specs.Scan.{LentFits, HasRoom, ChildFits, ChildrenFit, PlacesChild, PlacesAll, running, scanJob}
 use Rattle.expand.specs.declared.scan.Scan.{Scan}
 use Rattle.expand.proofs.Fitting.{ScanFacts, scan-facts}
 

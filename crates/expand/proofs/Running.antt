@@ -13,7 +13,7 @@ use Rattle.base.proofs.Lists.{replicate-zero}
 use Rattle.base.proofs.Tests.{lt-or-ge}
 use Rattle.base.specs.Words.{firstFrom}
 use Rattle.stacks.specs.Stack.{stackCount}
-use Rattle.stacks.specs.Turn.{turnsOf}
+use Rattle.stacks.specs.Turn.{turnsIn}
 use Rattle.stacks.proofs.KindLaws.{count-pos}
 use Rattle.search.specs.Entries.{entryAt}
 use Rattle.search.specs.Expand.{Expansion, isParent, childrenOf, placeAll, passOne, waitFor, expandStack, expandNext, expandRun}
@@ -23,9 +23,10 @@ use Rattle.search.proofs.Children.{children-length, children-inside}
 use Rattle.search.proofs.EntryLaws.{byte-inside}
 use Rattle.search.proofs.ExpandCases.{first-before, room-enough}
 use Rattle.search.proofs.SegmentLaws.{segment-stack, segment-starts, stack-segment, stackCountIn-le}
-use Rattle.search.proofs.Turning.{all-turns}
+use Rattle.search.proofs.Turning.{set-turns}
+use Rattle.perm.specs.Moves.{mostMoves}
 use Rattle.twobit.specs.declared.marking.Found.{Found}
-use Rattle.expand.specs.Scan.{mostMoves, ScanFits, LentFits, HasRoom, WaitingFits, ChildrenFit, RunFits, PlacesAll, Runs, running, reachedWith, scanJob}
+use Rattle.expand.specs.Scan.{ScanFits, LentFits, HasRoom, WaitingFits, ChildrenFit, RunFits, PlacesAll, Runs, running, reachedWith, scanJob}
 use Rattle.expand.specs.declared.run.Reached.{Reached}
 use Rattle.expand.specs.declared.scan.Scan.{Scan}
 use Rattle.expand.proofs.Fitting.{ScanFacts, scan-facts}
@@ -33,11 +34,11 @@ use Rattle.expand.proofs.Lowest.{falling-place}
 use Rattle.expand.proofs.Placing.{Fits, all-fits, all-count}
 
 -- the moves of a scan, the children that they make of the stack at an index, and of the stack at place `at` of this segment
-abbrev moves : Scan → List ℕ
-moves scan = turnsOf (scan .kind) (scan .n)
+abbrev movesOf : Scan → List ℕ
+movesOf scan = turnsIn (scan .kind) (scan .n) (scan .groups)
 
 abbrev childrenBy : Scan → ℕ → List ℕ
-childrenBy scan v = childrenOf (scan .kind) (scan .n) (moves scan) v
+childrenBy scan v = childrenOf (scan .kind) (scan .n) (movesOf scan) v
 
 abbrev childrenAt : Scan → ℕ → List ℕ
 childrenAt scan at = childrenBy scan (scan .j * scan .size + at)
@@ -63,15 +64,15 @@ module _ (scan : Scan) (fit : ScanFits scan) where
       → getD (childrenBy scan v) i 0 < stackCountOf (scanJob scan)
   unfolding stackCountOf scanJob
   listed-inside v h =
-      children-inside (scan .kind) (scan .n) (moves scan) v (fit .is-pane-count) (all-turns (scan .kind) (scan .n) (fit .is-pane-count)) h
+      children-inside (scan .kind) (scan .n) (movesOf scan) v (fit .is-pane-count) (set-turns (scan .kind) (scan .n) (fit .is-pane-count) (scan .groups)) h
 
   -- ---- the children of the stack at index v, as the array has them
-  module _ (v : ℕ) (array : List ℕ) (filled : array ≡ childrenBy scan v ++ replicate (mostMoves - length (moves scan)) 0) where
+  module _ (v : ℕ) (array : List ℕ) (filled : array ≡ childrenBy scan v ++ replicate (mostMoves - length (movesOf scan)) 0) where
     pub array-children : take (scan .turns) array ≡ childrenBy scan v
     array-children =
         ap (take (scan .turns)) filled
-        ∙ take-at (childrenBy scan v) (replicate (mostMoves - length (moves scan)) 0) (scan .turns)
-        (children-length (scan .kind) (scan .n) (moves scan) v ∙ sym (fit .turns-are))
+        ∙ take-at (childrenBy scan v) (replicate (mostMoves - length (movesOf scan)) 0) (scan .turns)
+        (children-length (scan .kind) (scan .n) (movesOf scan) v ∙ sym (fit .turns-are))
 
     pub array-below : v < stackCountOf (scanJob scan) → (i : ℕ) → getD array i 0 < stackCountOf (scanJob scan)
     unfolding stackCountOf scanJob
@@ -81,10 +82,10 @@ module _ (scan : Scan) (fit : ScanFits scan) where
         cs = childrenBy scan v
 
         zeros : List ℕ
-        zeros = replicate (mostMoves - length (moves scan)) 0
+        zeros = replicate (mostMoves - length (movesOf scan)) 0
 
         none : (k : ℕ) → getD zeros k 0 ≡ 0
-        none k = replicate-zero (mostMoves - length (moves scan)) k
+        none k = replicate-zero (mostMoves - length (movesOf scan)) k
 
         go : (i < length cs) ⊎ (length cs ≤ i) → getD (cs ++ zeros) i 0 < stackCount (scan .kind) (scan .n)
         go (inl l) = rw (List·getD-append cs zeros 0 i l) (listed-inside v h i l)
@@ -241,7 +242,7 @@ module _ {scan : Scan} {first stacks : ℕ} {segment₀ : List ℕ} {found₀ : 
 
       -- a stack that is due, with its children in an array and the lowest segment that lacks room for them
       module _ {array : List ℕ} {full : ℕ} (due : entryAt segment at ≡ scan .from)
-          (filled : array ≡ childrenAt scan at ++ replicate (mostMoves - length (moves scan)) 0)
+          (filled : array ≡ childrenAt scan at ++ replicate (mostMoves - length (movesOf scan)) 0)
           (lowest : full ≡ firstFrom (lacksRoom (scan .size) (scan .room) (scan .j) waiting (take (scan .turns) array)) 0 (scan .segments)) where
         children : take (scan .turns) array ≡ childrenAt scan at
         children = array-children scan (r .given .fit) (scan .j * scan .size + at) array filled

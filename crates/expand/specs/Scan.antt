@@ -1,6 +1,5 @@
 -- One call of Expand as its functions speak of it.
---   mostMoves    as many children as a stack can have: no more than it has places
---   scanFor      what a call on segment j copies, from the job's kind, n, S and C and the level; scanOf of the job
+--   scanFor      what a call on segment j copies, from the job's kind, n, set, S and C and the level; scanOf of the job
 --   scanJob      the job that a scan stands for
 --   ScanFits     what holds of a scan
 --   running      a call that does not wait, from what it is lent and what was found, at a stack
@@ -14,8 +13,8 @@ use mathlib.Core.Bool.{true, false}
 use mathlib.Core.List.{List, [], _∷_}
 use Prim.Native.Nat.{ℕ, _+_, _-_, _*_, _%_, _^_, _<_, _≤_}
 use lib.ListN.{length, getD, take}
-use Rattle.stacks.specs.Stack.{stackPlaces, isPaneCount, stackCount}
-use Rattle.stacks.specs.Turn.{turnsOf}
+use Rattle.stacks.specs.Stack.{isPaneCount, stackCount}
+use Rattle.stacks.specs.Turn.{isGroupSet, turnsIn}
 use Rattle.search.specs.Entries.{bytesFor}
 use Rattle.search.specs.Expand.{Expansion, placeChild, placeAll, expandRun}
 use Rattle.search.specs.JobState.{countLimit, levelOf, stackCountOf, stackCountAt}
@@ -28,18 +27,16 @@ use Rattle.twobit.specs.declared.marking.Found.{Found}
 use Rattle.expand.specs.declared.run.Reached.{Reached}
 use Rattle.expand.specs.declared.scan.Scan.{Scan}
 
-abbrev pub mostMoves : ℕ
-mostMoves = stackPlaces
-
-unfoldable pub scanFor : ℕ → ℕ → ℕ → ℕ → ℕ → ℕ → Scan
-scanFor kind n S C d j =
+unfoldable pub scanFor : ℕ → ℕ → ℕ → ℕ → ℕ → ℕ → ℕ → Scan
+scanFor kind n groups S C d j =
     record {
       kind = kind;
       n = n;
+      groups = groups;
       size = S;
       room = C;
       segments = segmentCount (stackCount kind n) S;
-      turns = length (turnsOf kind n);
+      turns = length (turnsIn kind n groups);
       j = j;
       level = d;
       from = (d - 1) % 3;
@@ -47,7 +44,7 @@ scanFor kind n S C d j =
     }
 
 abbrev pub scanOf : Job → ℕ → Scan
-scanOf job j = scanFor (job .kind) (job .n) (job .size) (job .room) (levelOf (job .phase)) j
+scanOf job j = scanFor (job .kind) (job .n) (job .groups) (job .size) (job .room) (levelOf (job .phase)) j
 
 -- its other fields do not matter
 unfoldable pub scanJob : Scan → Job
@@ -56,6 +53,7 @@ scanJob scan =
       kind = scan .kind;
       n = scan .n;
       wanted = [];
+      groups = scan .groups;
       size = scan .size;
       room = scan .room;
       phase = Level (scan .level);
@@ -66,10 +64,11 @@ scanJob scan =
 
 pub record ScanFits (scan : Scan) : Type 0 where
   pub is-pane-count : isPaneCount (scan .kind) (scan .n) ≡ true
+  pub set-fits : isGroupSet (scan .kind) (scan .n) (scan .groups) ≡ true
   pub size-fits : isSegmentSize (stackCountOf (scanJob scan)) (scan .size) ≡ true
   pub room-fits : isLogRoom (scan .room) ≡ true
   pub segments-are : scan .segments ≡ segmentCount (stackCountOf (scanJob scan)) (scan .size)
-  pub turns-are : scan .turns ≡ length (turnsOf (scan .kind) (scan .n))
+  pub turns-are : scan .turns ≡ length (turnsIn (scan .kind) (scan .n) (scan .groups))
   pub inside : scan .j < scan .segments
   pub from-is : scan .from ≡ (scan .level - 1) % 3
   pub mark-is : scan .mark ≡ scan .level % 3

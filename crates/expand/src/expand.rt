@@ -4,50 +4,56 @@ ghost use mathlib.Core.Bool.{true};
 ghost use mathlib.Core.List.{[]};
 ghost use mathlib.Core.Path.{_≡_};
 ghost use Prim.Native.Nat.{_<_, _≤_};
+ghost use Rattle.job.specs.Standing.{Stands, Tells};
 ghost use Rattle.search.specs.Expand.{expandRefusal, expandedJob, expandOf};
 ghost use Rattle.search.specs.JobState.{isCoherent, segmentCountOf};
 ghost use Rattle.search.specs.Segments.{isSegmentSize};
 ghost use Rattle.stacks.specs.Stack.{isPaneCount, stackCount};
 ghost use Rattle.expand.specs.Scan.{scanFor, reachedWith};
-use crate::children;
 use crate::run;
 use crate::run::Reached;
 use crate::scan::Scan;
 use job::geometry;
 use job::phase;
 use job::refusals;
+use job::standing;
+use job::standing::Standing;
+use perm::groups;
 use search::Expanded;
 use search::Job;
 use search::SEGMENT_LIMIT;
 use twobit::entry;
 use twobit::marking::Found;
 
-fn expand_refusal(job: Job, j: u32, bytes: usize, words: usize) -> u8
-    ensures { λ r. ⌜ r ≡ expandRefusal job j bytes words ⌝ }
+fn expand_refusal(standing: Standing, j: u32, bytes: usize, words: usize) -> u8
+    requires { ⌜ Stands standing j ⌝ }
+    ensures { λ r. ⌜ Tells standing j (λ job. expandRefusal job j bytes words) r ⌝ }
 {
-    let refusal = refusals::level_refusal(job, j, bytes, words);
+    let refusal = refusals::level_refusal(standing, j, bytes, words);
     if refusal != 0 {
         return refusal;
     }
-    let passed = job.passed;
-    if geometry::stack_count_at(job.kind, job.n, job.size, j) <= passed[j as usize] {
+    let stacks = geometry::stack_count_at(standing.kind, standing.n, standing.size, j);
+    if stacks <= standing.passed {
         return 11;
     }
     0
 }
 
-fn scan_of(kind: u8, n: u8, size: u32, room: u32, level: u8, j: u32) -> Scan
+fn scan_of(kind: u8, n: u8, groups: u32, size: u32, room: u32, level: u8, j: u32) -> Scan
     requires { ⌜ (isPaneCount kind n ≡ true) × (isSegmentSize (stackCount kind n) size ≡ true) × (1 ≤ level) ⌝ }
-    ensures { λ r. ⌜ r ≡ scanFor kind n size room level j ⌝ }
+    ensures { λ r. ⌜ r ≡ scanFor kind n groups size room level j ⌝ }
 {
     let from = (level - 1) % 3;
+    let moves = groups::moves_in(kind, n, groups);
     Scan {
         kind,
         n,
+        groups,
         size,
         room,
         segments: geometry::segment_count_of(kind, n, size),
-        turns: children::turn_count(kind, n),
+        turns: moves.count,
         j,
         level,
         from,
@@ -73,7 +79,22 @@ fn expanded_job(job: Job, j: u32, reached: Reached, waiting: [u32; SEGMENT_LIMIT
 pub fn expand(job: Job, j: u32, segment: &mut [u8], log: &mut [u32]) -> Expanded
     ensures { λ r. ⌜ (now (segment .exit), now (log .exit), r) ≡ expandOf job j (now (segment .entry)) (now (log .entry)) ⌝ }
 {
-    let refusal = expand_refusal(job, j, segment.len(), log.len());
+    let wanted = job.wanted;
+    let phase = job.phase;
+    let standing = standing::standing_of(
+        job.kind,
+        job.n,
+        wanted,
+        job.groups,
+        job.size,
+        job.room,
+        phase,
+        &job.passed,
+        &job.waiting,
+        &job.counts,
+        j,
+    );
+    let refusal = expand_refusal(standing, j, segment.len(), log.len());
     if refusal != 0 {
         return Expanded {
             refusal,
@@ -82,18 +103,15 @@ pub fn expand(job: Job, j: u32, segment: &mut [u8], log: &mut [u32]) -> Expanded
             job,
         };
     }
-    let phase = job.phase;
     let level = phase::level_of(phase);
-    let scan = scan_of(job.kind, job.n, job.size, job.room, level, j);
+    let scan = scan_of(job.kind, job.n, job.groups, job.size, job.room, level, j);
     let stacks = geometry::stack_count_at(job.kind, job.n, job.size, j);
-    let passed = job.passed;
-    let counts = job.counts;
-    let count = counts[level as usize];
+    let count = job.counts[level as usize];
     let found = Found { count };
     let mut waiting = job.waiting;
     let reached = run::expand_run(
         scan,
-        passed[j as usize],
+        standing.passed,
         stacks,
         found,
         segment,

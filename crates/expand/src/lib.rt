@@ -5,6 +5,3 @@ mod logs;
 mod place;
 mod run;
 mod scan;
-
-// As many children as a stack can have: no more than it has places.
-pub(crate) const MOST_MOVES: usize = stacks::PLACES;

@@ -6,9 +6,10 @@ ghost use lib.Dec.{ltb, eqb};
 ghost use lib.ListN.{length, set, take};
 ghost use Rattle.base.specs.Words.{firstFrom};
 ghost use Rattle.search.specs.Logs.{fallingIn, lacksRoom};
-ghost use Rattle.expand.specs.Scan.{mostMoves, ScanFits, WaitingFits};
-use crate::MOST_MOVES;
+ghost use Rattle.perm.specs.Moves.{mostMoves};
+ghost use Rattle.expand.specs.Scan.{ScanFits, WaitingFits};
 use crate::scan::Scan;
+use perm::groups::MOST_MOVES;
 use search::SEGMENT_LIMIT;
 
 // An offset becomes the entry at a place of a log. The log is lent from its own start on.

@@ -1,8 +1,8 @@
 // A stack's children, each to its place: marked in this segment, or logged for another.
 ghost use Rattle.expand.specs.Scan.{ChildFits, ChildrenFit, PlacesChild, PlacesAll, running};
-use crate::MOST_MOVES;
 use crate::logs;
 use crate::scan::Scan;
+use perm::groups::MOST_MOVES;
 use search::SEGMENT_LIMIT;
 use twobit::marking;
 use twobit::marking::Found;

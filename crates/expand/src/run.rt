@@ -37,7 +37,7 @@ pub(crate) fn expand_run(
     let mut at = first;
     while at < stacks {
         if entry::get_entry(segment, at) == scan.from {
-            let children = children::children_of(scan.kind, scan.n, base + at);
+            let children = children::children_of(scan.kind, scan.n, scan.groups, base + at);
             let full = logs::full_segment(scan, children, waiting);
             if full < segments {
                 return Reached {

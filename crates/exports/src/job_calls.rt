@@ -11,10 +11,17 @@ use hokrund::mirror::HokrundJob;
 use hokrund::mirror::HokrundLook;
 use hokrund::mirror::HokrundStack;
 
-pub fn begin(kind: u8, n: u8, wanted: HokrundStack, size: u32, room: u32) -> HokrundAnswer
-    ensures { λ r. ⌜ r ≡ answerOf (beginOf kind n (wanted .places) size room) ⌝ }
+pub fn begin(
+    kind: u8,
+    n: u8,
+    wanted: HokrundStack,
+    groups: u32,
+    size: u32,
+    room: u32,
+) -> HokrundAnswer
+    ensures { λ r. ⌜ r ≡ answerOf (beginOf kind n (wanted .places) groups size room) ⌝ }
 {
-    job_calls::hokrund_begin(kind, n, wanted, size, room)
+    job_calls::hokrund_begin(kind, n, wanted, groups, size, room)
 }
 
 pub fn blank(job: HokrundJob, j: u32, segment: &mut [u8]) -> HokrundAnswer

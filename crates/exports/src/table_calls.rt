@@ -17,14 +17,15 @@ pub fn build_table(
     kind: u8,
     n: u8,
     wanted: HokrundStack,
+    groups: u32,
     size: u32,
     room: u32,
     table: &mut [u8],
     log: &mut [u32],
 ) -> HokrundAnswer
-    ensures { λ r. ⌜ (now (table .exit), now (log .exit), r) ≡ twoLent answerOf (buildOf kind n (wanted .places) size room (now (table .entry)) (now (log .entry))) ⌝ }
+    ensures { λ r. ⌜ (now (table .exit), now (log .exit), r) ≡ twoLent answerOf (buildOf kind n (wanted .places) groups size room (now (table .entry)) (now (log .entry))) ⌝ }
 {
-    table_calls::hokrund_build_table(kind, n, wanted, size, room, table, log)
+    table_calls::hokrund_build_table(kind, n, wanted, groups, size, room, table, log)
 }
 
 pub fn read_entry(kind: u8, n: u8, table: &[u8], index: u32) -> HokrundEntry
@@ -38,12 +39,13 @@ pub fn plan(
     n: u8,
     wanted: HokrundStack,
     given: HokrundStack,
+    groups: u32,
     table: &[u8],
     list: &mut [u8],
 ) -> HokrundPlanned
-    ensures { λ r. ⌜ (now (list .exit), r) ≡ oneLent plannedOf (planOf kind n (wanted .places) (given .places) (now (table .entry)) (now (list .entry))) ⌝ }
+    ensures { λ r. ⌜ (now (list .exit), r) ≡ oneLent plannedOf (planOf kind n (wanted .places) (given .places) groups (now (table .entry)) (now (list .entry))) ⌝ }
 {
-    table_calls::hokrund_plan(kind, n, wanted, given, table, list)
+    table_calls::hokrund_plan(kind, n, wanted, given, groups, table, list)
 }
 
 pub fn price(
@@ -51,11 +53,12 @@ pub fn price(
     n: u8,
     wanted: HokrundStack,
     given: HokrundStack,
+    groups: u32,
     table: &[u8],
     list: &mut [u8],
     tariff: Tariff,
 ) -> HokrundPriced
-    ensures { λ r. ⌜ (now (list .exit), r) ≡ oneLent pricedOf (priceOf kind n (wanted .places) (given .places) (now (table .entry)) (now (list .entry)) tariff) ⌝ }
+    ensures { λ r. ⌜ (now (list .exit), r) ≡ oneLent pricedOf (priceOf kind n (wanted .places) (given .places) groups (now (table .entry)) (now (list .entry)) tariff) ⌝ }
 {
-    table_calls::hokrund_price(kind, n, wanted, given, table, list, tariff)
+    table_calls::hokrund_price(kind, n, wanted, given, groups, table, list, tariff)
 }

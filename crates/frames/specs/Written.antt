@@ -7,7 +7,7 @@ use Prim.Native.Nat.{ℕ, _+_, _≤_}
 use lib.ListN.{length, take, drop}
 
 abbrev pub textLimit : ℕ
-textLimit = 512
+textLimit = 3072
 
 unfoldable pub over : List ℕ → List ℕ → List ℕ
 over text before = text ++ drop (length text) before

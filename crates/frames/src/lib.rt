@@ -21,8 +21,8 @@ pub const REPORT_ROOM: u32 = 16;
 // The bytes of the table of the most stacks.
 pub const TABLE_LIMIT: usize = 11520;
 
-// The room that a lent text has: 11 characters for each place of the counts, ff and the deepest take 357.
-pub const TEXT_LIMIT: usize = 512;
+// The room that a lent text has: 11 characters for each place of the counts, ff and the deepest take 2821.
+pub const TEXT_LIMIT: usize = 3072;
 
 // A line in the making: its first FRAME_LIMIT characters, and its length, which stops at OVERLONG.
 pub struct Line {

@@ -1,14 +1,14 @@
 -- Laws of `isMove`: which numbers a list of moves holds.
 use mathlib.Core.Path.{_≡_, refl, sym, ap, subst}
 use mathlib.Core.Logic.{_⊎_, inl, inr}
-use mathlib.Core.Bool.{Bool, true, false, _||_, false≢true}
+use mathlib.Core.Bool.{Bool, true, false, _||_, cond, false≢true}
 use mathlib.Core.List.{List, [], _∷_}
 use Prim.Native.Nat.{ℕ, zero, suc, _+_, _<_, _≤_}
 use native.Mathlib.Omega.{arith}
 use lib.Dec.{eqb}
 use lib.ListN.{length, getD}
 use borrow.Author.Tests.{eqb-true, eq-eqb}
-use Rattle.base.specs.Words.{from}
+use Rattle.base.specs.Words.{filter, from}
 use Rattle.base.proofs.Tests.{eq-or-ne}
 use Rattle.graph.specs.Walks.{isMove}
 
@@ -68,3 +68,17 @@ from-isMove a (suc n) k l h = go (λ i. from-isMove (suc a) n k i (omega arith))
     go : (suc a ≤ k → isMove (from (suc a) n) k ≡ true) → (k ≡ a) ⊎ (k ≡ a → ⊥) → isMove (a ∷ from (suc a) n) k ≡ true
     go rest (inl e) = subst (λ (x : ℕ). isMove (a ∷ from (suc a) n) x ≡ true) (sym e) (isMove-first a (from (suc a) n))
     go rest (inr e) = isMove-rest a (from (suc a) n) k (rest (omega arith))
+
+-- what is left of a list of moves is a move of it
+pub filter-move : (p : ℕ → Bool) (ms : List ℕ) (k : ℕ) → isMove (filter p ms) k ≡ true → isMove ms k ≡ true
+unfolding filter isMove
+filter-move p [] k h = h
+filter-move p (m ∷ ms) k h = go (p m) (λ i. filter-move p ms k i) h
+  where
+    left : (isMove (filter p ms) k ≡ true → isMove ms k ≡ true) → (k ≡ m) ⊎ (isMove (filter p ms) k ≡ true) → isMove (m ∷ ms) k ≡ true
+    left rest (inl e) = subst (λ (x : ℕ). isMove (m ∷ ms) x ≡ true) (sym e) (isMove-first m ms)
+    left rest (inr i) = isMove-rest m ms k (rest i)
+
+    go : (t : Bool) → (isMove (filter p ms) k ≡ true → isMove ms k ≡ true) → isMove (cond t (m ∷ filter p ms) (filter p ms)) k ≡ true → isMove (m ∷ ms) k ≡ true
+    go true rest i = left rest (isMove-cases m (filter p ms) k i)
+    go false rest i = isMove-rest m ms k (rest i)

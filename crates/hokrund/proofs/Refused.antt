@@ -70,20 +70,20 @@ module _ (m : HokrundJob) where
       ap (λ (o : Answer). mirrorOf (o .job)) (close-refused (jobOf m) h) ∙ mirror-job m phase)
 
 module _ (kind n : ℕ) (wanted : HokrundStack) where
-  pub build-keeps : (size room : ℕ) (table log : List ℕ) → (buildCall kind n wanted size room table log .2 .refusal ≡ 0 → ⊥)
-      → (buildCall kind n wanted size room table log .0 ≡ table) × (buildCall kind n wanted size room table log .1 ≡ log)
+  pub build-keeps : (groups size room : ℕ) (table log : List ℕ) → (buildCall kind n wanted groups size room table log .2 .refusal ≡ 0 → ⊥)
+      → (buildCall kind n wanted groups size room table log .0 ≡ table) × (buildCall kind n wanted groups size room table log .1 ≡ log)
   unfolding buildCall answerOf buildOf
-  build-keeps size room table log =
-      kept (λ (o : List ℕ × List ℕ × Answer). o .2 .refusal) (λ (o : List ℕ × List ℕ × Answer). (o .0 ≡ table) × (o .1 ≡ log)) (eqb (buildRefusal kind n (wanted .places) size room (length table) (length log)) 0) _ _ (refl, refl) (λ accepted h. absurd (h refl))
+  build-keeps groups size room table log =
+      kept (λ (o : List ℕ × List ℕ × Answer). o .2 .refusal) (λ (o : List ℕ × List ℕ × Answer). (o .0 ≡ table) × (o .1 ≡ log)) (eqb (buildRefusal kind n (wanted .places) groups size room (length table) (length log)) 0) _ _ (refl, refl) (λ accepted h. absurd (h refl))
 
-  pub plan-keeps : (given : HokrundStack) (table list : List ℕ) → (planCall kind n wanted given table list .1 .refusal ≡ 0 → ⊥)
-      → planCall kind n wanted given table list .0 ≡ list
+  pub plan-keeps : (given : HokrundStack) (groups : ℕ) (table list : List ℕ) → (planCall kind n wanted given groups table list .1 .refusal ≡ 0 → ⊥)
+      → planCall kind n wanted given groups table list .0 ≡ list
   unfolding planCall plannedOf planOf
-  plan-keeps given table list =
-      kept (λ (o : List ℕ × Planned). o .1 .refusal) (λ (o : List ℕ × Planned). o .0 ≡ list) (eqb (planRefusal kind n (wanted .places) (given .places) table (length list) 0) 0) _ _ refl (λ accepted h. absurd (h refl))
+  plan-keeps given groups table list =
+      kept (λ (o : List ℕ × Planned). o .1 .refusal) (λ (o : List ℕ × Planned). o .0 ≡ list) (eqb (planRefusal kind n (wanted .places) (given .places) groups table (length list) 0) 0) _ _ refl (λ accepted h. absurd (h refl))
 
-  pub price-keeps : (given : HokrundStack) (table list : List ℕ) (tariff : Tariff) → (priceCall kind n wanted given table list tariff .1 .refusal ≡ 0 → ⊥)
-      → priceCall kind n wanted given table list tariff .0 ≡ list
+  pub price-keeps : (given : HokrundStack) (groups : ℕ) (table list : List ℕ) (tariff : Tariff) → (priceCall kind n wanted given groups table list tariff .1 .refusal ≡ 0 → ⊥)
+      → priceCall kind n wanted given groups table list tariff .0 ≡ list
   unfolding priceCall pricedOf priceOf
-  price-keeps given table list tariff =
-      kept (λ (o : List ℕ × Priced). o .1 .refusal) (λ (o : List ℕ × Priced). o .0 ≡ list) (eqb (priceRefusal kind n (wanted .places) (given .places) table (length list) tariff) 0) _ _ refl (λ accepted h. absurd (h refl))
+  price-keeps given groups table list tariff =
+      kept (λ (o : List ℕ × Priced). o .1 .refusal) (λ (o : List ℕ × Priced). o .0 ≡ list) (eqb (priceRefusal kind n (wanted .places) (given .places) groups table (length list) tariff) 0) _ _ refl (λ accepted h. absurd (h refl))

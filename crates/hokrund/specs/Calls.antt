@@ -48,14 +48,14 @@ lookCall m j log =
     (lookedAt (j * m .room) (lookOf (jobOf m) j log))
     ([], record { refusal = 7; start = 0; length = 0 })
 
-unfoldable pub buildCall : ℕ → ℕ → HokrundStack → ℕ → ℕ → List ℕ → List ℕ → List ℕ × List ℕ × HokrundAnswer
-buildCall kind n wanted size room table log =
-    twoLent answerOf (buildOf kind n (wanted .places) size room table log)
+unfoldable pub buildCall : ℕ → ℕ → HokrundStack → ℕ → ℕ → ℕ → List ℕ → List ℕ → List ℕ × List ℕ × HokrundAnswer
+buildCall kind n wanted groups size room table log =
+    twoLent answerOf (buildOf kind n (wanted .places) groups size room table log)
 
-unfoldable pub planCall : ℕ → ℕ → HokrundStack → HokrundStack → List ℕ → List ℕ → List ℕ × HokrundPlanned
-planCall kind n wanted given table list =
-    oneLent plannedOf (planOf kind n (wanted .places) (given .places) table list)
+unfoldable pub planCall : ℕ → ℕ → HokrundStack → HokrundStack → ℕ → List ℕ → List ℕ → List ℕ × HokrundPlanned
+planCall kind n wanted given groups table list =
+    oneLent plannedOf (planOf kind n (wanted .places) (given .places) groups table list)
 
-unfoldable pub priceCall : ℕ → ℕ → HokrundStack → HokrundStack → List ℕ → List ℕ → Tariff → List ℕ × HokrundPriced
-priceCall kind n wanted given table list tariff =
-    oneLent pricedOf (priceOf kind n (wanted .places) (given .places) table list tariff)
+unfoldable pub priceCall : ℕ → ℕ → HokrundStack → HokrundStack → ℕ → List ℕ → List ℕ → Tariff → List ℕ × HokrundPriced
+priceCall kind n wanted given groups table list tariff =
+    oneLent pricedOf (priceOf kind n (wanted .places) (given .places) groups table list tariff)

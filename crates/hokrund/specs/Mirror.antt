@@ -56,6 +56,7 @@ jobOf m =
       kind = m .kind;
       n = m .n;
       wanted = m .wanted .places;
+      groups = m .groups;
       size = m .size;
       room = m .room;
       phase = phaseOf (m .phase) (m .level);
@@ -72,6 +73,7 @@ mirrorOf job =
       phase = phaseNumber (job .phase);
       level = levelOf (job .phase);
       wanted = record { places = job .wanted };
+      groups = job .groups;
       size = job .size;
       room = job .room;
       passed = job .passed;

@@ -21,13 +21,14 @@ pub extern "C" fn hokrund_begin(
     kind: u8,
     n: u8,
     wanted: HokrundStack,
+    groups: u32,
     size: u32,
     room: u32,
 ) -> HokrundAnswer
-    ensures { λ r. ⌜ r ≡ answerOf (beginOf kind n (wanted .places) size room) ⌝ }
+    ensures { λ r. ⌜ r ≡ answerOf (beginOf kind n (wanted .places) groups size room) ⌝ }
 {
     let places = wanted.places;
-    mirror::answer_of(begin::begin(kind, n, places, size, room))
+    mirror::answer_of(begin::begin(kind, n, places, groups, size, room))
 }
 
 #[no_mangle]

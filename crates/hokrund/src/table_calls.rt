@@ -16,15 +16,16 @@ pub extern "C" fn hokrund_build_table(
     kind: u8,
     n: u8,
     wanted: HokrundStack,
+    groups: u32,
     size: u32,
     room: u32,
     table: &mut [u8],
     log: &mut [u32],
 ) -> HokrundAnswer
-    ensures { λ r. ⌜ (now (table .exit), now (log .exit), r) ≡ buildCall kind n wanted size room (now (table .entry)) (now (log .entry)) ⌝ }
+    ensures { λ r. ⌜ (now (table .exit), now (log .exit), r) ≡ buildCall kind n wanted groups size room (now (table .entry)) (now (log .entry)) ⌝ }
 {
     let places = wanted.places;
-    mirror::answer_of(build::build::build_table(kind, n, places, size, room, table, log))
+    mirror::answer_of(build::build::build_table(kind, n, places, groups, size, room, table, log))
 }
 
 #[no_mangle]
@@ -44,14 +45,15 @@ pub extern "C" fn hokrund_plan(
     n: u8,
     wanted: HokrundStack,
     given: HokrundStack,
+    groups: u32,
     table: &[u8],
     list: &mut [u8],
 ) -> HokrundPlanned
-    ensures { λ r. ⌜ (now (list .exit), r) ≡ planCall kind n wanted given (now (table .entry)) (now (list .entry)) ⌝ }
+    ensures { λ r. ⌜ (now (list .exit), r) ≡ planCall kind n wanted given groups (now (table .entry)) (now (list .entry)) ⌝ }
 {
     let from = given.places;
     let to = wanted.places;
-    let planned = plan::plan::plan(kind, n, to, from, table, list);
+    let planned = plan::plan::plan(kind, n, to, from, groups, table, list);
     HokrundPlanned {
         refusal: planned.refusal,
         turns: planned.turns,
@@ -64,15 +66,16 @@ pub extern "C" fn hokrund_price(
     n: u8,
     wanted: HokrundStack,
     given: HokrundStack,
+    groups: u32,
     table: &[u8],
     list: &mut [u8],
     tariff: Tariff,
 ) -> HokrundPriced
-    ensures { λ r. ⌜ (now (list .exit), r) ≡ priceCall kind n wanted given (now (table .entry)) (now (list .entry)) tariff ⌝ }
+    ensures { λ r. ⌜ (now (list .exit), r) ≡ priceCall kind n wanted given groups (now (table .entry)) (now (list .entry)) tariff ⌝ }
 {
     let from = given.places;
     let to = wanted.places;
-    let priced = price::price::price(kind, n, to, from, table, list, tariff);
+    let priced = price::price::price(kind, n, to, from, groups, table, list, tariff);
     HokrundPriced {
         refusal: priced.refusal,
         turns: priced.turns,

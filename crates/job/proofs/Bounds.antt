@@ -27,10 +27,10 @@ pub record Bounds (job : Job) : Type 0 where
   pub narrow : job .room ≤ mostRoom
 
 module _ (job : Job) where
-  pub begun-bounds : beginRefusal (job .kind) (job .n) (job .wanted) (job .size) (job .room) ≡ 0 → Bounds job
+  pub begun-bounds : beginRefusal (job .kind) (job .n) (job .wanted) (job .groups) (job .size) (job .room) ≡ 0 → Bounds job
   unfolding segmentCountOf stackCountOf
   begun-bounds h =
-      let g = begin-given (job .kind) (job .n) (job .wanted) (job .size) (job .room) h in
+      let g = begin-given (job .kind) (job .n) (job .wanted) (job .groups) (job .size) (job .room) h in
       let s = segment-size-facts (stackCountOf job) (job .size) (g .segments) in
       record {
         is-pane-count = g .in-range;

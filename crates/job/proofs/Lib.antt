@@ -1,5 +1,6 @@
--- Proofs of the functions: what a coherent job keeps within bounds, loops over segments, rows of refusals, and answers.
+-- Proofs of the functions: what a coherent job and its standing keep within bounds, loops over segments, rows of refusals, and answers.
 pub mod Bounds
+pub mod Standings
 pub mod Scans
 pub mod Rows
 pub mod Answers

@@ -7,6 +7,7 @@ use lib.Dec.{ltb, eqb}
 use lib.IntN.{ℤ}
 use Rattle.base.specs.Words.{unless}
 use Rattle.stacks.specs.Operations.{kindRefusal, indexRefusal}
+use Rattle.stacks.specs.Turn.{isGroupSet}
 use Rattle.stacks.specs.Stack.{isKind, isPaneCount, isStack, stackCount}
 use Rattle.perm.proofs.Refusals.{orElse, row-refuses, row-goes-on}
 use Rattle.search.specs.Entries.{bytesFor}
@@ -16,12 +17,12 @@ use Rattle.search.specs.Refusals.{callRefusal, segmentRefusal, levelRefusal}
 use Rattle.search.specs.declared.Job.{Job}
 
 -- what Begin tries after the wanted stack
-abbrev pub beginRest : ℕ → ℕ → ℕ → ℕ → ℕ
-beginRest kind n S C = unless (isSegmentSize (stackCount kind n) S) 5 (unless (isLogRoom C) 6 0)
+abbrev pub beginRest : ℕ → ℕ → ℕ → ℕ → ℕ → ℕ
+beginRest kind n groups S C = unless (isGroupSet kind n groups) 21 (unless (isSegmentSize (stackCount kind n) S) 5 (unless (isLogRoom C) 6 0))
 
-begin-first : (kind n : ℕ) (s : List ℤ) (S C : ℕ) → beginRefusal kind n s S C ≡ orElse (indexRefusal kind n s) (beginRest kind n S C)
+begin-first : (kind n : ℕ) (s : List ℤ) (groups S C : ℕ) → beginRefusal kind n s groups S C ≡ orElse (indexRefusal kind n s) (beginRest kind n groups S C)
 unfolding beginRefusal indexRefusal kindRefusal
-begin-first kind n s S C = go (isKind kind) (isPaneCount kind n) (isStack kind n s) (beginRest kind n S C)
+begin-first kind n s groups S C = go (isKind kind) (isPaneCount kind n) (isStack kind n s) (beginRest kind n groups S C)
   where
     go : (a b c : Bool) (rest : ℕ) → unless a 1 (unless b 2 (unless c 3 rest)) ≡ orElse (unless a 1 (unless b 2 (unless c 3 0))) rest
     go true true true rest = refl
@@ -30,12 +31,12 @@ begin-first kind n s S C = go (isKind kind) (isPaneCount kind n) (isStack kind n
     go false b c rest = refl
 
 -- r is what the row of the wanted stack answers
-module _ (kind n : ℕ) (s : List ℤ) (S C r : ℕ) (e : r ≡ indexRefusal kind n s) where
-  pub begin-refuses : (r ≡ 0 → ⊥) → r ≡ beginRefusal kind n s S C
-  begin-refuses = row-refuses (beginRefusal kind n s S C) r (beginRest kind n S C) (rw e (begin-first kind n s S C))
+module _ (kind n : ℕ) (s : List ℤ) (groups S C r : ℕ) (e : r ≡ indexRefusal kind n s) where
+  pub begin-refuses : (r ≡ 0 → ⊥) → r ≡ beginRefusal kind n s groups S C
+  begin-refuses = row-refuses (beginRefusal kind n s groups S C) r (beginRest kind n groups S C) (rw e (begin-first kind n s groups S C))
 
-  pub begin-goes-on : r ≡ 0 → beginRest kind n S C ≡ beginRefusal kind n s S C
-  begin-goes-on = row-goes-on (beginRefusal kind n s S C) r (beginRest kind n S C) (rw e (begin-first kind n s S C))
+  pub begin-goes-on : r ≡ 0 → beginRest kind n groups S C ≡ beginRefusal kind n s groups S C
+  begin-goes-on = row-goes-on (beginRefusal kind n s groups S C) r (beginRest kind n groups S C) (rw e (begin-first kind n s groups S C))
 
 -- ---- the rows of the calls on a segment
 

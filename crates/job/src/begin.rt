@@ -10,13 +10,14 @@ use search::SEGMENT_LIMIT;
 use stacks::PLACES;
 
 // A job in Blanking with nothing passed, waiting or counted.
-fn new_job(kind: u8, n: u8, wanted: [i8; PLACES], size: u32, room: u32) -> Job
-    ensures { λ r. ⌜ r ≡ begun kind n wanted size room ⌝ }
+fn new_job(kind: u8, n: u8, wanted: [i8; PLACES], groups: u32, size: u32, room: u32) -> Job
+    ensures { λ r. ⌜ r ≡ begun kind n wanted groups size room ⌝ }
 {
     Job {
         kind,
         n,
         wanted,
+        groups,
         size,
         room,
         phase: Phase::Blanking,
@@ -27,14 +28,14 @@ fn new_job(kind: u8, n: u8, wanted: [i8; PLACES], size: u32, room: u32) -> Job
 }
 
 // Begin.
-pub fn begin(kind: u8, n: u8, wanted: [i8; PLACES], size: u32, room: u32) -> Answer
-    ensures { λ r. ⌜ r ≡ beginOf kind n wanted size room ⌝ }
+pub fn begin(kind: u8, n: u8, wanted: [i8; PLACES], groups: u32, size: u32, room: u32) -> Answer
+    ensures { λ r. ⌜ r ≡ beginOf kind n wanted groups size room ⌝ }
 {
-    let refusal = coherence::begin_refusal(kind, n, wanted, size, room);
+    let refusal = coherence::begin_refusal(kind, n, wanted, groups, size, room);
     if refusal != 0 {
-        let none = new_job(0, 0, [0i8; PLACES], 0, 0);
+        let none = new_job(0, 0, [0i8; PLACES], 0, 0, 0);
         return Answer { refusal, job: none };
     }
-    let job = new_job(kind, n, wanted, size, room);
+    let job = new_job(kind, n, wanted, groups, size, room);
     Answer { refusal: 0, job }
 }

@@ -1,29 +1,36 @@
 // Whether a job is coherent, decided by Begin's own refusals and by its numbers.
 ghost use mathlib.Core.Bool.{true, _&&_, cond};
 ghost use mathlib.Core.Path.{_≡_};
+ghost use Prim.Native.Nat.{_/_, _≤_};
 ghost use lib.Dec.{leb, ltb};
+ghost use lib.ListN.{length};
 ghost use Rattle.base.specs.Words.{all, from};
 ghost use Rattle.stacks.specs.Stack.{isPaneCount, stackCount};
-ghost use Rattle.search.specs.JobState.{beginRefusal, countFits, isCoherent};
+ghost use Rattle.search.specs.JobState.{beginRefusal, countPlaces, countLimit, countFits, isCoherent};
 ghost use Rattle.search.specs.Segments.{segmentLimit, stackCountIn, isSegmentSize};
 ghost use Rattle.job.specs.Numbers.{numbersFit};
+ghost use Rattle.job.specs.Standing.{jobWith};
 use crate::phase;
+use perm::groups;
 use perm::kind;
 use perm::operations;
 use search::COUNT_LIMIT;
 use search::COUNT_PLACES;
-use search::Job;
+use search::Phase;
 use search::SEGMENT_LIMIT;
 use stacks::PLACES;
 use twobit::segment;
 
-// Begin's refusals, which a job's first five fields must pass too.
-pub fn begin_refusal(kind: u8, n: u8, wanted: [i8; PLACES], size: u32, room: u32) -> u8
-    ensures { λ r. ⌜ r ≡ beginRefusal kind n wanted size room ⌝ }
+// Begin's refusals, which a job's first six fields must pass too.
+pub fn begin_refusal(kind: u8, n: u8, wanted: [i8; PLACES], groups: u32, size: u32, room: u32) -> u8
+    ensures { λ r. ⌜ r ≡ beginRefusal kind n wanted groups size room ⌝ }
 {
     let refusal = operations::index_refusal(kind, n, wanted);
     if refusal != 0 {
         return refusal;
+    }
+    if !groups::is_group_set(kind, n, groups) {
+        return 21;
     }
     let count = kind::stack_count(kind, n);
     if !segment::is_segment_size(count, size) {
@@ -36,16 +43,16 @@ pub fn begin_refusal(kind: u8, n: u8, wanted: [i8; PLACES], size: u32, room: u32
 }
 
 // The numbers of every segment, of those from G up too.
-fn segments_fit(
+fn segments_fit<'a>(
     kind: u8,
     n: u8,
     size: u32,
     room: u32,
-    passed: [u32; SEGMENT_LIMIT],
-    waiting: [u32; SEGMENT_LIMIT],
+    passed: &'a [u32; SEGMENT_LIMIT],
+    waiting: &'a [u32; SEGMENT_LIMIT],
 ) -> bool
     requires { ⌜ (isPaneCount kind n ≡ true) × (isSegmentSize (stackCount kind n) size ≡ true) ⌝ }
-    ensures { λ r. ⌜ r ≡ all (numbersFit (stackCount kind n) size room passed waiting) (from 0 segmentLimit) ⌝ }
+    ensures { λ r. ⌜ r ≡ all (numbersFit (stackCount kind n) size room (now (passed .entry)) (now (waiting .entry))) (from 0 segmentLimit) ⌝ }
 {
     let count = kind::stack_count(kind, n);
     let segments = segment::segment_count(count, size);
@@ -80,8 +87,30 @@ fn segment_fits(
     }
 }
 
-fn counts_fit(counts: [u64; COUNT_PLACES]) -> bool
-    ensures { λ r. ⌜ r ≡ all countFits counts ⌝ }
+// How often the limit goes into a count.
+fn limits_in(count: u64) -> u64
+    ensures { λ r. ⌜ (r ≡ count / countLimit) × (r ≤ 15) ⌝ }
+{
+    count / COUNT_LIMIT
+}
+
+// How often it goes into all of them: 0 where each is below it. A loop with one way out is compiled to several counts at a time.
+fn limits_in_all(counts: &[u64; COUNT_PLACES]) -> u64
+    requires { ⌜ length (now counts) ≡ countPlaces ⌝ }
+    ensures { λ r. ⌜ (r ≡ 0 → all countFits (now (counts .entry)) ≡ true) ⌝ }
+{
+    let mut limits: u64 = 0;
+    let mut d: usize = 0;
+    while d < COUNT_PLACES {
+        limits += limits_in(counts[d]);
+        d += 1;
+    }
+    limits
+}
+
+fn each_count_fits(counts: &[u64; COUNT_PLACES]) -> bool
+    requires { ⌜ length (now counts) ≡ countPlaces ⌝ }
+    ensures { λ r. ⌜ r ≡ all countFits (now (counts .entry)) ⌝ }
 {
     let mut d: usize = 0;
     while d < COUNT_PLACES {
@@ -93,22 +122,41 @@ fn counts_fit(counts: [u64; COUNT_PLACES]) -> bool
     true
 }
 
-pub fn is_coherent(job: Job) -> bool
-    ensures { λ r. ⌜ r ≡ isCoherent job ⌝ }
+// Each count is at most the limit. One that is the limit itself is rare, and only then is each looked at.
+fn counts_fit(counts: &[u64; COUNT_PLACES]) -> bool
+    requires { ⌜ length (now counts) ≡ countPlaces ⌝ }
+    ensures { λ r. ⌜ r ≡ all countFits (now (counts .entry)) ⌝ }
 {
-    let wanted = job.wanted;
-    if begin_refusal(job.kind, job.n, wanted, job.size, job.room) != 0 {
+    if limits_in_all(counts) == 0 {
+        return true;
+    }
+    each_count_fits(counts)
+}
+
+// Whether the job with these fields is coherent. Its arrays are lent, so that none is copied.
+pub fn is_coherent<'a>(
+    kind: u8,
+    n: u8,
+    wanted: [i8; PLACES],
+    groups: u32,
+    size: u32,
+    room: u32,
+    phase: Phase,
+    passed: &'a [u32; SEGMENT_LIMIT],
+    waiting: &'a [u32; SEGMENT_LIMIT],
+    counts: &'a [u64; COUNT_PLACES],
+) -> bool
+    requires { ⌜ length (now counts) ≡ countPlaces ⌝ }
+    ensures { λ r. ⌜ r ≡ isCoherent (jobWith kind n wanted groups size room phase (now (passed .entry)) (now (waiting .entry)) (now (counts .entry))) ⌝ }
+{
+    if begin_refusal(kind, n, wanted, groups, size, room) != 0 {
         return false;
     }
-    let phase = job.phase;
     if !phase::phase_fits(phase) {
         return false;
     }
-    let passed = job.passed;
-    let waiting = job.waiting;
-    if !segments_fit(job.kind, job.n, job.size, job.room, passed, waiting) {
+    if !segments_fit(kind, n, size, room, passed, waiting) {
         return false;
     }
-    let counts = job.counts;
     counts_fit(counts)
 }

@@ -1,20 +1,20 @@
-// The refusals that the calls on a segment share: each row goes on from the one above it.
-ghost use mathlib.Core.Path.{_≡_};
+// The refusals that the calls on a segment share: each row goes on from the one above it, and takes the job's standing alone.
 ghost use Rattle.search.specs.Refusals.{callRefusal, segmentRefusal, levelRefusal};
-use crate::coherence;
+ghost use Rattle.job.specs.Standing.{Stands, Tells};
 use crate::geometry;
 use crate::phase;
-use search::Job;
+use crate::standing::Standing;
 use twobit::segment;
 
 // 7, 8 where the call has no part in the job's phase, 9.
-pub fn call_refusal(job: Job, in_phase: bool, j: u32) -> u8
-    ensures { λ r. ⌜ r ≡ callRefusal «in_phase» job j 0 ⌝ }
+pub fn call_refusal(standing: Standing, in_phase: bool, j: u32) -> u8
+    requires { ⌜ Stands standing j ⌝ }
+    ensures { λ r. ⌜ Tells standing j (λ job. callRefusal «in_phase» job j 0) r ⌝ }
 {
-    if !coherence::is_coherent(job) {
+    if !standing.coherent {
         return 7;
     }
-    let segments = geometry::segment_count_of(job.kind, job.n, job.size);
+    let segments = geometry::segment_count_of(standing.kind, standing.n, standing.size);
     if !in_phase {
         return 8;
     }
@@ -25,14 +25,15 @@ pub fn call_refusal(job: Job, in_phase: bool, j: u32) -> u8
 }
 
 // Those, then 10 for the segment.
-pub fn segment_refusal(job: Job, in_phase: bool, j: u32, bytes: usize) -> u8
-    ensures { λ r. ⌜ r ≡ segmentRefusal «in_phase» job j bytes 0 ⌝ }
+pub fn segment_refusal(standing: Standing, in_phase: bool, j: u32, bytes: usize) -> u8
+    requires { ⌜ Stands standing j ⌝ }
+    ensures { λ r. ⌜ Tells standing j (λ job. segmentRefusal «in_phase» job j bytes 0) r ⌝ }
 {
-    let refusal = call_refusal(job, in_phase, j);
+    let refusal = call_refusal(standing, in_phase, j);
     if refusal != 0 {
         return refusal;
     }
-    let stacks = geometry::stack_count_at(job.kind, job.n, job.size, j);
+    let stacks = geometry::stack_count_at(standing.kind, standing.n, standing.size, j);
     let length = segment::bytes_for(stacks) as usize;
     if bytes != length {
         return 10;
@@ -41,16 +42,17 @@ pub fn segment_refusal(job: Job, in_phase: bool, j: u32, bytes: usize) -> u8
 }
 
 // Those of a call of a level, then 10 for the log area.
-pub fn level_refusal(job: Job, j: u32, bytes: usize, words: usize) -> u8
-    ensures { λ r. ⌜ r ≡ levelRefusal job j bytes words 0 ⌝ }
+pub fn level_refusal(standing: Standing, j: u32, bytes: usize, words: usize) -> u8
+    requires { ⌜ Stands standing j ⌝ }
+    ensures { λ r. ⌜ Tells standing j (λ job. levelRefusal job j bytes words 0) r ⌝ }
 {
-    let phase = job.phase;
+    let phase = standing.phase;
     let in_level = phase::is_level(phase);
-    let refusal = segment_refusal(job, in_level, j, bytes);
+    let refusal = segment_refusal(standing, in_level, j, bytes);
     if refusal != 0 {
         return refusal;
     }
-    let area = geometry::log_length(job.kind, job.n, job.size, job.room);
+    let area = geometry::log_length(standing.kind, standing.n, standing.size, standing.room);
     if words != area {
         return 10;
     }

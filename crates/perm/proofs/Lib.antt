@@ -3,6 +3,7 @@ pub mod KindTests
 pub mod Signed
 pub mod Sets
 pub mod Places
+pub mod Sizes
 pub mod Ranking
 pub mod Unranking
 pub mod Below

@@ -1,3 +1,4 @@
--- What the leaves on sets of panes promise, and one place of a ranking.
+-- What the leaves on sets of panes promise, one place of a ranking, and the moves of a search.
 pub mod Set
+pub mod Moves
 pub mod Ranking

@@ -52,9 +52,9 @@ pub fn rank(kind: u8, n: u8, stack: [i8; PLACES]) -> u32
 }
 
 // The index of a stack after turn k. Only the group is ranked: the places below it keep their digits and coats, which `index` has.
-pub fn rank_turned(kind: u8, n: u8, stack: [i8; PLACES], index: u32, k: u8) -> u32
-    requires { ⌜ (isPaneCount kind n ≡ true) × (isStack kind n stack ≡ true) × (index ≡ rankOf kind n stack) × (k ≤ n) ⌝ }
-    ensures { λ r. ⌜ r ≡ rankOf kind n (turnOf kind k stack) ⌝ }
+pub fn rank_turned(kind: u8, n: u8, stack: &[i8; PLACES], index: u32, k: u8) -> u32
+    requires { ⌜ (isPaneCount kind n ≡ true) × (isStack kind n (now stack) ≡ true) × (index ≡ rankOf kind n (now stack)) × (k ≤ n) ⌝ }
+    ensures { λ r. ⌜ r ≡ rankOf kind n (turnOf kind k (now (stack .entry))) ⌝ }
 {
     let top = n as u32;
     let group = k as u32;

@@ -1,5 +1,5 @@
--- Routes as the code makes them: the search of a turn through the turns not tried yet, and a run that goes on from where it has come to.
--- What is said of routes holds for any list of moves that are turns; only the search goes through all turns by their numbers.
+-- Routes as the code makes them: the search of a move through those not tried yet, and a run that goes on from where it has come to. All is
+-- said of any list of moves that are turns.
 use mathlib.Core.Path.{_≡_, refl, sym, ap, _∙_, subst}
 use mathlib.Core.Bool.{Bool, true, false, cond}
 use mathlib.Core.List.{List, [], _∷_, _++_}
@@ -7,17 +7,16 @@ use Prim.Native.Nat.{ℕ, zero, suc, _+_, _-_, _/_, _≤_, _<_}
 use native.Mathlib.Numerals.{add-one}
 use native.Mathlib.Omega.{arith}
 use lib.IntN.{ℤ}
-use lib.ListN.{length, take, set, length-set}
-use lib.Seq.{take-suc-set, length-take-le}
+use lib.ListN.{drop-of-length-le, length, getD, take, drop, set, length-set}
+use lib.Seq.{drop-cons, take-suc-set, length-take-le}
 use borrow.Author.Tests.{eq-eqb, ne-eqb}
-use Rattle.base.specs.Words.{from}
 use Rattle.graph.specs.Walks.{isMove}
 use Rattle.graph.proofs.Moves.{isMove-first, isMove-rest}
 use Rattle.stacks.specs.Index.{rankOf}
 use Rattle.stacks.specs.Stack.{isPaneCount, isStack, stackCount}
-use Rattle.stacks.specs.Turn.{firstTurn, lastTurn, turnOf, turnsOf}
+use Rattle.stacks.specs.Turn.{turnOf}
 use Rattle.stacks.proofs.Numbering.{rank-lt}
-use Rattle.stacks.proofs.TurnLaws.{turn-first, turn-last, first-pos, first-inside}
+use Rattle.stacks.proofs.TurnLaws.{turn-first, turn-last, first-pos}
 use Rattle.search.specs.Entries.{bytesFor, entryAt, nextEntry}
 use Rattle.search.specs.Plan.{planLimit, Route, entryOf, leadsTo, follow, isWanted, planStep, planRun, routeFrom}
 use Rattle.search.proofs.EntryLaws.{byte-inside}
@@ -30,32 +29,6 @@ pub entry-inside : (kind n : ℕ) (s : List ℤ) (table : List ℕ) (i : ℕ) �
     → length table ≡ bytesFor (stackCount kind n) → i ≡ rankOf kind n s → i / 4 < length table
 entry-inside kind n s table i in-range stack long e =
     rw (e, long) (byte-inside (rankOf kind n s) (stackCount kind n) (rank-lt kind n s in-range stack))
-
--- ---- all turns of a kind and n by their numbers, and those not tried yet
-
--- the last turn is at most n, and the first at most one past it
-pub turns-fit : (kind n : ℕ) → isPaneCount kind n ≡ true → (lastTurn kind n ≤ n) × (firstTurn kind ≤ lastTurn kind n + 1)
-unfolding lastTurn
-turns-fit kind n in-range = (omega arith, first-inside kind n in-range)
-
--- before the first try none is tried
-pub untried-all : (kind n first last : ℕ) → first ≡ firstTurn kind → last ≡ lastTurn kind n → first ≤ last + 1
-    → from (last + 1 - (last + 1 - first)) (last + 1 - first) ≡ turnsOf kind n
-unfolding turnsOf
-untried-all kind n first last f l h =
-    let a : last + 1 - (last + 1 - first) ≡ firstTurn kind = omega arith in
-    let b : last + 1 - first ≡ suc (lastTurn kind n) - firstTurn kind = omega arith in
-    rw (a, b)
-
--- one is tried, and the others are left
-untried-next : (last left : ℕ) → 0 < left → left ≤ last + 1
-    → from (last + 1 - left) left ≡ (last + 1 - left) ∷ from (last + 1 - (left - 1)) (left - 1)
-unfolding from
-untried-next last zero h l = absurd (omega arith)
-untried-next last (suc left) h l =
-    let a : suc (last + 1 - suc left) ≡ last + 1 - (suc left - 1) = omega arith in
-    let b : left ≡ suc left - 1 = omega arith in
-    ap (λ (ks : List ℕ). (last + 1 - suc left) ∷ ks) (rw (a, ← b))
 
 -- ---- the first move that leads to an entry
 
@@ -84,29 +57,27 @@ module _ (kind n : ℕ) (table : List ℕ) (s : List ℤ) (v : ℕ) where
   pub first-last : {moves : List ℕ} → Moves kind n moves → (k : ℕ) → k ≡ firstTo kind n table s v moves → (k ≡ 0 → ⊥) → k ≤ n
   first-last {moves} laws k e h = turn-last kind n k (laws .turns k (first-move moves k e h))
 
-  -- the first move is the first turn of those not tried yet: left of them, up to the last
-  module _ (moves : List ℕ) (last left : ℕ) (f : firstTo kind n table s v (from (last + 1 - left) left) ≡ firstTo kind n table s v moves) where
-    pub tried-all : left ≡ 0 → 0 ≡ firstTo kind n table s v moves
-    unfolding from firstTo
-    tried-all e = rw (← f, e)
+  -- the first move is the first of those not tried yet: those from place i on
+  module _ (moves : List ℕ) (i : ℕ) (f : firstTo kind n table s v (drop i moves) ≡ firstTo kind n table s v moves) where
+    pub tried-all : length moves ≤ i → 0 ≡ firstTo kind n table s v moves
+    unfolding firstTo
+    tried-all h = rw (← f, drop-of-length-le moves h)
 
     -- the next one is tried: its child's entry is w
-    module _ (h : 0 < left) (l : left ≤ last + 1) (child : ℕ) (c : child ≡ rankOf kind n (turnOf kind (last + 1 - left) s)) (w : ℕ) (e : w ≡ entryAt table child) where
-      entry-is : entryOf kind n table (turnOf kind (last + 1 - left) s) ≡ w
+    module _ (l : i < length moves) (k : ℕ) (at : k ≡ getD moves i 0) (child : ℕ) (c : child ≡ rankOf kind n (turnOf kind k s)) (w : ℕ) (e : w ≡ entryAt table child) where
+      entry-is : entryOf kind n table (turnOf kind k s) ≡ w
       unfolding entryOf
       entry-is = rw (e, c)
 
-      pub tried-hit : w ≡ v → last + 1 - left ≡ firstTo kind n table s v moves
-      tried-hit q =
-          sym (first-hit (last + 1 - left) (from (last + 1 - (left - 1)) (left - 1)) (entry-is ∙ q))
-          ∙ ap (firstTo kind n table s v) (sym (untried-next last left h l))
-          ∙ f
+      untried : drop i moves ≡ k ∷ drop (i + 1) moves
+      untried = drop-cons moves i 0 l ∙ ap (λ (x : ℕ). x ∷ drop (suc i) moves) (sym at) ∙ ap (λ (m : ℕ). k ∷ drop m moves) (sym (add-one i))
 
-      pub tried-miss : (w ≡ v → ⊥) → firstTo kind n table s v (from (last + 1 - (left - 1)) (left - 1)) ≡ firstTo kind n table s v moves
+      pub tried-hit : w ≡ v → k ≡ firstTo kind n table s v moves
+      tried-hit q = sym (first-hit k (drop (i + 1) moves) (entry-is ∙ q)) ∙ ap (firstTo kind n table s v) (sym untried) ∙ f
+
+      pub tried-miss : (w ≡ v → ⊥) → firstTo kind n table s v (drop (i + 1) moves) ≡ firstTo kind n table s v moves
       tried-miss q =
-          sym (first-miss (last + 1 - left) (from (last + 1 - (left - 1)) (left - 1)) (λ r. q (sym entry-is ∙ r)))
-          ∙ ap (firstTo kind n table s v) (sym (untried-next last left h l))
-          ∙ f
+          sym (first-miss k (drop (i + 1) moves) (λ r. q (sym entry-is ∙ r))) ∙ ap (firstTo kind n table s v) (sym untried) ∙ f
 
 -- ---- the route with the move that is found
 

@@ -8,6 +8,7 @@ use lib.IntN.{ℤ}
 use borrow.Author.Tests.{ltb-true, eqb-true, lt-ltb, le-ltb, le-leb, lt-leb, eq-eqb, ne-eqb}
 use Rattle.base.specs.Words.{unless}
 use Rattle.stacks.specs.Operations.{kindRefusal}
+use Rattle.stacks.specs.Turn.{isGroupSet}
 use Rattle.stacks.specs.Stack.{isStack, stackCount}
 use Rattle.base.proofs.Tests.{unless-zero}
 use Rattle.perm.proofs.Refusals.{kind-refuses, kind-goes-on, kind-passes}
@@ -51,46 +52,52 @@ read-inside kind n bytes i h =
 
 -- ---- Plan
 
-module _ (kind n : ℕ) (wanted given : List ℤ) (bytes slots : ℕ) where
+module _ (kind n : ℕ) (wanted given : List ℤ) (groups bytes slots : ℕ) where
   -- the tests after the kind and n
   unfoldable planTests : ℕ → ℕ
   planTests rest =
       unless (isStack kind n wanted) 3
       (unless (isStack kind n given) 3
-      (unless (eqb bytes (bytesFor (stackCount kind n))) 10 (unless (leb planLimit slots) 10 rest)))
+      (unless (isGroupSet kind n groups) 21
+      (unless (eqb bytes (bytesFor (stackCount kind n))) 10 (unless (leb planLimit slots) 10 rest))))
 
-  row-is : (rest : ℕ) → planRow kind n wanted given bytes slots rest ≡ kindRefusal kind n (planTests rest)
+  row-is : (rest : ℕ) → planRow kind n wanted given groups bytes slots rest ≡ kindRefusal kind n (planTests rest)
   unfolding planRow planTests
   row-is rest = refl
 
   -- r is what the row of the kind and n answers
   module _ (r : ℕ) (e : r ≡ kindRefusal kind n 0) where
-    pub row-kind : (r ≡ 0 → ⊥) → r ≡ planRow kind n wanted given bytes slots 0
+    pub row-kind : (r ≡ 0 → ⊥) → r ≡ planRow kind n wanted given groups bytes slots 0
     row-kind h = kind-refuses kind n (planTests 0) r e h ∙ sym (row-is 0)
 
     -- the kind and n pass, and the tests of the stacks, the table and the list decide
     module _ (z : r ≡ 0) where
-      row-tests : planTests 0 ≡ planRow kind n wanted given bytes slots 0
+      row-tests : planTests 0 ≡ planRow kind n wanted given groups bytes slots 0
       row-tests = kind-goes-on kind n (planTests 0) r e z ∙ sym (row-is 0)
 
-      pub row-wanted : isStack kind n wanted ≡ false → 3 ≡ planRow kind n wanted given bytes slots 0
+      pub row-wanted : isStack kind n wanted ≡ false → 3 ≡ planRow kind n wanted given groups bytes slots 0
       unfolding planTests
       row-wanted a = rw (← row-tests, a)
 
-      pub row-given : isStack kind n wanted ≡ true → isStack kind n given ≡ false → 3 ≡ planRow kind n wanted given bytes slots 0
+      pub row-given : isStack kind n wanted ≡ true → isStack kind n given ≡ false → 3 ≡ planRow kind n wanted given groups bytes slots 0
       unfolding planTests
       row-given a b = rw (← row-tests, a, b)
 
-      -- the stacks pass
-      module _ (a : isStack kind n wanted ≡ true) (b : isStack kind n given ≡ true) (long : ℕ) (l : long ≡ bytesFor (stackCount kind n)) where
-        pub row-table : (bytes ≡ long → ⊥) → 10 ≡ planRow kind n wanted given bytes slots 0
-        unfolding planTests
-        row-table c = rw (← row-tests, a, b, ← l, ne-eqb bytes long c)
+      pub row-set : isStack kind n wanted ≡ true → isStack kind n given ≡ true → isGroupSet kind n groups ≡ false
+          → 21 ≡ planRow kind n wanted given groups bytes slots 0
+      unfolding planTests
+      row-set a b g = rw (← row-tests, a, b, g)
 
-        pub row-list : bytes ≡ long → slots < planLimit → 10 ≡ planRow kind n wanted given bytes slots 0
+      -- the stacks and the set pass
+      module _ (a : isStack kind n wanted ≡ true) (b : isStack kind n given ≡ true) (g : isGroupSet kind n groups ≡ true) (long : ℕ) (l : long ≡ bytesFor (stackCount kind n)) where
+        pub row-table : (bytes ≡ long → ⊥) → 10 ≡ planRow kind n wanted given groups bytes slots 0
         unfolding planTests
-        row-list c d = rw (← row-tests, a, b, ← l, eq-eqb bytes long c, lt-leb planLimit slots d)
+        row-table c = rw (← row-tests, a, b, g, ← l, ne-eqb bytes long c)
 
-        pub row-accepts : bytes ≡ long → planLimit ≤ slots → 0 ≡ planRow kind n wanted given bytes slots 0
+        pub row-list : bytes ≡ long → slots < planLimit → 10 ≡ planRow kind n wanted given groups bytes slots 0
         unfolding planTests
-        row-accepts c d = rw (← row-tests, a, b, ← l, eq-eqb bytes long c, le-leb planLimit slots d)
+        row-list c d = rw (← row-tests, a, b, g, ← l, eq-eqb bytes long c, lt-leb planLimit slots d)
+
+        pub row-accepts : bytes ≡ long → planLimit ≤ slots → 0 ≡ planRow kind n wanted given groups bytes slots 0
+        unfolding planTests
+        row-accepts c d = rw (← row-tests, a, b, g, ← l, eq-eqb bytes long c, le-leb planLimit slots d)

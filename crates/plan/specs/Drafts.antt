@@ -4,7 +4,7 @@ use mathlib.Core.List.{List}
 use Prim.Native.Nat.{ℕ, _≤_}
 use lib.IntN.{ℤ}
 use lib.ListN.{length, take, replicate}
-use Rattle.stacks.specs.Turn.{turnsOf}
+use Rattle.stacks.specs.Turn.{turnsIn}
 use Rattle.search.specs.Plan.{planLimit, routeFrom, planRefusal}
 use Rattle.plan.specs.declared.plan.Draft.{Draft}
 
@@ -13,8 +13,8 @@ abbrev pub noDraft : ℕ → Draft
 noDraft r = record { refusal = r; turns = replicate planLimit 0; taken = 0 }
 
 -- Plan's refusal, for a list of so many slots, and where there is none the turns of the route; never more turns than a plan may have
-pub record Drafts (kind n : ℕ) (wanted given : List ℤ) (table : List ℕ) (slots : ℕ) (draft : Draft) : Type 0 where
-  pub refuses : draft .refusal ≡ planRefusal kind n wanted given table slots 0
-  pub follows : draft .refusal ≡ 0 → take (draft .taken) (draft .turns) ≡ routeFrom kind n table wanted (turnsOf kind n) given .turns
+pub record Drafts (kind n : ℕ) (wanted given : List ℤ) (groups : ℕ) (table : List ℕ) (slots : ℕ) (draft : Draft) : Type 0 where
+  pub refuses : draft .refusal ≡ planRefusal kind n wanted given groups table slots 0
+  pub follows : draft .refusal ≡ 0 → take (draft .taken) (draft .turns) ≡ routeFrom kind n table wanted (turnsIn kind n groups) given .turns
   pub long : length (take (draft .taken) (draft .turns)) ≡ draft .taken
   pub few : draft .taken ≤ planLimit

@@ -6,6 +6,7 @@ ghost use lib.ListN.{length, take, drop};
 ghost use Rattle.search.specs.Plan.{planLimit, planOf, planRow};
 ghost use Rattle.plan.specs.Drafts.{noDraft, Drafts};
 use crate::route;
+use perm::groups;
 use perm::kind;
 use perm::numbering;
 use perm::operations;
@@ -15,16 +16,17 @@ use search::Planned;
 use stacks::PLACES;
 use twobit::segment;
 
-// Every refusal but 15, which wants the table.
+// Every refusal but 20 and 15, which want the table.
 fn plan_refusal(
     kind: u8,
     n: u8,
     wanted: [i8; PLACES],
     given: [i8; PLACES],
+    groups: u32,
     bytes: usize,
     slots: usize,
 ) -> u8
-    ensures { λ r. ⌜ r ≡ planRow kind n wanted given bytes slots 0 ⌝ }
+    ensures { λ r. ⌜ r ≡ planRow kind n wanted given groups bytes slots 0 ⌝ }
 {
     let refusal = operations::kind_refusal(kind, n);
     if refusal != 0 {
@@ -35,6 +37,9 @@ fn plan_refusal(
     }
     if !valid::is_stack(kind, n, given) {
         return 3;
+    }
+    if !groups::is_group_set(kind, n, groups) {
+        return 21;
     }
     let count = kind::stack_count(kind, n);
     if bytes != segment::bytes_for(count) as usize {
@@ -69,22 +74,23 @@ pub fn draft_plan(
     n: u8,
     wanted: [i8; PLACES],
     given: [i8; PLACES],
+    groups: u32,
     table: &[u8],
     slots: usize,
 ) -> Draft
-    ensures { λ r. ⌜ Drafts kind n wanted given (now (table .entry)) slots r ⌝ }
+    ensures { λ r. ⌜ Drafts kind n wanted given groups (now (table .entry)) slots r ⌝ }
 {
-    let refusal = plan_refusal(kind, n, wanted, given, table.len(), slots);
+    let refusal = plan_refusal(kind, n, wanted, given, groups, table.len(), slots);
     if refusal != 0 {
         return no_draft(refusal);
     }
     if route::entry_of(kind, n, given, table) == 3 {
-        return no_draft(15);
+        return no_draft(20);
     }
     if route::entry_of(kind, n, wanted, table) != 0 {
         return no_draft(15);
     }
-    let way = route::route_from(kind, n, wanted, given, table);
+    let way = route::route_from(kind, n, wanted, given, groups, table);
     let stack = way.stack;
     let turns = way.turns;
     let taken = way.taken;
@@ -118,12 +124,13 @@ pub fn plan(
     n: u8,
     wanted: [i8; PLACES],
     given: [i8; PLACES],
+    groups: u32,
     table: &[u8],
     list: &mut [u8],
 ) -> Planned
-    ensures { λ r. ⌜ (now (list .exit), r) ≡ planOf kind n wanted given (now (table .entry)) (now (list .entry)) ⌝ }
+    ensures { λ r. ⌜ (now (list .exit), r) ≡ planOf kind n wanted given groups (now (table .entry)) (now (list .entry)) ⌝ }
 {
-    let draft = draft_plan(kind, n, wanted, given, table, list.len());
+    let draft = draft_plan(kind, n, wanted, given, groups, table, list.len());
     if draft.refusal != 0 {
         return Planned {
             refusal: draft.refusal,

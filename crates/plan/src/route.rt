@@ -3,11 +3,13 @@ ghost use mathlib.Core.Bool.{true};
 ghost use mathlib.Core.Path.{_≡_};
 ghost use lib.ListN.{length};
 ghost use Rattle.stacks.specs.Stack.{isPaneCount, isStack, stackCount};
-ghost use Rattle.stacks.specs.Turn.{turnsOf};
+ghost use Rattle.stacks.specs.Turn.{turnsIn};
 ghost use Rattle.search.specs.Entries.{bytesFor};
 ghost use Rattle.search.specs.Plan.{entryOf, routeFrom};
+ghost use Rattle.perm.specs.Moves.{listOf, MovesFit};
 ghost use Rattle.plan.specs.Routes.{firstTo, routeOf, StandsAt, LeadsFrom};
-use perm::kind;
+use perm::groups;
+use perm::groups::Moves;
 use perm::numbering;
 use perm::turning;
 use search::PLAN_LIMIT;
@@ -29,36 +31,47 @@ pub(crate) fn entry_of(kind: u8, n: u8, stack: [i8; PLACES], table: &[u8]) -> u8
     entry::get_entry(table, index)
 }
 
-// The smallest turn that leads from the stack at an index to a child with entry v, 0 where none does. left counts the turns not tried yet.
-fn turn_to(kind: u8, n: u8, stack: [i8; PLACES], index: u32, v: u8, table: &[u8]) -> u8
-    requires { ⌜ StandsAt kind n stack index (now table) ⌝ }
-    ensures { λ r. ⌜ r ≡ firstTo kind n (now (table .entry)) stack v (turnsOf kind n) ⌝ }
+// The first move that leads from the stack at an index to a child with entry v, 0 where none does. Moves rise, so it is the smallest.
+fn turn_to(
+    kind: u8,
+    n: u8,
+    moves: Moves,
+    stack: [i8; PLACES],
+    index: u32,
+    v: u8,
+    table: &[u8],
+) -> u8
+    requires { ⌜ (MovesFit kind n moves) × (StandsAt kind n stack index (now table)) ⌝ }
+    ensures { λ r. ⌜ r ≡ firstTo kind n (now (table .entry)) stack v (listOf moves) ⌝ }
 {
-    let first = kind::first_turn(kind);
-    let last = kind::last_turn(kind, n);
-    let mut left = last + 1 - first;
-    while 0 < left {
-        let k = last + 1 - left;
-        let child = numbering::rank_turned(kind, n, stack, index, k);
+    let turns = moves.turns;
+    let count = moves.count;
+    let mut i: u32 = 0;
+    while i < count {
+        let k = turns[i as usize];
+        let child = numbering::rank_turned(kind, n, &stack, index, k);
         if entry::get_entry(table, child) == v {
             return k;
         }
-        left -= 1;
+        i += 1;
     }
     0
 }
 
-// The route from the given stack: it ends at the wanted stack, at a stack from which no turn leads one nearer, or after as many turns as a plan may have.
+// The route from the given stack by turns of the set: it ends at the wanted stack, at a stack from which none leads one nearer, or after as
+// many turns as a plan may have.
 pub(crate) fn route_from(
     kind: u8,
     n: u8,
     wanted: [i8; PLACES],
     given: [i8; PLACES],
+    groups: u32,
     table: &[u8],
 ) -> Route
     requires { ⌜ LeadsFrom kind n wanted given (now table) ⌝ }
-    ensures { λ r. ⌜ (routeOf r ≡ routeFrom kind n (now (table .entry)) wanted (turnsOf kind n) given) × (length (routeOf r .turns) ≡ r .taken) ⌝ }
+    ensures { λ r. ⌜ (routeOf r ≡ routeFrom kind n (now (table .entry)) wanted (turnsIn kind n groups) given) × (length (routeOf r .turns) ≡ r .taken) ⌝ }
 {
+    let moves = groups::moves_in(kind, n, groups);
     let goal = numbering::rank(kind, n, wanted);
     let mut stack = given;
     let mut turns = [0u8; PLAN_LIMIT];
@@ -74,7 +87,7 @@ pub(crate) fn route_from(
             };
         }
         let nearer = entry::next_entry(entry::next_entry(v));
-        let k = turn_to(kind, n, stack, index, nearer, table);
+        let k = turn_to(kind, n, moves, stack, index, nearer, table);
         if k == 0 {
             return Route {
                 stack,

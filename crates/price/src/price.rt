@@ -14,13 +14,14 @@ pub fn price(
     n: u8,
     wanted: [i8; PLACES],
     given: [i8; PLACES],
+    groups: u32,
     table: &[u8],
     list: &mut [u8],
     tariff: Tariff,
 ) -> Priced
-    ensures { λ r. ⌜ (now (list .exit), r) ≡ priceOf kind n wanted given (now (table .entry)) (now (list .entry)) tariff ⌝ }
+    ensures { λ r. ⌜ (now (list .exit), r) ≡ priceOf kind n wanted given groups (now (table .entry)) (now (list .entry)) tariff ⌝ }
 {
-    let draft = plan::plan::draft_plan(kind, n, wanted, given, table, list.len());
+    let draft = plan::plan::draft_plan(kind, n, wanted, given, groups, table, list.len());
     if draft.refusal != 0 {
         return Priced {
             refusal: draft.refusal,

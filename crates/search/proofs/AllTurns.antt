@@ -1,10 +1,10 @@
--- By all turns every stack has a short road, so that demands 2 and 3 read as document 01 has them: every stack is reached and planned, and
--- no Close is refused 14.
-use mathlib.Core.Path.{_≡_, refl, sym, ap, _∙_, subst}
+-- By the full set every stack has a road, of at most 30 turns, so that demands 2 and 3 read as document 01 has them: every stack is reached and
+-- planned, a build closes by level 31, and no Close is refused 14.
+use mathlib.Core.Path.{_≡_, sym, ap, _∙_, subst}
 use mathlib.Core.Logic.{_⊎_, inl, inr}
-use mathlib.Core.Bool.{Bool, true, false, not}
+use mathlib.Core.Bool.{Bool, true, not}
 use mathlib.Core.List.{List}
-use Prim.Native.Nat.{ℕ, _%_, _<_, _≤_}
+use Prim.Native.Nat.{ℕ, suc, _%_, _≤_}
 use native.Mathlib.Nat.{mod-lt}
 use native.Mathlib.Omega.{arith}
 use lib.Dec.{eqb}
@@ -13,44 +13,67 @@ use lib.ListN.{take}
 use borrow.Author.Tests.{ne-eqb}
 use Rattle.graph.specs.Walks.{isMove}
 use Rattle.graph.proofs.Tally.{tally-all}
+use Rattle.stacks.specs.Counts.{CountsBy, CountsAt}
 use Rattle.stacks.specs.Index.{rankOf, stackAt}
 use Rattle.stacks.specs.Stack.{isPaneCount, isStack, stackCount}
-use Rattle.stacks.specs.Turn.{isTurn, turnsOf, Road, Fewest}
+use Rattle.stacks.specs.Turn.{isTurn, turnsIn, allGroups, RoadBy, Road, FewestBy, Fewest}
+use Rattle.stacks.proofs.GroupLaws.{all-turns-in}
 use Rattle.stacks.proofs.Numbering.{unrank-stack, rank-unrank}
 use Rattle.stacks.proofs.TurnBound.{road-bound, turn-bound-30}
-use Rattle.search.specs.Begin.{begun}
-use Rattle.search.specs.Build.{World, Lengths, Call, outcome, after}
-use Rattle.search.specs.Close.{closeRefusal}
-use Rattle.search.specs.Drive.{hasEnded}
+use Rattle.search.specs.Build.{World, Lengths, Call, after}
 use Rattle.search.specs.Entries.{entryAt, unseen, seenIn}
-use Rattle.search.specs.JobState.{isFinished, lastLevel}
-use Rattle.search.specs.Promise.{planIn, Plans, Finishes, Continues, Promise, WholeBuild}
-use Rattle.search.specs.PromiseBy.{EntryBy, Needs, PlansBy, FinishesBy, AtEnd, PromiseBy}
+use Rattle.search.specs.JobState.{lastLevel}
+use Rattle.search.specs.Promise.{planIn, mostTurns, Plans, Finishes, Continues, Promise, WholeBuild}
+use Rattle.search.specs.PromiseBy.{RoadIn, FewestIn, CountsIn, EntryBy, Needs, PlansBy, FinishesBy, AtEnd, PromiseBy, WholeBuildBy}
 use Rattle.search.specs.Segments.{joined}
-use Rattle.search.proofs.Advancing.{ended-cases}
-use Rattle.search.proofs.BlankKeeps.{begun-invariant}
 use Rattle.search.proofs.Coherence.{begin-given}
-use Rattle.search.proofs.Fewest.{turns-test}
-use Rattle.search.proofs.Invariant.{Invariant}
-use Rattle.search.proofs.Terms.{termsWith, Given, lengthsOf}
-use Rattle.search.proofs.WholeBuild.{at-end, finishes-is, promise-by}
+use Rattle.search.proofs.Turning.{turn-is-move}
+use Rattle.search.proofs.WholeBuild.{whole-build-by}
+
+module _ (kind n : ℕ) (in-range : isPaneCount kind n ≡ true) where
+  -- the turns of the full set are told by the test of a turn
+  full-test : isMove (turnsIn kind n (allGroups kind n)) ≡ isTurn kind n
+  full-test = ap isMove (all-turns-in kind n in-range) ∙ (λ i k. sym (turn-is-move kind n k) i)
+
+  pub full-road : {ks : List ℕ} {s w : List ℤ} → RoadIn kind n (allGroups kind n) ks s w → Road kind n ks s w
+  full-road {ks} {s} {w} r = subst (λ (p : ℕ → Bool). RoadBy kind p ks s w) full-test r
+
+  road-full : {ks : List ℕ} {s w : List ℤ} → Road kind n ks s w → RoadIn kind n (allGroups kind n) ks s w
+  road-full {ks} {s} {w} r = subst (λ (p : ℕ → Bool). RoadBy kind p ks s w) (sym full-test) r
+
+  pub full-fewest : {s w : List ℤ} {d : ℕ} → FewestIn kind n (allGroups kind n) s w d → Fewest kind n s w d
+  full-fewest {s} {w} {d} f = subst (λ (p : ℕ → Bool). FewestBy kind p s w d) full-test f
+
+  fewest-full : {s w : List ℤ} {d : ℕ} → Fewest kind n s w d → FewestIn kind n (allGroups kind n) s w d
+  fewest-full {s} {w} {d} f = subst (λ (p : ℕ → Bool). FewestBy kind p s w d) (sym full-test) f
+
+  full-counts : {w : List ℤ} {d count : ℕ} → CountsIn kind n (allGroups kind n) w d count → CountsAt kind n w d count
+  full-counts {w} {d} {count} c = subst (λ (p : ℕ → Bool). CountsBy kind n p w d count) full-test c
 
 module _ (kind n : ℕ) (wanted : List ℤ) (in-range : isPaneCount kind n ≡ true) (goal : isStack kind n wanted ≡ true) where
-  -- no stack is as deep as the last level
-  pub none-deep : Needs kind n (isTurn kind n) wanted lastLevel → ⊥
-  none-deep s =
-      let r = road-bound kind n in-range (s .0) wanted (s .1) goal in
-      omega (arith, s .2 .least (r .0) (r .1), r .2, turn-bound-30 kind n in-range)
+  short-road : (s : List ℤ) → isStack kind n s ≡ true → (ks : List ℕ) × RoadIn kind n (allGroups kind n) ks s wanted
+  short-road s h = let r = road-bound kind n in-range s wanted h goal in (r .0, road-full kind n in-range (r .1))
 
-  module _ {w : World} (f : FinishesBy kind n (isTurn kind n) wanted w) where
+  -- no stack needs more than 30 turns
+  pub few-turns : (s : List ℤ) (d : ℕ) → isStack kind n s ≡ true → Fewest kind n s wanted d → d ≤ mostTurns
+  few-turns s d h f =
+      let r = road-bound kind n in-range s wanted h goal in omega (arith, f .least (r .0) (r .1), r .2, turn-bound-30 kind n in-range)
+
+  needs-few : (d : ℕ) → Needs kind n (allGroups kind n) wanted d → d ≤ mostTurns
+  needs-few d s = few-turns (s .0) d (s .1) (full-fewest kind n in-range (s .2))
+
+  pub none-deep : Needs kind n (allGroups kind n) wanted lastLevel → ⊥
+  none-deep s = omega (arith, needs-few lastLevel s)
+
+  module _ {w : World} (f : FinishesBy kind n (allGroups kind n) wanted w) where
     entry-all : (s : List ℤ) → isStack kind n s ≡ true
         → (d : ℕ) × Fewest kind n s wanted d × (entryAt (joined (w .segments)) (rankOf kind n s) ≡ d % 3)
     entry-all s h = go (f .entries s h)
       where
-        go : EntryBy kind n (isTurn kind n) wanted s (entryAt (joined (w .segments)) (rankOf kind n s))
+        go : EntryBy kind n (allGroups kind n) wanted s (entryAt (joined (w .segments)) (rankOf kind n s))
             → (d : ℕ) × Fewest kind n s wanted d × (entryAt (joined (w .segments)) (rankOf kind n s) ≡ d % 3)
-        go (inl r) = r
-        go (inr r) = let road = road-bound kind n in-range s wanted h goal in absurd (r .0 (road .0) (road .1))
+        go (inl r) = (r .0, full-fewest kind n in-range (r .1), r .2)
+        go (inr r) = let road = short-road s h in absurd (r .0 (road .0) (road .1))
 
     all-seen : seenIn (joined (w .segments)) (stackCount kind n) ≡ stackCount kind n
     unfolding seenIn unseen
@@ -62,13 +85,15 @@ module _ (kind n : ℕ) (wanted : List ℤ) (in-range : isPaneCount kind n ≡ t
         (λ q. omega (arith, q, e .2, ap (entryAt (joined (w .segments))) (rank-unrank kind n v in-range l), mod-lt (e .0) {m = 3} (omega arith)))))
 
     -- Plan gets the job's own kind, n and wanted stack
-    plans-all : (given : List ℤ) (list : List ℕ) → PlansBy kind n (isTurn kind n) wanted w given list → Plans w given list
-    plans-all given list p =
+    plans-all : (given : List ℤ) (list : List ℕ) → isStack kind n given ≡ true → PlansBy kind n (allGroups kind n) wanted w given list → Plans w given list
+    plans-all given list h p =
         let out = planIn w given list in
+        let shortest : Fewest kind n given wanted (out .1 .turns) = full-fewest kind n in-range (p .shortest) in
         record {
           accepts = p .accepts;
-          arrives = as-job (λ k m x. Road k m (take (out .1 .turns) (out .0)) given x) (p .arrives);
-          shortest = as-job (λ k m x. Fewest k m given x (out .1 .turns)) (p .shortest);
+          arrives = as-job (λ k m x. Road k m (take (out .1 .turns) (out .0)) given x) (full-road kind n in-range (p .arrives));
+          shortest = as-job (λ k m x. Fewest k m given x (out .1 .turns)) shortest;
+          few = few-turns given (out .1 .turns) h shortest;
         }
       where
         as-job : (P : ℕ → ℕ → List ℤ → Type 0) → P kind n wanted → P (w .job .kind) (w .job .n) (w .job .wanted)
@@ -81,61 +106,40 @@ module _ (kind n : ℕ) (wanted : List ℤ) (in-range : isPaneCount kind n ≡ t
         record {
           entries = entry-all;
           spare = f .spare;
-          counts = f .counts;
+          counts = λ d l. full-counts kind n in-range (f .counts d l);
           past = f .past;
           added = f .added;
           all-seen = all-seen;
-          deepest = f .deepest;
-          greatest = f .greatest;
+          deepest = let s = f .deepest in (s .0, s .1, full-fewest kind n in-range (s .2));
+          greatest = λ s d h g. f .greatest s d h (fewest-full kind n in-range g);
           given-kind = f .given-kind;
           given-n = f .given-n;
           given-wanted = f .given-wanted;
+          given-groups = f .given-groups;
           plans = λ given list h l.
-              let road = road-bound kind n in-range given wanted h goal in plans-all given list (f .plans given list h l (road .0) (road .1));
+              let road = short-road given h in plans-all given list h (f .plans given list h l (road .0) (road .1));
         }
 
-  module _ {right : Lengths} {start : World} {calls : List (Call right)} (p : PromiseBy kind n (isTurn kind n) wanted right start calls) where
-    promise-all : Promise kind n wanted right start calls
-    promise-all =
-        record {
-          by-close = p .by-close;
-          since-close = p .since-close;
-          finishes = λ h. finishes-all (p .finishes h);
-          continues = λ h. go (p .continues h);
-          levels = λ d h. p .levels d h .1;
-          closes = λ h. none-deep (p .closes h .deep);
-          ends = p .ends none-deep;
-          stays = p .stays;
-        }
-      where
-        go : (Continues right (after start calls)) ⊎ (AtEnd kind n (isTurn kind n) wanted right (after start calls)) → Continues right (after start calls)
-        go (inl c) = c
-        go (inr e) = absurd (none-deep (e .deep))
-
--- ---- every world of a build
-
-module _ {kind n : ℕ} {wanted : List ℤ} {S C : ℕ} (given : Given (termsWith kind n wanted S C)) {w : World} (invariant : Invariant (termsWith kind n wanted S C) w) where
-  pub all-finishes : isFinished (w .job .phase) ≡ true → Finishes kind n wanted w
-  all-finishes h =
-      finishes-all kind n wanted (given .in-range) (given .stack)
-      (subst (λ (p : ℕ → Bool). FinishesBy kind n p wanted w) (turns-test kind n) (finishes-is given invariant h))
-
-  -- a build by all turns ends in Finished
-  pub all-finished : hasEnded (w .job) ≡ true → isFinished (w .job .phase) ≡ true
-  all-finished h = go (ended-cases (w .job) h)
+  promise-all : {right : Lengths} {start : World} {calls : List (Call right)} → PromiseBy kind n (allGroups kind n) wanted right start calls
+      → Promise kind n wanted right start calls
+  promise-all {right} {start} {calls} p =
+      record {
+        by-close = p .by-close;
+        since-close = p .since-close;
+        finishes = λ h. finishes-all (p .finishes h);
+        continues = λ h. go (p .continues h);
+        levels = λ d h. let l = p .levels d h in omega (arith, l .0, needs-few _ (l .2));
+        closes = λ h. none-deep (p .closes h .deep);
+        ends = p .ends none-deep;
+        stays = p .stays;
+      }
     where
-      go : (isFinished (w .job .phase) ≡ true) ⊎ (closeRefusal (w .job) ≡ 14) → isFinished (w .job .phase) ≡ true
-      go (inl e) = e
-      go (inr e) =
-          absurd
-          (none-deep kind n wanted (given .in-range) (given .stack)
-          (subst (λ (p : ℕ → Bool). Needs kind n p wanted lastLevel) (turns-test kind n) (at-end given invariant e .deep)))
+      go : (Continues right (after start calls)) ⊎ (AtEnd kind n (allGroups kind n) wanted right (after start calls)) → Continues right (after start calls)
+      go (inl c) = c
+      go (inr e) = absurd (none-deep (e .deep))
 
 pub whole-build : WholeBuild
-unfolding WholeBuild begun isFinished
+unfolding WholeBuild WholeBuildBy
 whole-build kind n wanted S C segments log accepted buffers calls =
-    let given : Given (termsWith kind n wanted S C) = begin-given kind n wanted S C accepted in
-    let start : World = record { job = begun kind n wanted S C; segments = segments; log = log } in
-    promise-all kind n wanted (given .in-range) (given .stack)
-    (subst (λ (p : ℕ → Bool). PromiseBy kind n p wanted (lengthsOf (termsWith kind n wanted S C)) start calls) (turns-test kind n)
-    (promise-by given (begun-invariant kind n wanted S C segments log buffers) refl calls))
+    let given = begin-given kind n wanted (allGroups kind n) S C accepted in
+    promise-all kind n wanted (given .in-range) (given .stack) (whole-build-by kind n wanted (allGroups kind n) S C segments log accepted buffers calls)

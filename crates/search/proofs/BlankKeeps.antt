@@ -26,10 +26,10 @@ use Rattle.search.proofs.Invariant.{Shaped, Blanks, Invariant, InPhase,
 use Rattle.search.proofs.Shapes.{segments-is, stacks-is}
 use Rattle.search.proofs.Terms.{Terms, termsWith, Given, G, m, few}
 
-pub begun-invariant : (kind n : ℕ) (wanted : List ℤ) (S C : ℕ) (segments : List (List ℕ)) (log : List ℕ) → Buffers kind n S C segments log
-    → Invariant (termsWith kind n wanted S C) (record { job = begun kind n wanted S C; segments = segments; log = log })
+pub begun-invariant : (kind n : ℕ) (wanted : List ℤ) (groups S C : ℕ) (segments : List (List ℕ)) (log : List ℕ) → Buffers kind n S C segments log
+    → Invariant (termsWith kind n wanted groups S C) (record { job = begun kind n wanted groups S C; segments = segments; log = log })
 unfolding begun passedOf waitingOf countOf rightBytes rightWords
-begun-invariant kind n wanted S C segments log buffers =
+begun-invariant kind n wanted groups S C segments log buffers =
     record {
       shaped = record {
         terms-is = refl;

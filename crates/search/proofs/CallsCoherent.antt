@@ -88,10 +88,10 @@ all-budget S d j m (i ∷ offsets) marks l h long =
 
 -- ---- Begin
 
-begun-coherent : (kind n : ℕ) (wanted : List ℤ) (S C : ℕ) → beginRefusal kind n wanted S C ≡ 0 → isCoherent (begun kind n wanted S C) ≡ true
+begun-coherent : (kind n : ℕ) (wanted : List ℤ) (groups S C : ℕ) → beginRefusal kind n wanted groups S C ≡ 0 → isCoherent (begun kind n wanted groups S C) ≡ true
 unfolding begun passedOf waitingOf countOf phaseFits
-begun-coherent kind n wanted S C h =
-    facts-coherent (begun kind n wanted S C)
+begun-coherent kind n wanted groups S C h =
+    facts-coherent (begun kind n wanted groups S C)
     (record {
       begins = h;
       phase-fits = refl;
@@ -100,11 +100,11 @@ begun-coherent kind n wanted S C h =
       counts-fit = λ d. omega (arith, replicate-zero countPlaces d);
     })
 
-pub begin-coherent : (kind n : ℕ) (wanted : List ℤ) (S C : ℕ) → beginOf kind n wanted S C .refusal ≡ 0
-    → isCoherent (beginOf kind n wanted S C .job) ≡ true
+pub begin-coherent : (kind n : ℕ) (wanted : List ℤ) (groups S C : ℕ) → beginOf kind n wanted groups S C .refusal ≡ 0
+    → isCoherent (beginOf kind n wanted groups S C .job) ≡ true
 unfolding beginOf
-begin-coherent kind n wanted S C h =
-    rw (eq-eqb (beginRefusal kind n wanted S C) 0 h) (begun-coherent kind n wanted S C h)
+begin-coherent kind n wanted groups S C h =
+    rw (eq-eqb (beginRefusal kind n wanted groups S C) 0 h) (begun-coherent kind n wanted groups S C h)
 
 module _ (job : Job) (coherent : isCoherent job ≡ true) where
   facts : Coherent job

@@ -19,7 +19,7 @@ module _ (kind n : ℕ) (moves : List ℕ) (v : ℕ) where
   pub children-length : length (childrenOf kind n moves v) ≡ length moves
   children-length = ap length children-are ∙ length-map moves (λ k. childAt kind n k v)
 
-  children-at : (i : ℕ) → i < length moves → getD (childrenOf kind n moves v) i 0 ≡ childAt kind n (getD moves i 0) v
+  pub children-at : (i : ℕ) → i < length moves → getD (childrenOf kind n moves v) i 0 ≡ childAt kind n (getD moves i 0) v
   children-at i h = ap (λ (l : List ℕ). getD l i 0) children-are ∙ getD-map (λ k. childAt kind n k v) moves i 0 0 h
 
   pub child-listed : (k : ℕ) → isMove moves k ≡ true

@@ -1,4 +1,4 @@
--- Coherent jobs: what coherence says, and that it asks of the first five fields what Begin asks of its arguments.
+-- Coherent jobs: what coherence says, and that it asks of the first six fields what Begin asks of its arguments.
 use mathlib.Core.Path.{_≡_}
 use mathlib.Core.Logic.{_⊎_, inl, inr}
 use mathlib.Core.Bool.{true, _&&_, cond}
@@ -13,6 +13,7 @@ use Rattle.base.specs.Words.{unless, all, from}
 use Rattle.base.proofs.Counting.{all-at, at-all, all-below, below-all}
 use Rattle.base.proofs.Tests.{unless-zero, and-left, and-right, and-both, lt-or-ge}
 use Rattle.stacks.specs.Operations.{kindRefusal}
+use Rattle.stacks.specs.Turn.{isGroupSet}
 use Rattle.stacks.specs.Stack.{isKind, isPaneCount, isStack, stackCount}
 use Rattle.search.specs.JobState.{countLimit, beginRefusal, segmentCountOf, stackCountAt, passedOf, waitingOf, countOf, phaseFits, segmentFits, countFits, isCoherent}
 use Rattle.search.specs.Segments.{segmentLimit, isSegmentSize, isLogRoom}
@@ -21,26 +22,28 @@ use Rattle.search.proofs.Terms.{Terms, termsWith, Given}
 
 -- ---- what an accepted Begin was given
 
-pub begin-given : (kind n : ℕ) (wanted : List ℤ) (S C : ℕ) → beginRefusal kind n wanted S C ≡ 0 → Given (termsWith kind n wanted S C)
+pub begin-given : (kind n : ℕ) (wanted : List ℤ) (groups S C : ℕ) → beginRefusal kind n wanted groups S C ≡ 0 → Given (termsWith kind n wanted groups S C)
 unfolding beginRefusal kindRefusal
-begin-given kind n wanted S C h =
+begin-given kind n wanted groups S C h =
     let room : ℕ = unless (isLogRoom C) 6 0 in
     let segments : ℕ = unless (isSegmentSize (stackCount kind n) S) 5 room in
-    let stack : ℕ = unless (isStack kind n wanted) 3 segments in
+    let named : ℕ = unless (isGroupSet kind n groups) 21 segments in
+    let stack : ℕ = unless (isStack kind n wanted) 3 named in
     let a = unless-zero (isKind kind) 0 (unless (isPaneCount kind n) 2 stack) h in
     let b = unless-zero (isPaneCount kind n) 1 stack (a .1) in
-    let c = unless-zero (isStack kind n wanted) 2 segments (b .1) in
-    let d = unless-zero (isSegmentSize (stackCount kind n) S) 4 room (c .1) in
-    record { is-kind = a .0; in-range = b .0; stack = c .0; segments = d .0; room = unless-zero (isLogRoom C) 5 0 (d .1) .0 }
+    let c = unless-zero (isStack kind n wanted) 2 named (b .1) in
+    let e = unless-zero (isGroupSet kind n groups) 20 segments (c .1) in
+    let d = unless-zero (isSegmentSize (stackCount kind n) S) 4 room (e .1) in
+    record { is-kind = a .0; in-range = b .0; stack = c .0; of-set = e .0; segments = d .0; room = unless-zero (isLogRoom C) 5 0 (d .1) .0 }
 
-pub given-begin : (terms : Terms) → Given terms → beginRefusal (terms .kind) (terms .n) (terms .wanted) (terms .S) (terms .C) ≡ 0
+pub given-begin : (terms : Terms) → Given terms → beginRefusal (terms .kind) (terms .n) (terms .wanted) (terms .groups) (terms .S) (terms .C) ≡ 0
 unfolding beginRefusal kindRefusal
-given-begin terms g = rw (g .is-kind, g .in-range, g .stack, g .segments, g .room)
+given-begin terms g = rw (g .is-kind, g .in-range, g .stack, g .of-set, g .segments, g .room)
 
 -- ---- coherence
 
 pub record Coherent (job : Job) : Type 0 where
-  pub begins : beginRefusal (job .kind) (job .n) (job .wanted) (job .size) (job .room) ≡ 0
+  pub begins : beginRefusal (job .kind) (job .n) (job .wanted) (job .groups) (job .size) (job .room) ≡ 0
   pub phase-fits : phaseFits (job .phase) ≡ true
   pub passed-fits : (j : ℕ) → j < segmentLimit → passedOf job j ≤ stackCountAt job j
   pub waiting-fits : (j : ℕ) → j < segmentLimit → waitingOf job j ≤ cond (ltb j (segmentCountOf job)) (job .room) 0
@@ -50,7 +53,7 @@ module _ (job : Job) where
   pub coherent-facts : isCoherent job ≡ true → Coherent job
   unfolding isCoherent segmentFits countFits countOf
   coherent-facts h =
-      let begins = eqb (beginRefusal (job .kind) (job .n) (job .wanted) (job .size) (job .room)) 0 in
+      let begins = eqb (beginRefusal (job .kind) (job .n) (job .wanted) (job .groups) (job .size) (job .room)) 0 in
       let phase = phaseFits (job .phase) in
       let segments = all (segmentFits job) (from 0 segmentLimit) in
       let counts = all countFits (job .counts) in
@@ -59,7 +62,7 @@ module _ (job : Job) where
       let each : (j : ℕ) → j < segmentLimit → segmentFits job j ≡ true =
       λ j l. all-below (segmentFits job) segmentLimit j (and-right (begins && phase) segments three) l in
       record {
-        begins = eqb-true (beginRefusal (job .kind) (job .n) (job .wanted) (job .size) (job .room)) 0 (and-left begins phase two);
+        begins = eqb-true (beginRefusal (job .kind) (job .n) (job .wanted) (job .groups) (job .size) (job .room)) 0 (and-left begins phase two);
         phase-fits = and-right begins phase two;
         passed-fits = λ j l. leb-true (passedOf job j) (stackCountAt job j)
             (and-left (leb (passedOf job j) (stackCountAt job j)) (leb (waitingOf job j) (cond (ltb j (segmentCountOf job)) (job .room) 0)) (each j l));
@@ -75,13 +78,13 @@ module _ (job : Job) where
   pub facts-coherent : Coherent job → isCoherent job ≡ true
   unfolding isCoherent segmentFits countFits countOf
   facts-coherent c =
-      let begins = eqb (beginRefusal (job .kind) (job .n) (job .wanted) (job .size) (job .room)) 0 in
+      let begins = eqb (beginRefusal (job .kind) (job .n) (job .wanted) (job .groups) (job .size) (job .room)) 0 in
       let phase = phaseFits (job .phase) in
       let segments = all (segmentFits job) (from 0 segmentLimit) in
       let counts = all countFits (job .counts) in
       and-both (begins && phase && segments) counts
       (and-both (begins && phase) segments
-      (and-both begins phase (eq-eqb (beginRefusal (job .kind) (job .n) (job .wanted) (job .size) (job .room)) 0 (c .begins)) (c .phase-fits))
+      (and-both begins phase (eq-eqb (beginRefusal (job .kind) (job .n) (job .wanted) (job .groups) (job .size) (job .room)) 0 (c .begins)) (c .phase-fits))
       (below-all (segmentFits job) segmentLimit
       (λ j l. and-both (leb (passedOf job j) (stackCountAt job j)) (leb (waitingOf job j) (cond (ltb j (segmentCountOf job)) (job .room) 0))
       (le-leb (passedOf job j) (stackCountAt job j) (c .passed-fits j l))

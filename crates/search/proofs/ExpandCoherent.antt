@@ -33,7 +33,7 @@ module _ (job : Job) (coherent : isCoherent job ≡ true) (j : ℕ) (inside : j 
   facts = coherent-facts job coherent
 
   given : Given (termsOf job)
-  given = begin-given (job .kind) (job .n) (job .wanted) (job .size) (job .room) (facts .begins)
+  given = begin-given (job .kind) (job .n) (job .wanted) (job .groups) (job .size) (job .room) (facts .begins)
 
   sizes : SegmentSizeFacts (stackCountOf job) (job .size)
   unfolding stackCountOf

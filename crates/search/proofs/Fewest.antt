@@ -1,5 +1,5 @@
 -- The fewest moves from a stack to the wanted one, as a depth in the graph of indexes, of stacks that have a road; counting them by any
--- test. By all turns every stack has a road, of at most turnBound turns.
+-- test.
 use mathlib.Core.Path.{_≡_, sym, ap, _∙_, subst}
 use mathlib.Core.Bool.{Bool, true}
 use mathlib.Core.List.{List}
@@ -97,13 +97,3 @@ module _ (kind n : ℕ) (w : List ℤ) (b : ℕ) (in-range : isPaneCount kind n 
           tells = depth-tells;
           tallied = λ other tells. e ∙ tally-told other tells;
         }
-
--- ---- by all turns
-
-module _ (kind n : ℕ) where
-  -- the test of the list of turns is that of a turn
-  pub turns-test : isMove (turnsOf kind n) ≡ isTurn kind n
-  turns-test = λ i k. sym (turn-is-move kind n k) i
-
-  pub turns-road : {ks : List ℕ} {s w : List ℤ} → RoadBy kind (isMove (turnsOf kind n)) ks s w → Road kind n ks s w
-  turns-road {ks} {s} {w} r = subst (λ (p : ℕ → Bool). RoadBy kind p ks s w) turns-test r

@@ -1,7 +1,7 @@
 -- A finished build is what we promise of one: its table, its counts, its deepest level, and every plan from it.
 use mathlib.Core.Path.{_≡_, refl, sym, ap, _∙_, subst}
 use mathlib.Core.Logic.{_⊎_, inl, inr}
-use mathlib.Core.Bool.{Bool, true, not}
+use mathlib.Core.Bool.{true, not}
 use mathlib.Core.List.{List, _++_, map}
 use Prim.Native.Nat.{ℕ, suc, _+_, _-_, _*_, _/_, _≤_, _<_, min}
 use native.Mathlib.Nat.{zero-add, mul-assoc, mod-lt}
@@ -14,80 +14,72 @@ use borrow.Author.Tests.{lt-ltb, le-ltb, eq-eqb, ne-eqb}
 use Rattle.base.specs.Words.{total, from}
 use Rattle.base.proofs.Counting.{total-from}
 use Rattle.base.proofs.Tests.{lt-or-ge}
-use Rattle.graph.specs.Walks.{isMove}
 use Rattle.graph.proofs.Depths.{between}
 use Rattle.graph.proofs.Distance.{dist-cut}
 use Rattle.graph.proofs.Tally.{tally-same, tally-values}
 use Rattle.stacks.specs.Index.{rankOf, stackAt}
 use Rattle.stacks.specs.Stack.{isStack}
-use Rattle.stacks.specs.Turn.{turnsOf, RoadBy, FewestBy}
+use Rattle.stacks.specs.Turn.{turnsIn}
 use Rattle.stacks.proofs.Numbering.{rank-lt, unrank-stack, rank-unrank}
 use Rattle.stacks.proofs.KindLaws.{count-pos}
 use Rattle.search.specs.Build.{World}
 use Rattle.search.specs.Entries.{entryAt, unseen, seenIn, bytesFor}
 use Rattle.search.specs.JobState.{countOf, levelOf, lastLevel, countPlaces}
 use Rattle.search.specs.Plan.{planLimit, entryOf, routeFrom, planRefusal, planOf}
-use Rattle.search.specs.Promise.{planIn, PlanArrives}
-use Rattle.search.specs.PromiseBy.{NoRoad, EntryBy, Needs, PlansBy, FinishesBy}
+use Rattle.search.specs.Promise.{planIn}
+use Rattle.search.specs.PromiseBy.{RoadIn, FewestIn, NoRoad, EntryBy, Needs, PlansBy, FinishesBy, PlanArrives}
 use Rattle.search.specs.Segments.{joined}
 use Rattle.search.specs.declared.Planned.{Planned}
 use Rattle.search.proofs.Accepted.{names-refusal}
-use Rattle.search.proofs.Fewest.{depth, move-depths, fewest-unique, depth-road, depth-fewest, counts-by, turns-road}
+use Rattle.search.proofs.Fewest.{depth, move-depths, fewest-unique, depth-road, depth-fewest, counts-by}
 use Rattle.search.proofs.Invariant.{Shaped, Ended, entryIn}
-use Rattle.search.proofs.PlanLaws.{RowFacts, PlanFacts, plan-facts, plan-goes-on, plan-unseen, RightTable, route-within, route-arrives, plan-there, plan-fewest}
+use Rattle.search.proofs.PlanLaws.{RowFacts, PlanFacts, plan-facts, plan-goes-on, plan-unseen, RightTable, route-within, route-arrives, plan-seen, plan-there, plan-fewest}
 use Rattle.search.proofs.Shapes.{shaped-segmented}
 use Rattle.search.proofs.SegmentLaws.{Segmented, last-segment, segment-last, spare-offset, bytes-last, joined-entry, joined-length, joined-spare}
 use Rattle.search.proofs.Terms.{Terms, Given, N, G, moves, step, goal, beyond, D, levelCount, laws, depths}
-use Rattle.search.proofs.Turning.{all-turns}
+use Rattle.search.proofs.Turning.{set-turns}
 
 -- ---- a plan over a right table
 
-pub plan-accepted : (kind n : ℕ) (wanted given : List ℤ) (table list : List ℕ) → planRefusal kind n wanted given table (length list) 0 ≡ 0
-    → (let turns = routeFrom kind n table wanted (turnsOf kind n) given .turns in
-    planOf kind n wanted given table list ≡ (turns ++ drop (length turns) list, record { refusal = 0; turns = length turns }))
+pub plan-accepted : (kind n : ℕ) (wanted given : List ℤ) (groups : ℕ) (table list : List ℕ) → planRefusal kind n wanted given groups table (length list) 0 ≡ 0
+    → (let turns = routeFrom kind n table wanted (turnsIn kind n groups) given .turns in
+    planOf kind n wanted given groups table list ≡ (turns ++ drop (length turns) list, record { refusal = 0; turns = length turns }))
 unfolding planOf
-plan-accepted kind n wanted given table list h = rw (eq-eqb (planRefusal kind n wanted given table (length list) 0) 0 h)
+plan-accepted kind n wanted given groups table list h = rw (eq-eqb (planRefusal kind n wanted given groups table (length list) 0) 0 h)
 
-pub plan-refused : (kind n : ℕ) (wanted given : List ℤ) (table list : List ℕ) → (planRefusal kind n wanted given table (length list) 0 ≡ 0 → ⊥)
-    → planOf kind n wanted given table list ≡ (list, record { refusal = planRefusal kind n wanted given table (length list) 0; turns = 0 })
+pub plan-refused : (kind n : ℕ) (wanted given : List ℤ) (groups : ℕ) (table list : List ℕ) → (planRefusal kind n wanted given groups table (length list) 0 ≡ 0 → ⊥)
+    → planOf kind n wanted given groups table list ≡ (list, record { refusal = planRefusal kind n wanted given groups table (length list) 0; turns = 0 })
 unfolding planOf
-plan-refused kind n wanted given table list h = rw (ne-eqb (planRefusal kind n wanted given table (length list) 0) 0 h)
+plan-refused kind n wanted given groups table list h = rw (ne-eqb (planRefusal kind n wanted given groups table (length list) 0) 0 h)
 
-pub plan-refusal-is : (kind n : ℕ) (wanted given : List ℤ) (table list : List ℕ)
-    → planOf kind n wanted given table list .1 .refusal ≡ planRefusal kind n wanted given table (length list) 0
-plan-refusal-is kind n wanted given table list =
-    names-refusal (λ o. o .1 .refusal) (planRefusal kind n wanted given table (length list) 0)
-    (plan-accepted kind n wanted given table list) (plan-refused kind n wanted given table list) refl refl
+pub plan-refusal-is : (kind n : ℕ) (wanted given : List ℤ) (groups : ℕ) (table list : List ℕ)
+    → planOf kind n wanted given groups table list .1 .refusal ≡ planRefusal kind n wanted given groups table (length list) 0
+plan-refusal-is kind n wanted given groups table list =
+    names-refusal (λ o. o .1 .refusal) (planRefusal kind n wanted given groups table (length list) 0)
+    (plan-accepted kind n wanted given groups table list) (plan-refused kind n wanted given groups table list) refl refl
 
--- an accepted plan is a road by the moves, and no longer than a plan may be
-module _ (kind n : ℕ) (wanted given : List ℤ) (table list : List ℕ) where
-  pub plan-road : planOf kind n wanted given table list .1 .refusal ≡ 0
-      → (let out = planOf kind n wanted given table list in
-      RoadBy kind (isMove (turnsOf kind n)) (take (out .1 .turns) (out .0)) given wanted × (out .1 .turns ≤ planLimit))
-  plan-road h =
-      let accepts : planRefusal kind n wanted given table (length list) 0 ≡ 0 = sym (plan-refusal-is kind n wanted given table list) ∙ h in
-      let moves : List ℕ = turnsOf kind n in
-      let turns : List ℕ = routeFrom kind n table wanted moves given .turns in
-      let f : PlanFacts kind n wanted given table (length list) = plan-facts kind n wanted given table (length list) 0 accepts .0 in
-      let row = f .row in
-      let road : RoadBy kind (isMove moves) turns given wanted =
-      route-arrives kind n table wanted given (row .of-panes) (all-turns kind n (row .of-panes)) (row .goal) (row .start) (f .plan) in
-      subst (λ (out : List ℕ × Planned). RoadBy kind (isMove moves) (take (out .1 .turns) (out .0)) given wanted × (out .1 .turns ≤ planLimit))
-      (sym (plan-accepted kind n wanted given table list accepts)) (
-        subst (λ (ks : List ℕ). RoadBy kind (isMove moves) ks given wanted) (sym (take-append-seam turns (drop (length turns) list))) road,
-        route-within kind n moves table wanted given .1,
-      )
-
+-- an accepted plan is a road by turns of the set, and no longer than a plan may be
 pub plan-arrives : PlanArrives
 unfolding PlanArrives
-plan-arrives kind n wanted given table list h =
-    let r = plan-road kind n wanted given table list h in (turns-road kind n (r .0), r .1)
+plan-arrives kind n wanted given groups table list h =
+    let accepts : planRefusal kind n wanted given groups table (length list) 0 ≡ 0 = sym (plan-refusal-is kind n wanted given groups table list) ∙ h in
+    let moves : List ℕ = turnsIn kind n groups in
+    let turns : List ℕ = routeFrom kind n table wanted moves given .turns in
+    let f : PlanFacts kind n wanted given groups table (length list) = plan-facts kind n wanted given groups table (length list) 0 accepts .0 in
+    let row = f .row in
+    let road : RoadIn kind n groups turns given wanted =
+    route-arrives kind n table wanted given (row .of-panes) (set-turns kind n (row .of-panes) groups) (row .goal) (row .start) (f .plan) in
+    subst (λ (out : List ℕ × Planned). RoadIn kind n groups (take (out .1 .turns) (out .0)) given wanted × (out .1 .turns ≤ planLimit))
+    (sym (plan-accepted kind n wanted given groups table list accepts)) (
+      subst (λ (ks : List ℕ). RoadIn kind n groups ks given wanted) (sym (take-append-seam turns (drop (length turns) list))) road,
+      route-within kind n moves table wanted given .1,
+    )
 
 -- what we promise of a plan, as PlansBy says it of a world
-pub record PlanIs (kind : ℕ) (isMove : ℕ → Bool) (wanted given : List ℤ) (out : List ℕ × Planned) : Type 0 where
+pub record PlanIs (kind n groups : ℕ) (wanted given : List ℤ) (out : List ℕ × Planned) : Type 0 where
   pub accepts : out .1 .refusal ≡ 0
-  pub arrives : RoadBy kind isMove (take (out .1 .turns) (out .0)) given wanted
-  pub shortest : FewestBy kind isMove given wanted (out .1 .turns)
+  pub arrives : RoadIn kind n groups (take (out .1 .turns) (out .0)) given wanted
+  pub shortest : FewestIn kind n groups given wanted (out .1 .turns)
 
 -- a plan fits in the levels that are searched
 plans-fit : suc planLimit < beyond
@@ -96,7 +88,7 @@ plans-fit = omega arith
 module _ {terms : Terms} (begun : Given terms) where
   -- an index at a depth that is searched is that of a stack that needs as many moves
   pub depth-needs : (d : ℕ) → (v : ℕ) × (v < N terms) × (D terms v ≡ d) → d < beyond
-      → Needs (terms .kind) (terms .n) (isMove (moves terms)) (terms .wanted) d
+      → Needs (terms .kind) (terms .n) (terms .groups) (terms .wanted) d
   depth-needs d v near =
       let s = stackAt (terms .kind) (terms .n) (v .0) in
       let stack = unrank-stack (terms .kind) (terms .n) (v .0) (begun .in-range) (v .1) in
@@ -104,36 +96,39 @@ module _ {terms : Terms} (begun : Given terms) where
       ap (D terms) (rank-unrank (terms .kind) (terms .n) (v .0) (begun .in-range) (v .1)) ∙ v .2 in (
         s,
         stack,
-        subst (FewestBy (terms .kind) (isMove (moves terms)) s (terms .wanted)) here
+        subst (FewestIn (terms .kind) (terms .n) (terms .groups) s (terms .wanted)) here
             (depth-fewest (terms .kind) (terms .n) (terms .wanted) beyond (begun .in-range) (begun .stack) (laws begun) s stack (omega (arith, here))),
       )
 
   row-is : (table : List ℕ) → length table ≡ bytesFor (N terms) → (given : List ℤ) (list : List ℕ) → isStack (terms .kind) (terms .n) given ≡ true
-      → planLimit ≤ length list → RowFacts (terms .kind) (terms .n) (terms .wanted) given (length table) (length list)
+      → planLimit ≤ length list → RowFacts (terms .kind) (terms .n) (terms .wanted) given (terms .groups) (length table) (length list)
   row-is table long given list h l =
-      record { of-kind = begun .is-kind; of-panes = begun .in-range; goal = begun .stack; start = h; long = long; wide = l }
+      record { of-kind = begun .is-kind; of-panes = begun .in-range; goal = begun .stack; start = h; of-set = begun .of-set; long = long; wide = l }
 
   plan-is : (table : List ℕ) → RightTable (terms .kind) (terms .n) (moves terms) (terms .wanted) beyond table → length table ≡ bytesFor (N terms)
       → (given : List ℤ) (list : List ℕ) → isStack (terms .kind) (terms .n) given ≡ true
       → D terms (rankOf (terms .kind) (terms .n) given) ≤ planLimit → planLimit ≤ length list
-      → PlanIs (terms .kind) (isMove (moves terms)) (terms .wanted) given (planOf (terms .kind) (terms .n) (terms .wanted) given table list)
+      → PlanIs (terms .kind) (terms .n) (terms .groups) (terms .wanted) given (planOf (terms .kind) (terms .n) (terms .wanted) given (terms .groups) table list)
+  unfolding PlanArrives
   plan-is table right long given list h near l =
       let kind = terms .kind in
       let n = terms .n in
       let wanted = terms .wanted in
-      let accepts : planRefusal kind n wanted given table (length list) 0 ≡ 0 =
-      plan-goes-on kind n wanted given table (length list)
+      let groups = terms .groups in
+      let accepts : planRefusal kind n wanted given groups table (length list) 0 ≡ 0 =
+      plan-goes-on kind n wanted given groups table (length list)
       (record {
         row = row-is table long given list h l;
+        seen = plan-seen kind n wanted beyond table (begun .in-range) (begun .stack) (laws begun) plans-fit right given h near;
         plan = plan-there kind n wanted beyond table (begun .in-range) (begun .stack) (laws begun) plans-fit right given h near;
       })
       0 in
-      let none : planOf kind n wanted given table list .1 .refusal ≡ 0 = plan-refusal-is kind n wanted given table list ∙ accepts in
+      let none : planOf kind n wanted given groups table list .1 .refusal ≡ 0 = plan-refusal-is kind n wanted given groups table list ∙ accepts in
       record {
         accepts = none;
-        arrives = plan-road kind n wanted given table list none .0;
-        shortest = subst (λ (out : List ℕ × Planned). FewestBy kind (isMove (moves terms)) given wanted (out .1 .turns))
-            (sym (plan-accepted kind n wanted given table list accepts))
+        arrives = plan-arrives kind n wanted given groups table list none .0;
+        shortest = subst (λ (out : List ℕ × Planned). FewestIn kind n groups given wanted (out .1 .turns))
+            (sym (plan-accepted kind n wanted given groups table list accepts))
             (plan-fewest kind n wanted beyond table (begun .in-range) (begun .stack) (laws begun) plans-fit right given h near);
       }
 
@@ -182,11 +177,11 @@ module _ {terms : Terms} (begun : Given terms) where
       inside : place < N terms
       inside = rank-lt (terms .kind) (terms .n) s (begun .in-range) h
 
-      fewest-is : D terms place < beyond → FewestBy (terms .kind) (isMove (moves terms)) s (terms .wanted) (D terms place)
+      fewest-is : D terms place < beyond → FewestIn (terms .kind) (terms .n) (terms .groups) s (terms .wanted) (D terms place)
       fewest-is = depth-fewest (terms .kind) (terms .n) (terms .wanted) beyond (begun .in-range) (begun .stack) (laws begun) s h
 
       -- a stack beyond the levels has no road, however long: from a road's stacks one would be at the last level, which is empty
-      far-roadless : D terms place ≡ beyond → NoRoad (terms .kind) (terms .n) (isMove (moves terms)) (terms .wanted) s
+      far-roadless : D terms place ≡ beyond → NoRoad (terms .kind) (terms .n) (terms .groups) (terms .wanted) s
       far-roadless far ks road =
           let b : ℕ = beyond + length ks in
           let near : depth (terms .kind) (terms .n) (moves terms) (terms .wanted) b place ≤ length ks =
@@ -198,28 +193,28 @@ module _ {terms : Terms} (begun : Given terms) where
           place lastLevel inside (omega (arith, cut place)) (omega arith) in
           omega (arith, ended .greatest (u .0) (u .1) (omega (arith, cut (u .0), u .2)), cut (u .0), u .2, ended .last)
 
-      entry-is : EntryBy (terms .kind) (terms .n) (isMove (moves terms)) (terms .wanted) s (entryAt (joined (w .segments)) place)
+      entry-is : EntryBy (terms .kind) (terms .n) (terms .groups) (terms .wanted) s (entryAt (joined (w .segments)) place)
       unfolding entryIn
       entry-is = go (near-or-far place)
         where
           go : (D terms place < beyond) ⊎ (D terms place ≡ beyond)
-              → EntryBy (terms .kind) (terms .n) (isMove (moves terms)) (terms .wanted) s (entryAt (joined (w .segments)) place)
+              → EntryBy (terms .kind) (terms .n) (terms .groups) (terms .wanted) s (entryAt (joined (w .segments)) place)
           go (inl near) = inl (D terms place, fewest-is near, table-right s h near)
           go (inr far) =
               inr (far-roadless far, joined-entry (N terms) (terms .S) (w .segments) whole place inside ∙ ended .unreached place inside far)
 
-      road-near : (ks : List ℕ) → RoadBy (terms .kind) (isMove (moves terms)) ks s (terms .wanted) → D terms place < beyond
+      road-near : (ks : List ℕ) → RoadIn (terms .kind) (terms .n) (terms .groups) ks s (terms .wanted) → D terms place < beyond
       road-near ks road = go (near-or-far place)
         where
           go : (D terms place < beyond) ⊎ (D terms place ≡ beyond) → D terms place < beyond
           go (inl near) = near
           go (inr far) = absurd (far-roadless far ks road)
 
-      roadless-unseen : NoRoad (terms .kind) (terms .n) (isMove (moves terms)) (terms .wanted) s → entryOf (terms .kind) (terms .n) (joined (w .segments)) s ≡ unseen
+      roadless-unseen : NoRoad (terms .kind) (terms .n) (terms .groups) (terms .wanted) s → entryOf (terms .kind) (terms .n) (joined (w .segments)) s ≡ unseen
       unfolding entryOf unseen
       roadless-unseen none = go entry-is
         where
-          go : EntryBy (terms .kind) (terms .n) (isMove (moves terms)) (terms .wanted) s (entryAt (joined (w .segments)) place)
+          go : EntryBy (terms .kind) (terms .n) (terms .groups) (terms .wanted) s (entryAt (joined (w .segments)) place)
               → entryAt (joined (w .segments)) place ≡ 3
           go (inl r) = absurd (none (r .1 .road) (r .1 .leads))
           go (inr r) = r .1
@@ -228,24 +223,24 @@ module _ {terms : Terms} (begun : Given terms) where
     long = joined-length (N terms) (terms .S) (w .segments) whole
 
     plans-is : (given : List ℤ) (list : List ℕ) → isStack (terms .kind) (terms .n) given ≡ true → planLimit ≤ length list
-        → (ks : List ℕ) → RoadBy (terms .kind) (isMove (moves terms)) ks given (terms .wanted)
-        → PlansBy (terms .kind) (terms .n) (isMove (moves terms)) (terms .wanted) w given list
+        → (ks : List ℕ) → RoadIn (terms .kind) (terms .n) (terms .groups) ks given (terms .wanted)
+        → PlansBy (terms .kind) (terms .n) (terms .groups) (terms .wanted) w given list
     plans-is given list h l ks road =
         let near = road-near given h ks road in
         let p =
-        subst (λ (t : Terms). PlanIs (terms .kind) (isMove (moves terms)) (terms .wanted) given (planOf (t .kind) (t .n) (t .wanted) given (joined (w .segments)) list))
+        subst (λ (t : Terms). PlanIs (terms .kind) (terms .n) (terms .groups) (terms .wanted) given (planOf (t .kind) (t .n) (t .wanted) given (t .groups) (joined (w .segments)) list))
         (sym (shaped .terms-is))
         (plan-is (joined (w .segments)) table-right long given list h
         (omega (arith, ended .greatest (place given h) (inside given h) near, ended .last)) l) in
         record { accepts = p .accepts; arrives = p .arrives; shortest = p .shortest }
 
     refuses-is : (given : List ℤ) (list : List ℕ) → isStack (terms .kind) (terms .n) given ≡ true → planLimit ≤ length list
-        → NoRoad (terms .kind) (terms .n) (isMove (moves terms)) (terms .wanted) given → planIn w given list .1 .refusal ≡ 15
+        → NoRoad (terms .kind) (terms .n) (terms .groups) (terms .wanted) given → planIn w given list .1 .refusal ≡ 20
     refuses-is given list h l none =
         let table : List ℕ = joined (w .segments) in
-        subst (λ (t : Terms). planOf (t .kind) (t .n) (t .wanted) given table list .1 .refusal ≡ 15) (sym (shaped .terms-is))
-        (plan-refusal-is (terms .kind) (terms .n) (terms .wanted) given table list
-        ∙ plan-unseen (terms .kind) (terms .n) (terms .wanted) given table (length list) (row-is table long given list h l) (roadless-unseen given h none) 0)
+        subst (λ (t : Terms). planOf (t .kind) (t .n) (t .wanted) given (t .groups) table list .1 .refusal ≡ 20) (sym (shaped .terms-is))
+        (plan-refusal-is (terms .kind) (terms .n) (terms .wanted) given (terms .groups) table list
+        ∙ plan-unseen (terms .kind) (terms .n) (terms .wanted) given (terms .groups) table (length list) (row-is table long given list h l) (roadless-unseen given h none) 0)
 
     -- the counts add up to the seen: an entry is other than 3 exactly where the depth is searched
     added-is : total (w .job .counts) ≡ seenIn (joined (w .segments)) (N terms)
@@ -268,7 +263,7 @@ module _ {terms : Terms} (begun : Given terms) where
             ∙ sym (ap not (eq-eqb (entryAt (joined (w .segments)) v) unseen
             (joined-entry (N terms) (terms .S) (w .segments) whole v l ∙ ended .unreached v l far)))
 
-    pub ended-finishes : FinishesBy (terms .kind) (terms .n) (isMove (moves terms)) (terms .wanted) w
+    pub ended-finishes : FinishesBy (terms .kind) (terms .n) (terms .groups) (terms .wanted) w
     unfolding countOf
     ended-finishes =
         record {
@@ -278,18 +273,19 @@ module _ {terms : Terms} (begun : Given terms) where
               (ended .counts i (omega arith));
           past = λ i h. ended .counts-past i (omega (arith, level-is));
           added = added-is;
-          deepest = subst (Needs (terms .kind) (terms .n) (isMove (moves terms)) (terms .wanted)) (sym level-is)
+          deepest = subst (Needs (terms .kind) (terms .n) (terms .groups) (terms .wanted)) (sym level-is)
               (depth-needs d (ended .deepest) (omega (arith, ended .last)));
           greatest = greatest-is;
           below = omega (arith, level-is, ended .last);
           given-kind = ap (λ (t : Terms). t .kind) (shaped .terms-is);
           given-n = ap (λ (t : Terms). t .n) (shaped .terms-is);
           given-wanted = ap (λ (t : Terms). t .wanted) (shaped .terms-is);
+          given-groups = ap (λ (t : Terms). t .groups) (shaped .terms-is);
           plans = plans-is;
           refuses = refuses-is;
         }
       where
-        greatest-is : (s : List ℤ) (i : ℕ) → isStack (terms .kind) (terms .n) s ≡ true → FewestBy (terms .kind) (isMove (moves terms)) s (terms .wanted) i
+        greatest-is : (s : List ℤ) (i : ℕ) → isStack (terms .kind) (terms .n) s ≡ true → FewestIn (terms .kind) (terms .n) (terms .groups) s (terms .wanted) i
             → i ≤ levelOf (w .job .phase)
         greatest-is s i h f =
             let near = road-near s h (f .road) (f .leads) in

@@ -123,7 +123,7 @@ module _ (job : Job) (j : ℕ) (log log′ : List ℕ) (long : length log ≡ le
   unfolding pending segmentCountOf stackCountOf
   pending-same h inside =
       let facts = coherent-facts job h in
-      let given = begin-given (job .kind) (job .n) (job .wanted) (job .size) (job .room) (facts .begins) in
+      let given = begin-given (job .kind) (job .n) (job .wanted) (job .groups) (job .size) (job .room) (facts .begins) in
       let few = segment-size-facts (stackCount (job .kind) (job .n)) (job .size) (given .segments) .few in
       let fits : waitingOf job j ≤ job .room =
       subst (λ (b : Bool). waitingOf job j ≤ cond b (job .room) 0) (lt-ltb j (segmentCountOf job) inside) (facts .waiting-fits j (omega arith)) in

@@ -16,7 +16,7 @@ use Rattle.graph.proofs.Moves.{isMove-cases, isMove-first, isMove-rest}
 use Rattle.graph.proofs.Depths.{Depths, nearer-label}
 use Rattle.stacks.specs.Stack.{isKind, isPaneCount, isStack, stackCount}
 use Rattle.stacks.specs.Index.{rankOf}
-use Rattle.stacks.specs.Turn.{turnsOf, turnOf, turnsFrom, RoadBy, FewestBy}
+use Rattle.stacks.specs.Turn.{isGroupSet, turnsIn, turnOf, turnsFrom, RoadBy, FewestBy}
 use Rattle.stacks.specs.Operations.{kindRefusal}
 use Rattle.stacks.proofs.Numbering.{rank-lt, rank-injective}
 use Rattle.stacks.proofs.Roads.{road-none, road-append}
@@ -28,17 +28,18 @@ use Rattle.search.proofs.Fewest.{depth, move-depths, depth-fewest}
 -- ---- what an accepted call was given
 
 -- by its row of refusals up to 15
-pub record RowFacts (kind n : ℕ) (wanted given : List ℤ) (bytes slots : ℕ) : Type 0 where
+pub record RowFacts (kind n : ℕ) (wanted given : List ℤ) (groups bytes slots : ℕ) : Type 0 where
   pub of-kind : isKind kind ≡ true
   pub of-panes : isPaneCount kind n ≡ true
   pub goal : isStack kind n wanted ≡ true
   pub start : isStack kind n given ≡ true
+  pub of-set : isGroupSet kind n groups ≡ true
   pub long : bytes ≡ bytesFor (stackCount kind n)
   pub wide : planLimit ≤ slots
 
-module _ (kind n : ℕ) (wanted given : List ℤ) (bytes slots : ℕ) where
+module _ (kind n : ℕ) (wanted given : List ℤ) (groups bytes slots : ℕ) where
   -- a row that refuses nothing goes on with the rest
-  pub row-goes-on : RowFacts kind n wanted given bytes slots → (rest : ℕ) → planRow kind n wanted given bytes slots rest ≡ rest
+  pub row-goes-on : RowFacts kind n wanted given groups bytes slots → (rest : ℕ) → planRow kind n wanted given groups bytes slots rest ≡ rest
   unfolding planRow kindRefusal
   row-goes-on f rest =
       rw (
@@ -46,28 +47,32 @@ module _ (kind n : ℕ) (wanted given : List ℤ) (bytes slots : ℕ) where
         f .of-panes,
         f .goal,
         f .start,
+        f .of-set,
         eq-eqb bytes (bytesFor (stackCount kind n)) (f .long),
         le-leb planLimit slots (f .wide),
       )
 
-  pub row-facts : (rest : ℕ) → planRow kind n wanted given bytes slots rest ≡ 0 → RowFacts kind n wanted given bytes slots × (rest ≡ 0)
+  pub row-facts : (rest : ℕ) → planRow kind n wanted given groups bytes slots rest ≡ 0 → RowFacts kind n wanted given groups bytes slots × (rest ≡ 0)
   unfolding planRow kindRefusal
   row-facts rest h =
       let wide : ℕ = unless (leb planLimit slots) 10 rest in
       let long : ℕ = unless (eqb bytes (bytesFor (stackCount kind n))) 10 wide in
-      let start : ℕ = unless (isStack kind n given) 3 long in
+      let named : ℕ = unless (isGroupSet kind n groups) 21 long in
+      let start : ℕ = unless (isStack kind n given) 3 named in
       let goal : ℕ = unless (isStack kind n wanted) 3 start in
       let a = unless-zero (isKind kind) 0 (unless (isPaneCount kind n) 2 goal) h in
       let b = unless-zero (isPaneCount kind n) 1 goal (a .1) in
       let c = unless-zero (isStack kind n wanted) 2 start (b .1) in
-      let d = unless-zero (isStack kind n given) 2 long (c .1) in
-      let e = unless-zero (eqb bytes (bytesFor (stackCount kind n))) 9 wide (d .1) in
+      let d = unless-zero (isStack kind n given) 2 named (c .1) in
+      let g = unless-zero (isGroupSet kind n groups) 20 long (d .1) in
+      let e = unless-zero (eqb bytes (bytesFor (stackCount kind n))) 9 wide (g .1) in
       let f = unless-zero (leb planLimit slots) 9 rest (e .1) in (
         record {
           of-kind = a .0;
           of-panes = b .0;
           goal = c .0;
           start = d .0;
+          of-set = g .0;
           long = eqb-true bytes (bytesFor (stackCount kind n)) (e .0);
           wide = leb-true planLimit slots (f .0);
         },
@@ -75,59 +80,68 @@ module _ (kind n : ℕ) (wanted given : List ℤ) (bytes slots : ℕ) where
       )
 
   -- what a row refuses is what it answers, whatever the rest
-  pub row-refuses : (r rest : ℕ) → r ≡ planRow kind n wanted given bytes slots 0 → (r ≡ 0 → ⊥) → r ≡ planRow kind n wanted given bytes slots rest
+  pub row-refuses : (r rest : ℕ) → r ≡ planRow kind n wanted given groups bytes slots 0 → (r ≡ 0 → ⊥) → r ≡ planRow kind n wanted given groups bytes slots rest
   unfolding planRow kindRefusal
   row-refuses r rest e h =
       e
-      ∙ go (isKind kind) (isPaneCount kind n) (isStack kind n wanted) (isStack kind n given) (eqb bytes (bytesFor (stackCount kind n))) (leb planLimit slots) (λ q. h (e ∙ q))
+      ∙ go (isKind kind) (isPaneCount kind n) (isStack kind n wanted) (isStack kind n given) (isGroupSet kind n groups) (eqb bytes (bytesFor (stackCount kind n)))
+      (leb planLimit slots)
+      (λ q. h (e ∙ q))
     where
-      row : ℕ → Bool → Bool → Bool → Bool → Bool → Bool → ℕ
-      row rest a b c d e f = unless a 1 (unless b 2 (unless c 3 (unless d 3 (unless e 10 (unless f 10 rest)))))
+      row : ℕ → Bool → Bool → Bool → Bool → Bool → Bool → Bool → ℕ
+      row rest a b c d g e f = unless a 1 (unless b 2 (unless c 3 (unless d 3 (unless g 21 (unless e 10 (unless f 10 rest))))))
 
-      go : (a b c d e f : Bool) → (row 0 a b c d e f ≡ 0 → ⊥) → row 0 a b c d e f ≡ row rest a b c d e f
-      go true true true true true true k = absurd (k refl)
-      go true true true true true false k = refl
-      go true true true true false f k = refl
-      go true true true false e f k = refl
-      go true true false d e f k = refl
-      go true false c d e f k = refl
-      go false b c d e f k = refl
+      go : (a b c d g e f : Bool) → (row 0 a b c d g e f ≡ 0 → ⊥) → row 0 a b c d g e f ≡ row rest a b c d g e f
+      go true true true true true true true k = absurd (k refl)
+      go true true true true true true false k = refl
+      go true true true true true false f k = refl
+      go true true true true false e f k = refl
+      go true true true false g e f k = refl
+      go true true false d g e f k = refl
+      go true false c d g e f k = refl
+      go false b c d g e f k = refl
 
-pub record PlanFacts (kind n : ℕ) (wanted given : List ℤ) (table : List ℕ) (slots : ℕ) : Type 0 where
-  pub row : RowFacts kind n wanted given (length table) slots
-  pub plan : hasPlan kind n table wanted (turnsOf kind n) given ≡ true
+pub record PlanFacts (kind n : ℕ) (wanted given : List ℤ) (groups : ℕ) (table : List ℕ) (slots : ℕ) : Type 0 where
+  pub row : RowFacts kind n wanted given groups (length table) slots
+  pub seen : not (eqb (entryOf kind n table given) unseen) ≡ true
+  pub plan : hasPlan kind n table wanted (turnsIn kind n groups) given ≡ true
 
-module _ (kind n : ℕ) (wanted given : List ℤ) (table : List ℕ) (slots : ℕ) where
-  pub plan-goes-on : PlanFacts kind n wanted given table slots → (rest : ℕ) → planRefusal kind n wanted given table slots rest ≡ rest
+module _ (kind n : ℕ) (wanted given : List ℤ) (groups : ℕ) (table : List ℕ) (slots : ℕ) where
+  -- what the row goes on with
+  abbrev after-row : ℕ → ℕ
+  after-row rest =
+      unless (not (eqb (entryOf kind n table given) unseen)) 20 (unless (hasPlan kind n table wanted (turnsIn kind n groups) given) 15 rest)
+
+  pub plan-goes-on : PlanFacts kind n wanted given groups table slots → (rest : ℕ) → planRefusal kind n wanted given groups table slots rest ≡ rest
   unfolding planRefusal
-  plan-goes-on f rest =
-      row-goes-on kind n wanted given (length table) slots (f .row) (unless (hasPlan kind n table wanted (turnsOf kind n) given) 15 rest) ∙ rw (f .plan)
+  plan-goes-on f rest = row-goes-on kind n wanted given groups (length table) slots (f .row) (after-row rest) ∙ rw (f .seen, f .plan)
 
-  pub plan-facts : (rest : ℕ) → planRefusal kind n wanted given table slots rest ≡ 0 → PlanFacts kind n wanted given table slots × (rest ≡ 0)
+  pub plan-facts : (rest : ℕ) → planRefusal kind n wanted given groups table slots rest ≡ 0 → PlanFacts kind n wanted given groups table slots × (rest ≡ 0)
   unfolding planRefusal
   plan-facts rest h =
-      let plan : Bool = hasPlan kind n table wanted (turnsOf kind n) given in
-      let f = row-facts kind n wanted given (length table) slots (unless plan 15 rest) h in
-      let g = unless-zero plan 14 rest (f .1) in
-      (record { row = f .0; plan = g .0 }, g .1)
+      let plan : Bool = hasPlan kind n table wanted (turnsIn kind n groups) given in
+      let f = row-facts kind n wanted given groups (length table) slots (after-row rest) h in
+      let s = unless-zero (not (eqb (entryOf kind n table given) unseen)) 19 (unless plan 15 rest) (f .1) in
+      let g = unless-zero plan 14 rest (s .1) in
+      (record { row = f .0; seen = s .0; plan = g .0 }, g .1)
 
   -- a given stack that the table has not seen is refused
-  pub plan-unseen : RowFacts kind n wanted given (length table) slots → entryOf kind n table given ≡ unseen
-      → (rest : ℕ) → planRefusal kind n wanted given table slots rest ≡ 15
-  unfolding planRefusal hasPlan
+  pub plan-unseen : RowFacts kind n wanted given groups (length table) slots → entryOf kind n table given ≡ unseen
+      → (rest : ℕ) → planRefusal kind n wanted given groups table slots rest ≡ 20
+  unfolding planRefusal
   plan-unseen f h rest =
-      row-goes-on kind n wanted given (length table) slots f (unless (hasPlan kind n table wanted (turnsOf kind n) given) 15 rest)
-      ∙ rw (eq-eqb (entryOf kind n table given) unseen h)
+      row-goes-on kind n wanted given groups (length table) slots f (after-row rest) ∙ rw (eq-eqb (entryOf kind n table given) unseen h)
 
   -- what Plan refuses is refused, whatever the rest
-  pub plan-refuses : (r rest : ℕ) → r ≡ planRefusal kind n wanted given table slots 0 → (r ≡ 0 → ⊥) → r ≡ planRefusal kind n wanted given table slots rest
+  pub plan-refuses : (r rest : ℕ) → r ≡ planRefusal kind n wanted given groups table slots 0 → (r ≡ 0 → ⊥) → r ≡ planRefusal kind n wanted given groups table slots rest
   unfolding planRefusal
-  plan-refuses r rest e h = go (hasPlan kind n table wanted (turnsOf kind n) given) e
+  plan-refuses r rest e h = go (not (eqb (entryOf kind n table given) unseen)) (hasPlan kind n table wanted (turnsIn kind n groups) given) e
     where
-      go : (b : Bool) → r ≡ planRow kind n wanted given (length table) slots (unless b 15 0)
-          → r ≡ planRow kind n wanted given (length table) slots (unless b 15 rest)
-      go true k = row-refuses kind n wanted given (length table) slots r rest k h
-      go false k = k
+      go : (a b : Bool) → r ≡ planRow kind n wanted given groups (length table) slots (unless a 20 (unless b 15 0))
+          → r ≡ planRow kind n wanted given groups (length table) slots (unless a 20 (unless b 15 rest))
+      go true true k = row-refuses kind n wanted given groups (length table) slots r rest k h
+      go true false k = k
+      go false b k = k
 
 -- ---- a plan in the making, whatever the table holds
 
@@ -197,7 +211,7 @@ route-arrives kind n {moves} table wanted given in-range laws goal start plan =
     subst (λ (s : List ℤ). isStack kind n s ≡ true) (r .0 .arrives) (moves-stack kind n in-range laws (route .turns) given (r .0 .turns) start) in
     let same : rankOf kind n (route .stack) ≡ rankOf kind n wanted =
     eqb-true (rankOf kind n (route .stack)) (rankOf kind n wanted)
-    (and-right (not (eqb (entryOf kind n table given) unseen) && eqb (entryOf kind n table wanted) 0) (isWanted kind n table wanted (route .stack)) plan) in
+    (and-right (eqb (entryOf kind n table wanted) 0) (isWanted kind n table wanted (route .stack)) plan) in
     subst (RoadBy kind (isMove moves) (route .turns) given) (rank-injective kind n (route .stack) wanted in-range stack goal same) (r .0)
 
 -- ---- over a right table
@@ -328,11 +342,15 @@ module _ (kind n : ℕ) (wanted : List ℤ) (b : ℕ) (table : List ℕ) (in-ran
     route-ends : far (routeFrom kind n table wanted moves given .stack) ≡ 0
     route-ends = let r = route-nearer in omega (arith, r .1)
 
+    -- the given stack is seen, and the plan is there
+    pub plan-seen : not (eqb (entryOf kind n table given) unseen) ≡ true
+    unfolding entryOf unseen
+    plan-seen = ap not (ne-eqb (entryAt table (rankOf kind n given)) 3 (λ e. omega (arith, right given start (omega arith))))
+
     pub plan-there : hasPlan kind n table wanted moves given ≡ true
-    unfolding hasPlan entryOf unseen
+    unfolding hasPlan entryOf
     plan-there =
         rw (
-          ne-eqb (entryAt table (rankOf kind n given)) 3 (λ e. omega (arith, right given start (omega arith))),
           eq-eqb (entryAt table (rankOf kind n wanted)) 0 (omega (arith, right wanted goal (omega (arith, depths .goal)), depths .goal)),
           near-wanted (routeFrom kind n table wanted moves given .stack) (route-nearer .0) route-ends,
         )

@@ -37,9 +37,9 @@ module _ {terms : Terms} {w : World} (shaped : Shaped terms w) where
   unfolding goalOf
   goal-is = ap goal (shaped .terms-is)
 
-  pub begins-is : Given terms → beginRefusal (w .job .kind) (w .job .n) (w .job .wanted) (w .job .size) (w .job .room) ≡ 0
+  pub begins-is : Given terms → beginRefusal (w .job .kind) (w .job .n) (w .job .wanted) (w .job .groups) (w .job .size) (w .job .room) ≡ 0
   begins-is given =
-      ap (λ (t : Terms). beginRefusal (t .kind) (t .n) (t .wanted) (t .S) (t .C)) (shaped .terms-is) ∙ given-begin terms given
+      ap (λ (t : Terms). beginRefusal (t .kind) (t .n) (t .wanted) (t .groups) (t .S) (t .C)) (shaped .terms-is) ∙ given-begin terms given
 
   pub shaped-segmented : Given terms → Segmented (N terms) (terms .S) (w .segments)
   shaped-segmented given =

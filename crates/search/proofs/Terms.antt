@@ -18,7 +18,7 @@ use Rattle.base.specs.Words.{tally, from}
 use Rattle.graph.proofs.Depths.{Depths}
 use Rattle.stacks.specs.Index.{rankOf}
 use Rattle.stacks.specs.Stack.{isKind, isPaneCount, isStack, stackCount}
-use Rattle.stacks.specs.Turn.{turnsOf}
+use Rattle.stacks.specs.Turn.{isGroupSet, turnsIn}
 use Rattle.search.specs.Build.{Lengths}
 use Rattle.search.specs.JobState.{lastLevel}
 use Rattle.search.specs.Promise.{rightLengths}
@@ -26,21 +26,22 @@ use Rattle.search.specs.Segments.{segmentLimit, segmentCount, stackCount
 use Rattle.search.specs.declared.Job.{Job}
 use Rattle.search.proofs.Fewest.{depth, move-depths, goal-inside}
 use Rattle.search.proofs.SegmentLaws.{SegmentSizeFacts, segment-size-facts}
-use Rattle.search.proofs.Turning.{childAt, Moves, all-turns}
+use Rattle.search.proofs.Turning.{childAt, Moves, set-turns}
 
 pub record Terms : Type 0 where
   pub kind : ℕ
   pub n : ℕ
   pub wanted : List ℤ
+  pub groups : ℕ
   pub S : ℕ
   pub C : ℕ
 
 -- those of a job, and of Begin's arguments
 abbrev pub termsOf : Job → Terms
-termsOf job = record { kind = job .kind; n = job .n; wanted = job .wanted; S = job .size; C = job .room }
+termsOf job = record { kind = job .kind; n = job .n; wanted = job .wanted; groups = job .groups; S = job .size; C = job .room }
 
-abbrev pub termsWith : ℕ → ℕ → List ℤ → ℕ → ℕ → Terms
-termsWith kind n wanted S C = record { kind = kind; n = n; wanted = wanted; S = S; C = C }
+abbrev pub termsWith : ℕ → ℕ → List ℤ → ℕ → ℕ → ℕ → Terms
+termsWith kind n wanted groups S C = record { kind = kind; n = n; wanted = wanted; groups = groups; S = S; C = C }
 
 abbrev pub N : Terms → ℕ
 N terms = stackCount (terms .kind) (terms .n)
@@ -55,7 +56,7 @@ abbrev pub lengthsOf : Terms → Lengths
 lengthsOf terms = rightLengths (terms .kind) (terms .n) (terms .S) (terms .C)
 
 abbrev pub moves : Terms → List ℕ
-moves terms = turnsOf (terms .kind) (terms .n)
+moves terms = turnsIn (terms .kind) (terms .n) (terms .groups)
 
 abbrev pub step : Terms → ℕ → ℕ → ℕ
 step terms = childAt (terms .kind) (terms .n)
@@ -77,6 +78,7 @@ pub record Given (terms : Terms) : Type 0 where
   pub is-kind : isKind (terms .kind) ≡ true
   pub in-range : isPaneCount (terms .kind) (terms .n) ≡ true
   pub stack : isStack (terms .kind) (terms .n) (terms .wanted) ≡ true
+  pub of-set : isGroupSet (terms .kind) (terms .n) (terms .groups) ≡ true
   pub segments : isSegmentSize (N terms) (terms .S) ≡ true
   pub room : isLogRoom (terms .C) ≡ true
 
@@ -91,7 +93,7 @@ module _ {terms : Terms} (given : Given terms) where
   few = sizes .few
 
   pub laws : Moves (terms .kind) (terms .n) (moves terms)
-  laws = all-turns (terms .kind) (terms .n) (given .in-range)
+  laws = set-turns (terms .kind) (terms .n) (given .in-range) (terms .groups)
 
   pub depths : Depths (N terms) (moves terms) (step terms) (goal terms) beyond (D terms)
   depths = move-depths (terms .kind) (terms .n) (terms .wanted) beyond (given .in-range) (given .stack) laws (omega arith)

@@ -7,14 +7,16 @@ use Prim.Native.Nat.{ℕ, suc, _-_, _<_, _≤_}
 use native.Mathlib.Nat.{le-trans}
 use native.Mathlib.Omega.{arith}
 use lib.IntN.{ℤ}
-use lib.ListN.{length}
+use lib.ListN.{length, getD}
 use Rattle.base.specs.Words.{all}
 use Rattle.base.proofs.Tests.{and-left, and-right, same-test}
 use Rattle.graph.specs.Walks.{walk, isMove, Walk, Graph}
-use Rattle.graph.proofs.Moves.{isMove-from, from-isMove}
+use Rattle.graph.proofs.Moves.{isMove-from, from-isMove, listed-move, filter-move}
+use Rattle.base.proofs.Counting.{at-all}
+use Rattle.base.proofs.Lists.{length-filter}
 use Rattle.stacks.specs.Stack.{stackPlaces, isPaneCount, isStack, stackCount}
 use Rattle.stacks.specs.Index.{rankOf, stackAt}
-use Rattle.stacks.specs.Turn.{firstTurn, lastTurn, isTurn, turnsOf, undoOf, turnOf, turnsFrom, RoadBy}
+use Rattle.stacks.specs.Turn.{firstTurn, lastTurn, isTurn, turnsOf, lifts, turnsIn, undoOf, turnOf, turnsFrom, RoadBy}
 use Rattle.stacks.proofs.KindLaws.{panes-twelve}
 use Rattle.stacks.proofs.Numbering.{rank-lt, rank-injective, unrank-stack, rank-unrank, unrank-rank}
 use Rattle.stacks.proofs.TurnLaws.{turn-first, turn-last, turn-between, turns-count, undo-turn, turn-undone, turned-stack}
@@ -57,6 +59,21 @@ module _ (kind n : ℕ) (in-range : isPaneCount kind n ≡ true) where
         undone = λ k m. turn-move kind n (undoOf kind k) (undo-turn kind n in-range k (move-turn kind n k m));
         few = le-trans (turns-count kind n) (panes-twelve kind n in-range);
       }
+
+  -- and so are the turns of a set: each turn undoes itself, so that what undoes one is there too
+  pub set-turns : (groups : ℕ) → Moves kind n (turnsIn kind n groups)
+  unfolding turnsIn undoOf
+  set-turns groups =
+      record {
+        turns = λ k m. move-turn kind n k (filter-move (lifts groups) (turnsOf kind n) k m);
+        undone = λ k m. m;
+        few = le-trans (length-filter (lifts groups) (turnsOf kind n)) (all-turns .few);
+      }
+
+  pub each-turn : (groups : ℕ) → all (isTurn kind n) (turnsIn kind n groups) ≡ true
+  each-turn groups =
+      at-all (isTurn kind n) (turnsIn kind n groups) 0
+      (λ i h. set-turns groups .turns (getD (turnsIn kind n groups) i 0) (listed-move (turnsIn kind n groups) i h))
 
   -- a child of a stack's index is the index of the turned stack
   pub child-rank : (k : ℕ) (s : List ℤ) → isStack kind n s ≡ true → childAt kind n k (rankOf kind n s) ≡ rankOf kind n (turnOf kind k s)

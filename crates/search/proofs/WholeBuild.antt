@@ -1,4 +1,4 @@
--- The whole-build theorem by some turns: demands 2 and 3, for every list of calls of a build.
+-- The whole-build theorem: demands 2 and 3 by any set, for every list of calls after an accepted Begin.
 use mathlib.Core.Path.{_≡_, refl, sym, ap, _∙_, subst}
 use mathlib.Core.Logic.{_⊎_, inl, inr}
 use mathlib.Core.Bool.{true, false, false≢true}
@@ -9,7 +9,7 @@ use native.Mathlib.Omega.{arith}
 use lib.ListN.{length, getD, set}
 use lib.Seq.{set-getD}
 use Rattle.base.proofs.Tests.{test-cases, not-is-false, never, eq-or-ne}
-use Rattle.graph.specs.Walks.{isMove}
+use Rattle.search.specs.Begin.{begun}
 use Rattle.search.specs.Build.{World, Lengths, Call, CarriesOn, own, other, doBlank, doExpand, doSettle, doLook, doClose, withJob, withSegment, lent, kept, isOwn, isLentOwn, outcome, after, passes, empties, changes}
 use Rattle.search.specs.Close.{closeRefusal}
 use Rattle.search.specs.Drive.{hasEnded}
@@ -17,21 +17,23 @@ use Rattle.search.specs.JobState.{isBlanking, isLevel, isFinished, level
 use Rattle.search.specs.Logs.{logPart, indexesOf, pending}
 use Rattle.search.specs.Marks.{Marks, markAll, marksFrom, markedJob}
 use Rattle.search.specs.Promise.{Continues, FinishedByClose}
-use Rattle.search.specs.PromiseBy.{Needs, FinishesBy, AtEnd, PromiseBy}
+use Rattle.search.specs.PromiseBy.{Needs, FinishesBy, AtEnd, PromiseBy, WholeBuildBy}
 use Rattle.search.specs.Settle.{settleRefusal}
 use Rattle.search.specs.declared.Answer.{Answer}
 use Rattle.search.specs.declared.Phase.{Phase}
 use Rattle.search.specs.declared.Phase.the-variants.{Blanking, Level, Finished}
 use Rattle.search.proofs.Accepted.{blank-facts, expand-facts, settle-facts, close-facts, settle-accepted, blank-phase, expand-phase, settle-phase}
 use Rattle.search.proofs.Advancing.{ended-cases, invariant-advances}
+use Rattle.search.proofs.BlankKeeps.{begun-invariant}
 use Rattle.search.proofs.CloseKeeps.{last-searches, last-deep, last-passed, last-settled}
+use Rattle.search.proofs.Coherence.{begin-given}
 use Rattle.search.proofs.Finishing.{depth-needs, ended-finishes}
 use Rattle.search.proofs.Invariant.{Invariant, InPhase, blanking, searching, ended}
 use Rattle.search.proofs.Refused.{refusalOf, refusal-is, refused-same, accepted-own}
 use Rattle.search.proofs.Shapes.{segments-is, stacks-is}
 use Rattle.search.proofs.Steps.{step-keeps, after-keeps}
 use Rattle.search.proofs.WorkLeft.{workLeft}
-use Rattle.search.proofs.Terms.{Terms, Given, N, moves, lengthsOf}
+use Rattle.search.proofs.Terms.{Terms, termsWith, Given, N, lengthsOf}
 
 -- ---- what has finished stays so
 
@@ -214,7 +216,7 @@ module _ {terms : Terms} (given : Given terms) {w : World} (invariant : Invarian
       go (inl e) = own-still call (sym (refusal-is w call) ∙ e) (accepted-own (invariant .shaped) call e)
       go (inr ne) = refused-same w call ne
 
-  pub at-end : AtEnd (terms .kind) (terms .n) (isMove (moves terms)) (terms .wanted) (lengthsOf terms) w
+  pub at-end : AtEnd (terms .kind) (terms .n) (terms .groups) (terms .wanted) (lengthsOf terms) w
   unfolding refusalOf
   at-end =
       record {
@@ -258,26 +260,26 @@ module _ {terms : Terms} (given : Given terms) where
           let r = rest (outcome w call .world) (step-keeps given invariant call) (omega (arith, a .falls)) in
           (call ∷ r .0, r .1)
 
-  abbrev NeedsLast : Type 0
-  NeedsLast = Needs (terms .kind) (terms .n) (isMove (moves terms)) (terms .wanted) lastLevel
+  abbrev pub NeedsLast : Type 0
+  NeedsLast = Needs (terms .kind) (terms .n) (terms .groups) (terms .wanted) lastLevel
 
   module _ {w : World} (invariant : Invariant terms w) where
-    pub finishes-is : isFinished (w .job .phase) ≡ true → FinishesBy (terms .kind) (terms .n) (isMove (moves terms)) (terms .wanted) w
+    pub finishes-is : isFinished (w .job .phase) ≡ true → FinishesBy (terms .kind) (terms .n) (terms .groups) (terms .wanted) w
     unfolding isFinished
     finishes-is h = go (invariant .phase)
       where
         go : InPhase terms w
-            → FinishesBy (terms .kind) (terms .n) (isMove (moves terms)) (terms .wanted) w
+            → FinishesBy (terms .kind) (terms .n) (terms .groups) (terms .wanted) w
         go (blanking s) = never h (ap isFinished (s .phase-is))
         go (searching d s) = never h (ap isFinished (s .phase-is))
         go (ended d s) = ended-finishes given (invariant .shaped) s
 
     levels-is : (d : ℕ) → w .job .phase ≡ Level d
-        → (1 ≤ d) × (d ≤ lastLevel) × Needs (terms .kind) (terms .n) (isMove (moves terms)) (terms .wanted) (d - 1)
+        → (1 ≤ d) × (d ≤ lastLevel) × Needs (terms .kind) (terms .n) (terms .groups) (terms .wanted) (d - 1)
     unfolding levelOf isLevel
     levels-is d e = go (invariant .phase)
       where
-        go : InPhase terms w → (1 ≤ d) × (d ≤ lastLevel) × Needs (terms .kind) (terms .n) (isMove (moves terms)) (terms .wanted) (d - 1)
+        go : InPhase terms w → (1 ≤ d) × (d ≤ lastLevel) × Needs (terms .kind) (terms .n) (terms .groups) (terms .wanted) (d - 1)
         go (blanking s) = never (ap isLevel e) (ap isLevel (s .phase-is))
         go (searching f s) =
             let same : f ≡ d = sym (ap levelOf (s .phase-is)) ∙ ap levelOf e in
@@ -295,38 +297,38 @@ module _ {terms : Terms} (given : Given terms) where
         (λ e. let f = finishes-is e in omega (arith, f .greatest (s .0) lastLevel (s .1) (s .2), f .below))
 
     continues-is : isFinished (w .job .phase) ≡ false
-        → (Continues (lengthsOf terms) w) ⊎ (AtEnd (terms .kind) (terms .n) (isMove (moves terms)) (terms .wanted) (lengthsOf terms) w)
+        → (Continues (lengthsOf terms) w) ⊎ (AtEnd (terms .kind) (terms .n) (terms .groups) (terms .wanted) (lengthsOf terms) w)
     continues-is u = go (test-cases (hasEnded (w .job)))
       where
         stands : (isFinished (w .job .phase) ≡ true) ⊎ (closeRefusal (w .job) ≡ 14)
-            → AtEnd (terms .kind) (terms .n) (isMove (moves terms)) (terms .wanted) (lengthsOf terms) w
+            → AtEnd (terms .kind) (terms .n) (terms .groups) (terms .wanted) (lengthsOf terms) w
         stands (inl e) = never e u
         stands (inr e) = at-end given invariant e
 
         go : (hasEnded (w .job) ≡ true) ⊎ (hasEnded (w .job) ≡ false)
-            → (Continues (lengthsOf terms) w) ⊎ (AtEnd (terms .kind) (terms .n) (isMove (moves terms)) (terms .wanted) (lengthsOf terms) w)
+            → (Continues (lengthsOf terms) w) ⊎ (AtEnd (terms .kind) (terms .n) (terms .groups) (terms .wanted) (lengthsOf terms) w)
         go (inl e) = inr (stands (ended-cases (w .job) e))
         go (inr e) = inl (invariant-advances given invariant e .next)
 
     -- an ended build has finished where no stack is that deep, and stands at the other end where one is
-    ended-finished : hasEnded (w .job) ≡ true → (NeedsLast → ⊥) → isFinished (w .job .phase) ≡ true
+    pub ended-finished : hasEnded (w .job) ≡ true → (NeedsLast → ⊥) → isFinished (w .job .phase) ≡ true
     ended-finished h none = go (ended-cases (w .job) h)
       where
         go : (isFinished (w .job .phase) ≡ true) ⊎ (closeRefusal (w .job) ≡ 14) → isFinished (w .job .phase) ≡ true
         go (inl e) = e
         go (inr e) = absurd (none (at-end given invariant e .deep))
 
-    ended-stands : hasEnded (w .job) ≡ true → NeedsLast → AtEnd (terms .kind) (terms .n) (isMove (moves terms)) (terms .wanted) (lengthsOf terms) w
+    pub ended-stands : hasEnded (w .job) ≡ true → NeedsLast → AtEnd (terms .kind) (terms .n) (terms .groups) (terms .wanted) (lengthsOf terms) w
     ended-stands h s = go (ended-cases (w .job) h)
       where
         go : (isFinished (w .job .phase) ≡ true) ⊎ (closeRefusal (w .job) ≡ 14)
-            → AtEnd (terms .kind) (terms .n) (isMove (moves terms)) (terms .wanted) (lengthsOf terms) w
+            → AtEnd (terms .kind) (terms .n) (terms .groups) (terms .wanted) (lengthsOf terms) w
         go (inl e) = never e (unfinished-is s)
         go (inr e) = at-end given invariant e
 
   -- the claim, of a build from a world that keeps the invariant and has not finished
-  pub promise-by : {start : World} → Invariant terms start → isFinished (start .job .phase) ≡ false → (calls : List (Call (lengthsOf terms)))
-      → PromiseBy (terms .kind) (terms .n) (isMove (moves terms)) (terms .wanted) (lengthsOf terms) start calls
+  promise-by : {start : World} → Invariant terms start → isFinished (start .job .phase) ≡ false → (calls : List (Call (lengthsOf terms)))
+      → PromiseBy (terms .kind) (terms .n) (terms .groups) (terms .wanted) (lengthsOf terms) start calls
   unfolding refusalOf
   promise-by {start} begins unfinished calls =
       let w : World = after start calls in
@@ -345,8 +347,13 @@ module _ {terms : Terms} (given : Given terms) where
         never-finished = unfinished-is invariant;
         stands = λ s. (
           end .0,
-          subst (AtEnd (terms .kind) (terms .n) (isMove (moves terms)) (terms .wanted) (lengthsOf terms)) (sym (joins (end .0))) (ended-stands last (end .1) s),
+          subst (AtEnd (terms .kind) (terms .n) (terms .groups) (terms .wanted) (lengthsOf terms)) (sym (joins (end .0))) (ended-stands last (end .1) s),
         );
         stays = λ more h. ap (λ (x : World). isFinished (x .job .phase)) (joins more ∙ finished-stays w more h) ∙ h;
         stays-at-end = λ more e. joins more ∙ still-stays w (e .still) more;
       }
+
+pub whole-build-by : WholeBuildBy
+unfolding WholeBuildBy begun isFinished
+whole-build-by kind n wanted groups S C segments log accepted buffers calls =
+    promise-by (begin-given kind n wanted groups S C accepted) (begun-invariant kind n wanted groups S C segments log buffers) refl calls

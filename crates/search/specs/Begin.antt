@@ -13,12 +13,13 @@ use Rattle.search.specs.declared.Job.{Job}
 use Rattle.search.specs.declared.Phase.the-variants.{Blanking}
 
 -- a job in Blanking with all passed and waiting numbers and counts 0
-unfoldable pub begun : ℕ → ℕ → List ℤ → ℕ → ℕ → Job
-begun kind n wanted S C =
+unfoldable pub begun : ℕ → ℕ → List ℤ → ℕ → ℕ → ℕ → Job
+begun kind n wanted groups S C =
     record {
       kind = kind;
       n = n;
       wanted = wanted;
+      groups = groups;
       size = S;
       room = C;
       phase = Blanking;
@@ -28,7 +29,7 @@ begun kind n wanted S C =
     }
 
 -- refused, a job of zeros, of which every later call says 7
-unfoldable pub beginOf : ℕ → ℕ → List ℤ → ℕ → ℕ → Answer
-beginOf kind n wanted S C =
-    let r = beginRefusal kind n wanted S C in
-    record { refusal = r; job = cond (eqb r 0) (begun kind n wanted S C) (begun 0 0 (replicate stackPlaces (pos 0)) 0 0) }
+unfoldable pub beginOf : ℕ → ℕ → List ℤ → ℕ → ℕ → ℕ → Answer
+beginOf kind n wanted groups S C =
+    let r = beginRefusal kind n wanted groups S C in
+    record { refusal = r; job = cond (eqb r 0) (begun kind n wanted groups S C) (begun 0 0 (replicate stackPlaces (pos 0)) 0 0 0) }

@@ -19,7 +19,8 @@ use Rattle.search.specs.Build.{World, Lengths, Call, own, doBlank, doExp
 use Rattle.search.specs.Close.{closeRefusal}
 use Rattle.search.specs.Entries.{bytesFor}
 use Rattle.search.specs.JobState.{lastLevel, beginRefusal, stackCountOf, segmentCountOf, stackCountAt, passedOf, waitingOf, isBlanking, isFinished}
-use Rattle.search.specs.Promise.{rightWords, rightLengths, Finishes}
+use Rattle.search.specs.Promise.{rightWords, rightLengths}
+use Rattle.search.specs.PromiseBy.{Needs, FinishesBy, AtEnd}
 use Rattle.search.specs.Segments.{segmentCount, stackCountIn, joined}
 use Rattle.search.specs.declared.Answer.{Answer}
 use Rattle.search.specs.declared.Job.{Job}
@@ -83,32 +84,32 @@ laid w = (joined (w .segments), w .log, w .job)
 -- ---- Build the whole table
 
 -- Begin's refusals, then 10 for the table, 10 for the log area
-unfoldable pub buildRefusal : ℕ → ℕ → List ℤ → ℕ → ℕ → ℕ → ℕ → ℕ
-buildRefusal kind n wanted S C bytes words =
-    let r = beginRefusal kind n wanted S C in
+unfoldable pub buildRefusal : ℕ → ℕ → List ℤ → ℕ → ℕ → ℕ → ℕ → ℕ → ℕ
+buildRefusal kind n wanted groups S C bytes words =
+    let r = beginRefusal kind n wanted groups S C in
     cond (eqb r 0)
     (unless (eqb bytes (bytesFor (stackCount kind n))) 10 (unless (eqb words (rightWords kind n S C)) 10 0))
     r
 
-module _ (kind n : ℕ) (wanted : List ℤ) (S C : ℕ) (table log : List ℕ) where
+module _ (kind n : ℕ) (wanted : List ℤ) (groups S C : ℕ) (table log : List ℕ) where
   -- the world in which the build ends
   unfoldable pub built : World
   built =
-      drive (mostCalls (stackCount kind n) (segmentCount (stackCount kind n) S)) (held (begun kind n wanted S C) table log)
+      drive (mostCalls (stackCount kind n) (segmentCount (stackCount kind n) S)) (held (begun kind n wanted groups S C) table log)
 
   -- refused, the buffers as they were, and the job of zeros that a refused Begin answers
   unfoldable pub buildOf : List ℕ × List ℕ × Answer
   buildOf =
-      let r = buildRefusal kind n wanted S C (length table) (length log) in
+      let r = buildRefusal kind n wanted groups S C (length table) (length log) in
       let end = built in
       cond (eqb r 0)
       (joined (end .segments), end .log, record { refusal = 0; job = end .job })
-      (table, log, record { refusal = r; job = begun 0 0 (replicate stackPlaces (pos 0)) 0 0 })
+      (table, log, record { refusal = r; job = begun 0 0 (replicate stackPlaces (pos 0)) 0 0 0 })
 
-  -- not refused, it ends, in a finished build, and the buffers keep their lengths
+  -- not refused, it ends: in a finished build, or at the other end where some stack needs exactly 255 turns; the buffers keep their lengths
   pub record Builds : Type 0 where
     pub leaves : buildOf ≡ (joined (built .segments), built .log, record { refusal = 0; job = built .job })
-    pub finished : isFinished (built .job .phase) ≡ true
-    pub finishes : Finishes kind n wanted built
+    pub finishes : (Needs kind n groups wanted lastLevel → ⊥) → (isFinished (built .job .phase) ≡ true) × FinishesBy kind n groups wanted built
+    pub stands : Needs kind n groups wanted lastLevel → AtEnd kind n groups wanted (rightLengths kind n S C) built
     pub table-length : length (joined (built .segments)) ≡ length table
     pub log-length : length (built .log) ≡ length log

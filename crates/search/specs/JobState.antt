@@ -1,7 +1,7 @@
 -- The job: what its fields mean, and when it is coherent (document 01, "The job").
---   beginRefusal   of kind, n, wanted stack, S and C: what Begin is given
+--   beginRefusal   of kind, n, wanted stack, set of group sizes, S and C: what Begin is given
 --   stackCountAt   m of segment j
---   movesOf        the moves that make children: the turns of its kind and n, rising
+--   movesOf        the moves that make children: the turns of its set, rising
 --   progressed     the job with another phase, passed, waiting and counts
 use mathlib.Core.Bool.{Bool, true, false, _&&_, cond}
 use mathlib.Core.List.{List}
@@ -12,7 +12,7 @@ use lib.ListN.{getD}
 use Rattle.base.specs.Words.{unless, all, from}
 use Rattle.stacks.specs.Stack.{isStack, stackCount}
 use Rattle.stacks.specs.Operations.{kindRefusal}
-use Rattle.stacks.specs.Turn.{turnsOf}
+use Rattle.stacks.specs.Turn.{isGroupSet, turnsIn}
 use Rattle.search.specs.Segments.{segmentLimit, segmentCount, stackCountIn, isSegmentSize, isLogRoom}
 use Rattle.search.specs.declared.Job.{Job}
 use Rattle.search.specs.declared.Phase.{Phase}
@@ -21,19 +21,20 @@ use Rattle.search.specs.declared.Phase.the-variants.{Blanking, Level, Fi
 -- the limits: the last level that is searched, the places that the counts of the levels take, and the most that a count may be in a
 -- coherent job
 abbrev pub lastLevel : ℕ
-lastLevel = 31
+lastLevel = 255
 
 abbrev pub countPlaces : ℕ
-countPlaces = 32
+countPlaces = 256
 
 unfoldable pub countLimit : ℕ
 countLimit = 2 ^ 60
 
--- Begin's refusals: 1, 2, 3 for the wanted stack, 5 for S, 6 for C
-unfoldable pub beginRefusal : ℕ → ℕ → List ℤ → ℕ → ℕ → ℕ
-beginRefusal kind n wanted S C =
+-- Begin's refusals: 1, 2, 3 for the wanted stack, 21 for the set, 5 for S, 6 for C
+unfoldable pub beginRefusal : ℕ → ℕ → List ℤ → ℕ → ℕ → ℕ → ℕ
+beginRefusal kind n wanted groups S C =
     kindRefusal kind n
-    (unless (isStack kind n wanted) 3 (unless (isSegmentSize (stackCount kind n) S) 5 (unless (isLogRoom C) 6 0)))
+    (unless (isStack kind n wanted) 3
+    (unless (isGroupSet kind n groups) 21 (unless (isSegmentSize (stackCount kind n) S) 5 (unless (isLogRoom C) 6 0))))
 
 -- N, G and m of the job
 unfoldable pub stackCountOf : Job → ℕ
@@ -49,7 +50,7 @@ unfoldable pub logLength : Job → ℕ
 logLength job = segmentCountOf job * job .room
 
 abbrev pub movesOf : Job → List ℕ
-movesOf job = turnsOf (job .kind) (job .n)
+movesOf job = turnsIn (job .kind) (job .n) (job .groups)
 
 unfoldable pub passedOf : Job → ℕ → ℕ
 passedOf job j = getD (job .passed) j 0
@@ -81,7 +82,7 @@ levelOf Blanking = 0
 levelOf (Level d) = d
 levelOf (Finished d) = d
 
--- d is 1 to 31, deepest 0 to 30
+-- d is 1 to 255, deepest 0 to 254
 unfoldable pub phaseFits : Phase → Bool
 phaseFits Blanking = true
 phaseFits (Level d) = leb 1 d && leb d lastLevel
@@ -96,7 +97,7 @@ countFits count = leb count countLimit
 
 unfoldable pub isCoherent : Job → Bool
 isCoherent job =
-    eqb (beginRefusal (job .kind) (job .n) (job .wanted) (job .size) (job .room)) 0
+    eqb (beginRefusal (job .kind) (job .n) (job .wanted) (job .groups) (job .size) (job .room)) 0
     && phaseFits (job .phase)
     && all (segmentFits job) (from 0 segmentLimit)
     && all countFits (job .counts)
@@ -107,6 +108,7 @@ progressed job phase passed waiting counts =
       kind = job .kind;
       n = job .n;
       wanted = job .wanted;
+      groups = job .groups;
       size = job .size;
       room = job .room;
       phase = phase;

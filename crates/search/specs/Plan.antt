@@ -8,14 +8,14 @@ use lib.ListN.{length, drop}
 use Rattle.base.specs.Words.{unless}
 use Rattle.stacks.specs.Index.{rankOf}
 use Rattle.stacks.specs.Stack.{isStack, stackCount}
-use Rattle.stacks.specs.Turn.{turnOf, turnsOf}
+use Rattle.stacks.specs.Turn.{isGroupSet, turnsIn, turnOf}
 use Rattle.stacks.specs.Operations.{kindRefusal}
 use Rattle.search.specs.Entries.{bytesFor, entryAt, unseen, nextEntry}
 use Rattle.search.specs.declared.Planned.{Planned}
 
 -- as many turns as a plan may have, and as the list must hold
 abbrev pub planLimit : ℕ
-planLimit = 30
+planLimit = 254
 
 -- a plan in the making: the stack that it has come to, and its turns so far
 pub record Route : Type 0 where
@@ -56,29 +56,31 @@ module _ (kind n : ℕ) (table : List ℕ) where
       unfoldable pub routeFrom : List ℤ → Route
       routeFrom given = planRun planLimit (record { stack = given; turns = [] })
 
-      -- 15 when the given stack's entry is 3, the wanted entry is not 0, no k leads on or 30 turns do not suffice
+      -- 15 when the wanted entry is not 0, no k leads on or 254 turns do not suffice
       unfoldable pub hasPlan : List ℤ → Bool
-      hasPlan given =
-          not (eqb (entryOf given) unseen) && eqb (entryOf wanted) 0 && isWanted (routeFrom given .stack)
+      hasPlan given = eqb (entryOf wanted) 0 && isWanted (routeFrom given .stack)
 
--- 1, 2, 3 for the wanted stack, 3 for the given one, 10 for the table, 10 for the turn list, and then the rest
-unfoldable pub planRow : ℕ → ℕ → List ℤ → List ℤ → ℕ → ℕ → ℕ → ℕ
-planRow kind n wanted given bytes slots rest =
+-- 1, 2, 3 for the wanted stack, 3 for the given one, 21 for the set, 10 for the table, 10 for the turn list, and then the rest
+unfoldable pub planRow : ℕ → ℕ → List ℤ → List ℤ → ℕ → ℕ → ℕ → ℕ → ℕ
+planRow kind n wanted given groups bytes slots rest =
     kindRefusal kind n
     (unless (isStack kind n wanted) 3
     (unless (isStack kind n given) 3
-    (unless (eqb bytes (bytesFor (stackCount kind n))) 10 (unless (leb planLimit slots) 10 rest))))
+    (unless (isGroupSet kind n groups) 21
+    (unless (eqb bytes (bytesFor (stackCount kind n))) 10 (unless (leb planLimit slots) 10 rest)))))
 
--- then 15, and then the rest
-unfoldable pub planRefusal : ℕ → ℕ → List ℤ → List ℤ → List ℕ → ℕ → ℕ → ℕ
-planRefusal kind n wanted given table slots rest =
-    planRow kind n wanted given (length table) slots (unless (hasPlan kind n table wanted (turnsOf kind n) given) 15 rest)
+-- then 20 when the given stack's entry is 3, then 15, and then the rest
+unfoldable pub planRefusal : ℕ → ℕ → List ℤ → List ℤ → ℕ → List ℕ → ℕ → ℕ → ℕ
+planRefusal kind n wanted given groups table slots rest =
+    planRow kind n wanted given groups (length table) slots
+    (unless (not (eqb (entryOf kind n table given) unseen)) 20
+    (unless (hasPlan kind n table wanted (turnsIn kind n groups) given) 15 rest))
 
--- the moves are all turns, rising, so that the first is the smallest k; the bytes of the list past the plan are unchanged
-unfoldable pub planOf : ℕ → ℕ → List ℤ → List ℤ → List ℕ → List ℕ → List ℕ × Planned
-planOf kind n wanted given table list =
-    let r = planRefusal kind n wanted given table (length list) 0 in
-    let turns = routeFrom kind n table wanted (turnsOf kind n) given .turns in
+-- the moves are the turns of the set, rising, so that the first is the smallest k; the bytes of the list past the plan are unchanged
+unfoldable pub planOf : ℕ → ℕ → List ℤ → List ℤ → ℕ → List ℕ → List ℕ → List ℕ × Planned
+planOf kind n wanted given groups table list =
+    let r = planRefusal kind n wanted given groups table (length list) 0 in
+    let turns = routeFrom kind n table wanted (turnsIn kind n groups) given .turns in
     cond (eqb r 0)
     (turns ++ drop (length turns) list, record { refusal = 0; turns = length turns })
     (list, record { refusal = r; turns = 0 })

@@ -1,16 +1,17 @@
--- What we promise of a build: demands 2 and 3, as one claim about every list of calls after an accepted Begin.
+-- What we promise of a build by all turns: demands 2 and 3, as one claim about every list of calls after a Begin that was given the full set.
+-- PromiseBy has the claim for any set, from which this one follows.
 -- It speaks of stacks, turns and roads; Fewest is that of the turning rules, with both ends as arguments.
 use mathlib.Core.Path.{_≡_}
 use mathlib.Core.Bool.{true, false}
 use mathlib.Core.List.{List, [], _∷_, _++_}
-use Prim.Native.Nat.{ℕ, _+_, _*_, _%_, _≤_, _<_}
+use Prim.Native.Nat.{ℕ, suc, _+_, _*_, _%_, _≤_, _<_}
 use lib.IntN.{ℤ}
 use lib.ListN.{length, getD, take}
 use Rattle.base.specs.Words.{total}
 use Rattle.stacks.specs.Counts.{CountsAt}
 use Rattle.stacks.specs.Index.{rankOf}
 use Rattle.stacks.specs.Stack.{isStack, stackCount}
-use Rattle.stacks.specs.Turn.{Road, Fewest}
+use Rattle.stacks.specs.Turn.{allGroups, Road, Fewest}
 use Rattle.search.specs.Begin.{begun}
 use Rattle.search.specs.Build.{World, Lengths, Call, outcome, after, isLentOwn, CarriesOn, doClose}
 use Rattle.search.specs.Entries.{entryAt, seenIn, bytesFor}
@@ -30,15 +31,20 @@ rightWords kind n S C = segmentCount (stackCount kind n) S * C
 abbrev pub rightLengths : ℕ → ℕ → ℕ → ℕ → Lengths
 rightLengths kind n S C = record { bytes = rightBytes kind n S; words = rightWords kind n S C }
 
--- Plan as a finished build is asked for it: the job's own kind, n and wanted stack, and its segments joined
+-- Plan as a finished build is asked for it: the job's own kind, n, wanted stack and set, and its segments joined
 abbrev pub planIn : World → List ℤ → List ℕ → List ℕ × Planned
-planIn w given list = planOf (w .job .kind) (w .job .n) (w .job .wanted) given (joined (w .segments)) list
+planIn w given list = planOf (w .job .kind) (w .job .n) (w .job .wanted) given (w .job .groups) (joined (w .segments)) list
+
+-- as many turns as any stack needs at most
+abbrev pub mostTurns : ℕ
+mostTurns = 30
 
 -- it refuses no stack, arrives, and no road is shorter
 pub record Plans (w : World) (given : List ℤ) (list : List ℕ) : Type 0 where
   pub accepts : planIn w given list .1 .refusal ≡ 0
   pub arrives : Road (w .job .kind) (w .job .n) (take (planIn w given list .1 .turns) (planIn w given list .0)) given (w .job .wanted)
   pub shortest : Fewest (w .job .kind) (w .job .n) given (w .job .wanted) (planIn w given list .1 .turns)
+  pub few : planIn w given list .1 .turns ≤ mostTurns
 
 -- a finished build of the table of a wanted stack
 pub record Finishes (kind n : ℕ) (wanted : List ℤ) (w : World) : Type 0 where
@@ -55,10 +61,11 @@ pub record Finishes (kind n : ℕ) (wanted : List ℤ) (w : World) : Type 0 wher
   -- the deepest level is the greatest of all fewest turns
   pub deepest : (s : List ℤ) × (isStack kind n s ≡ true) × Fewest kind n s wanted (levelOf (w .job .phase))
   pub greatest : (s : List ℤ) (d : ℕ) → isStack kind n s ≡ true → Fewest kind n s wanted d → d ≤ levelOf (w .job .phase)
-  -- Plan gets the job's own kind, n and wanted stack
+  -- Plan gets the job's own kind, n, wanted stack and set
   pub given-kind : w .job .kind ≡ kind
   pub given-n : w .job .n ≡ n
   pub given-wanted : w .job .wanted ≡ wanted
+  pub given-groups : w .job .groups ≡ allGroups kind n
   pub plans : (given : List ℤ) (list : List ℕ) → isStack kind n given ≡ true → planLimit ≤ length list → Plans w given list
 
 -- some call, lent what it should get, is not refused and carries the build on
@@ -85,8 +92,8 @@ pub record Promise (kind n : ℕ) (wanted : List ℤ) (right : Lengths) (start :
   pub since-close : FinishedByClose start calls → isFinished (after start calls .job .phase) ≡ true
   pub finishes : isFinished (after start calls .job .phase) ≡ true → Finishes kind n wanted (after start calls)
   pub continues : isFinished (after start calls .job .phase) ≡ false → Continues right (after start calls)
-  -- no list brings the job past the last level, or has a Close refused 14
-  pub levels : (d : ℕ) → after start calls .job .phase ≡ Level d → d ≤ lastLevel
+  -- no list brings the job past level 31, or has a Close refused 14
+  pub levels : (d : ℕ) → after start calls .job .phase ≡ Level d → d ≤ suc mostTurns
   pub closes : outcome {right = right} (after start calls) doClose .refusal ≡ 14 → ⊥
   -- every list can be continued to one that has finished; what has finished stays so
   pub ends : (more : List (Call right)) × (isFinished (after start (calls ++ more) .job .phase) ≡ true)
@@ -99,20 +106,12 @@ pub record Buffers (kind n S C : ℕ) (segments : List (List ℕ)) (log : List �
   pub each : (j : ℕ) → j < segmentCount (stackCount kind n) S → length (getD segments j []) ≡ rightBytes kind n S j
   pub area : length log ≡ rightWords kind n S C
 
--- demands 2 and 3: whatever kind, n, wanted stack, S, C, buffers and list of calls
+-- demands 2 and 3: whatever kind, n, wanted stack, S, C, buffers and list of calls, where all turns make children
 unfoldable pub WholeBuild : Type 0
 WholeBuild =
     (kind n : ℕ) (wanted : List ℤ) (S C : ℕ) (segments : List (List ℕ)) (log : List ℕ)
-    → beginRefusal kind n wanted S C ≡ 0
+    → beginRefusal kind n wanted (allGroups kind n) S C ≡ 0
     → Buffers kind n S C segments log
     → (calls : List (Call (rightLengths kind n S C)))
     → Promise kind n wanted (rightLengths kind n S C)
-    (record { job = begun kind n wanted S C; segments = segments; log = log }) calls
-
--- an accepted plan arrives, also from a spoilt table: as many turns from the front of the list as Plan answers, at most 30
-unfoldable pub PlanArrives : Type 0
-PlanArrives =
-    (kind n : ℕ) (wanted given : List ℤ) (table list : List ℕ)
-    → planOf kind n wanted given table list .1 .refusal ≡ 0
-    → (let out = planOf kind n wanted given table list in
-    Road kind n (take (out .1 .turns) (out .0)) given wanted × (out .1 .turns ≤ planLimit))
+    (record { job = begun kind n wanted (allGroups kind n) S C; segments = segments; log = log }) calls

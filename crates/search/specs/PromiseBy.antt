@@ -1,73 +1,87 @@
--- The claim of a build by some turns of its kind and n, those that a test lets by. A stack may then have no road to the wanted one, and a
--- stack may need as many turns as the last level has. What we promise by all turns (Promise) follows from it.
+-- What we promise of a build by any set of group sizes: demands 2 and 3 as document 02 restates them, for every list of calls after an
+-- accepted Begin. A stack may have no road to the wanted one by the turns of the set, and a stack may need 255 turns. What we promise by all
+-- turns (Promise) follows from it.
+--   RoadIn       turns of the set that take one stack to another; FewestIn and CountsIn, by these
 --   NoRoad       no list of these turns takes the stack to the wanted one
+--   Needs        some stack needs exactly as many
 --   EntryBy      what an entry says of its stack
 --   FinishesBy   a finished build: its table, its counts, its deepest level and its plans
 --   AtEnd        the other end of a build: the last level, searched whole, has stacks
---   PromiseBy    the claim, for one list of calls
+--   PromiseBy    the claim, for one list of calls; WholeBuildBy, for every set and list
 use mathlib.Core.Path.{_≡_}
 use mathlib.Core.Logic.{_⊎_}
-use mathlib.Core.Bool.{Bool, true, false}
+use mathlib.Core.Bool.{true, false}
 use mathlib.Core.List.{List, _++_}
 use Prim.Native.Nat.{ℕ, _-_, _*_, _%_, _≤_, _<_}
 use lib.IntN.{ℤ}
 use lib.ListN.{length, take}
 use Rattle.base.specs.Words.{total}
+use Rattle.graph.specs.Walks.{isMove}
 use Rattle.stacks.specs.Counts.{CountsBy}
 use Rattle.stacks.specs.Index.{rankOf}
 use Rattle.stacks.specs.Stack.{isStack, stackCount}
-use Rattle.stacks.specs.Turn.{RoadBy, FewestBy}
+use Rattle.stacks.specs.Turn.{turnsIn, RoadBy, FewestBy}
+use Rattle.search.specs.Begin.{begun}
 use Rattle.search.specs.Build.{World, Lengths, Call, outcome, after, CarriesOn, doClose}
 use Rattle.search.specs.Entries.{entryAt, seenIn}
-use Rattle.search.specs.JobState.{segmentCountOf, stackCountAt, passedOf, waitingOf, countOf, isFinished, levelOf, lastLevel}
-use Rattle.search.specs.Plan.{planLimit}
-use Rattle.search.specs.Promise.{planIn, Continues, FinishedByClose}
+use Rattle.search.specs.JobState.{beginRefusal, segmentCountOf, stackCountAt, passedOf, waitingOf, countOf, isFinished, levelOf, lastLevel}
+use Rattle.search.specs.Plan.{planLimit, planOf}
+use Rattle.search.specs.Promise.{rightLengths, planIn, Continues, FinishedByClose, Buffers}
 use Rattle.search.specs.Segments.{joined}
 use Rattle.search.specs.declared.Phase.the-variants.{Level}
 
-module _ (kind n : ℕ) (isMove : ℕ → Bool) (wanted : List ℤ) where
+abbrev pub RoadIn : ℕ → ℕ → ℕ → List ℕ → List ℤ → List ℤ → Type 0
+RoadIn kind n groups = RoadBy kind (isMove (turnsIn kind n groups))
+
+abbrev pub FewestIn : ℕ → ℕ → ℕ → List ℤ → List ℤ → ℕ → Type 0
+FewestIn kind n groups = FewestBy kind (isMove (turnsIn kind n groups))
+
+abbrev pub CountsIn : ℕ → ℕ → ℕ → List ℤ → ℕ → ℕ → Type 0
+CountsIn kind n groups = CountsBy kind n (isMove (turnsIn kind n groups))
+
+module _ (kind n groups : ℕ) (wanted : List ℤ) where
   abbrev pub NoRoad : List ℤ → Type 0
-  NoRoad s = (ks : List ℕ) → RoadBy kind isMove ks s wanted → ⊥
+  NoRoad s = (ks : List ℕ) → RoadIn kind n groups ks s wanted → ⊥
 
   -- the fewest turns modulo 3, or 3 where there is no road, and only there
   abbrev pub EntryBy : List ℤ → ℕ → Type 0
-  EntryBy s entry = ((d : ℕ) × FewestBy kind isMove s wanted d × (entry ≡ d % 3)) ⊎ (NoRoad s × (entry ≡ 3))
+  EntryBy s entry = ((d : ℕ) × FewestIn kind n groups s wanted d × (entry ≡ d % 3)) ⊎ (NoRoad s × (entry ≡ 3))
 
   -- some stack needs exactly d turns
   abbrev pub Needs : ℕ → Type 0
-  Needs d = (s : List ℤ) × (isStack kind n s ≡ true) × FewestBy kind isMove s wanted d
+  Needs d = (s : List ℤ) × (isStack kind n s ≡ true) × FewestIn kind n groups s wanted d
 
-  -- Plan refuses it not, arrives, and no road is shorter
+  -- Plan accepts the stack, arrives, and no road is shorter
   pub record PlansBy (w : World) (given : List ℤ) (list : List ℕ) : Type 0 where
     pub accepts : planIn w given list .1 .refusal ≡ 0
-    pub arrives : RoadBy kind isMove (take (planIn w given list .1 .turns) (planIn w given list .0)) given wanted
-    pub shortest : FewestBy kind isMove given wanted (planIn w given list .1 .turns)
+    pub arrives : RoadIn kind n groups (take (planIn w given list .1 .turns) (planIn w given list .0)) given wanted
+    pub shortest : FewestIn kind n groups given wanted (planIn w given list .1 .turns)
 
   pub record FinishesBy (w : World) : Type 0 where
     pub entries : (s : List ℤ) → isStack kind n s ≡ true → EntryBy s (entryAt (joined (w .segments)) (rankOf kind n s))
     pub spare : (i : ℕ) → stackCount kind n ≤ i → i < 4 * length (joined (w .segments)) → entryAt (joined (w .segments)) i ≡ 3
     -- each level count is the number of stacks at exactly that many turns, and 0 past the deepest
-    pub counts : (d : ℕ) → d ≤ lastLevel → CountsBy kind n isMove wanted d (countOf (w .job) d)
+    pub counts : (d : ℕ) → d ≤ lastLevel → CountsIn kind n groups wanted d (countOf (w .job) d)
     pub past : (d : ℕ) → levelOf (w .job .phase) < d → countOf (w .job) d ≡ 0
     -- the counts add up to the number of entries other than 3
     pub added : total (w .job .counts) ≡ seenIn (joined (w .segments)) (stackCount kind n)
     -- the deepest level is the greatest of all fewest turns, and below the last
     pub deepest : Needs (levelOf (w .job .phase))
-    pub greatest : (s : List ℤ) (d : ℕ) → isStack kind n s ≡ true → FewestBy kind isMove s wanted d → d ≤ levelOf (w .job .phase)
+    pub greatest : (s : List ℤ) (d : ℕ) → isStack kind n s ≡ true → FewestIn kind n groups s wanted d → d ≤ levelOf (w .job .phase)
     pub below : levelOf (w .job .phase) < lastLevel
-    -- Plan gets the job's own kind, n and wanted stack
+    -- Plan gets the job's own kind, n, wanted stack and set
     pub given-kind : w .job .kind ≡ kind
     pub given-n : w .job .n ≡ n
     pub given-wanted : w .job .wanted ≡ wanted
-    -- a stack that has a road has its shortest plan, and one that has none is refused
+    pub given-groups : w .job .groups ≡ groups
+    -- a stack that has a road has its shortest plan, and one that has none is refused 20
     pub plans : (given : List ℤ) (list : List ℕ) → isStack kind n given ≡ true → planLimit ≤ length list
-        → (ks : List ℕ) → RoadBy kind isMove ks given wanted → PlansBy w given list
+        → (ks : List ℕ) → RoadIn kind n groups ks given wanted → PlansBy w given list
     pub refuses : (given : List ℤ) (list : List ℕ) → isStack kind n given ≡ true → planLimit ≤ length list
-        → NoRoad given → planIn w given list .1 .refusal ≡ 15
+        → NoRoad given → planIn w given list .1 .refusal ≡ 20
 
   module _ (right : Lengths) where
-    -- all is passed and settled, Close says 14, no call carries the build on or changes it, and some stack needs as many turns as the
-    -- last level says
+    -- Level 255 with all passed and settled: Close says 14, no call carries the build on or changes it, and some stack needs 255 turns
     pub record AtEnd (w : World) : Type 0 where
       pub level : w .job .phase ≡ Level lastLevel
       pub passed : (j : ℕ) → j < segmentCountOf (w .job) → passedOf (w .job) j ≡ stackCountAt (w .job) j
@@ -87,7 +101,7 @@ module _ (kind n : ℕ) (isMove : ℕ → Bool) (wanted : List ℤ) where
       pub closes : outcome {right = right} (after start calls) doClose .refusal ≡ 14 → AtEnd (after start calls)
       -- a level is searched where the one before has stacks, and none past the last
       pub levels : (d : ℕ) → after start calls .job .phase ≡ Level d → (1 ≤ d) × (d ≤ lastLevel) × Needs (d - 1)
-      -- where no stack needs as many turns as the last level says, every list can be continued to a finished build
+      -- where no stack needs exactly 255 turns, every list can be continued to a finished build
       pub ends : (Needs lastLevel → ⊥)
           → (more : List (Call right)) × (isFinished (after start (calls ++ more) .job .phase) ≡ true)
       -- where one does, no list finishes, and every list can be continued to the other end
@@ -97,3 +111,21 @@ module _ (kind n : ℕ) (isMove : ℕ → Bool) (wanted : List ℤ) where
       pub stays : (more : List (Call right)) → isFinished (after start calls .job .phase) ≡ true
           → isFinished (after start (calls ++ more) .job .phase) ≡ true
       pub stays-at-end : (more : List (Call right)) → AtEnd (after start calls) → after start (calls ++ more) ≡ after start calls
+
+-- demands 2 and 3: whatever kind, n, wanted stack, set, S, C, buffers and list of calls
+unfoldable pub WholeBuildBy : Type 0
+WholeBuildBy =
+    (kind n : ℕ) (wanted : List ℤ) (groups S C : ℕ) (segments : List (List ℕ)) (log : List ℕ)
+    → beginRefusal kind n wanted groups S C ≡ 0
+    → Buffers kind n S C segments log
+    → (calls : List (Call (rightLengths kind n S C)))
+    → PromiseBy kind n groups wanted (rightLengths kind n S C)
+    (record { job = begun kind n wanted groups S C; segments = segments; log = log }) calls
+
+-- an accepted plan arrives, also from a spoilt table: as many turns from the front of the list as Plan answers, at most 254
+unfoldable pub PlanArrives : Type 0
+PlanArrives =
+    (kind n : ℕ) (wanted given : List ℤ) (groups : ℕ) (table list : List ℕ)
+    → planOf kind n wanted given groups table list .1 .refusal ≡ 0
+    → (let out = planOf kind n wanted given groups table list in
+    RoadIn kind n groups (take (out .1 .turns) (out .0)) given wanted × (out .1 .turns ≤ planLimit))

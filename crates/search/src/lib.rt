@@ -15,13 +15,13 @@ pub const LEAST_ROOM: u32 = 16;
 
 pub const MOST_ROOM: u32 = 1048576;
 
-pub const LAST_LEVEL: u8 = 31;
+pub const LAST_LEVEL: u8 = 255;
 
-pub const COUNT_PLACES: usize = 32;
+pub const COUNT_PLACES: usize = 256;
 
 pub const COUNT_LIMIT: u64 = 1152921504606846976;
 
-pub const PLAN_LIMIT: usize = 30;
+pub const PLAN_LIMIT: usize = 254;
 
 // A phase carries its own level: the one being searched, or the deepest.
 pub enum Phase {
@@ -30,18 +30,19 @@ pub enum Phase {
     Finished(u8),
 }
 
-// A build. size is document 01's S, room its C.
+// A build. groups is the set of group sizes that the frame lifts, size k as its bit of weight 2^(k - 1); size is document 01's S, room its C.
 pub struct Job {
     pub kind: u8,
     pub n: u8,
     pub wanted: [i8; PLACES],
+    pub groups: u32,
     pub size: u32,
     pub room: u32,
     pub phase: Phase,
     // Of each segment: its stacks passed in this phase (scanned), and its log entries waiting (pending).
     pub passed: [u32; SEGMENT_LIMIT],
     pub waiting: [u32; SEGMENT_LIMIT],
-    // Of each level: how many stacks are at exactly that many turns.
+    // Of each level: how many stacks are at exactly that many turns of the set.
     pub counts: [u64; COUNT_PLACES],
 }
 

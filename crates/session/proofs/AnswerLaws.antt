@@ -13,7 +13,7 @@ use Rattle.search.specs.declared.Planned.{Planned}
 use Rattle.frames.specs.Frame.{laterOf}
 use Rattle.frames.specs.Output.{planLine, refusalLine}
 use Rattle.frames.specs.Written.{Wrote}
-use Rattle.session.specs.Report.{planText, laterText}
+use Rattle.session.specs.Report.{reportGroups, planText, laterText}
 
 -- what was written is the text under another name
 pub wrote-same : (text other before after : List ℕ) (r : ℕ) → text ≡ other → Wrote text before after r → Wrote other before after r
@@ -30,7 +30,7 @@ abbrev planSaid : List ℕ × Planned → List ℕ
 planSaid out = cond (eqb (out .1 .refusal) 0) (planLine (take (out .1 .turns) (out .0))) (refusalLine (out .1 .refusal))
 
 module _ (kind n : ℕ) (wanted : List ℤ) (table : List ℕ) where
-  module _ (given : List ℤ) (list : List ℕ) (planned : Planned) (e : _≡_ {A = List ℕ × Planned} (list, planned) (planOf kind n wanted given table (replicate planLimit 0))) where
+  module _ (given : List ℤ) (list : List ℕ) (planned : Planned) (e : _≡_ {A = List ℕ × Planned} (list, planned) (planOf kind n wanted given (reportGroups kind n) table (replicate planLimit 0))) where
     pub plan-refused : (planned .refusal ≡ 0 → ⊥) → refusalLine (planned .refusal) ≡ planText kind n wanted table given
     unfolding planText
     plan-refused h = refused-line (planned .refusal) (planLine (take (planned .turns) list)) h ∙ ap planSaid e

@@ -10,6 +10,7 @@ use lib.ListN.{take, drop, replicate}
 use borrow.Author.Tests.{leb-true}
 use Rattle.base.proofs.Lists.{take-replicate}
 use Rattle.base.proofs.Tests.{and-left, and-right, and-fails-right}
+use Rattle.stacks.specs.Turn.{allGroups}
 use Rattle.stacks.specs.Stack.{isPaneCount, stackCount}
 use Rattle.search.specs.Drive.{buildOf}
 use Rattle.search.specs.Entries.{bytesFor}
@@ -17,7 +18,7 @@ use Rattle.search.specs.Segments.{segmentCount, isSegmentSize}
 use Rattle.search.specs.declared.Answer.{Answer}
 use Rattle.search.proofs.SegmentLaws.{segment-size-facts}
 use Rattle.frames.specs.Frame.{stackLimit, tableLimit, reportRoom}
-use Rattle.session.specs.Report.{isReported, tableBytes, logWords, builtIn}
+use Rattle.session.specs.Report.{isReported, reportGroups, tableBytes, logWords, builtIn}
 use Rattle.session.specs.Reader.{logLimit}
 
 pub reported-panes : (kind n : ℕ) → isReported kind n ≡ true → isPaneCount kind n ≡ true
@@ -35,6 +36,14 @@ reported-none kind n h = rw h
 pub reported-some : (kind n count : ℕ) → isPaneCount kind n ≡ true → count ≡ stackCount kind n → leb count stackLimit ≡ isReported kind n
 unfolding isReported
 reported-some kind n count h e = rw (h, e)
+
+pub groups-none : (kind n : ℕ) → isReported kind n ≡ false → 0 ≡ reportGroups kind n
+unfolding reportGroups
+groups-none kind n h = rw h
+
+pub groups-some : (kind n : ℕ) → isReported kind n ≡ true → reportGroups kind n ≡ allGroups kind n
+unfolding reportGroups
+groups-some kind n h = rw h
 
 pub table-none : (kind n : ℕ) → isReported kind n ≡ false → 0 ≡ tableBytes kind n
 unfolding tableBytes
@@ -64,14 +73,15 @@ log-some kind n S segments h t e = (rw (e, h, t), omega (arith, segment-size-fac
 -- ---- what is lent of what there is
 
 -- a build in the parts that are lent leaves what the definition says
-pub built-is : (kind n : ℕ) (wanted : List ℤ) (S : ℕ) (table part log : List ℕ) (answer : Answer) (bytes words : ℕ)
+pub built-is : (kind n : ℕ) (wanted : List ℤ) (S : ℕ) (table part log : List ℕ) (answer : Answer) (groups bytes words : ℕ) → groups ≡ reportGroups kind n
     → bytes ≡ tableBytes kind n → words ≡ logWords kind n S → words ≤ logLimit
-    → (part, log, answer) ≡ buildOf kind n wanted S reportRoom (take bytes table) (take words (replicate logLimit 0))
+    → (part, log, answer) ≡ buildOf kind n wanted groups S reportRoom (take bytes table) (take words (replicate logLimit 0))
     → (part ++ drop bytes table, answer .job) ≡ builtIn kind n wanted S table
 unfolding builtIn
-built-is kind n wanted S table part log answer bytes words b w l h =
+built-is kind n wanted S table part log answer groups bytes words g b w l h =
     ap₂ (λ (x : List ℕ × List ℕ × Answer) (rest : List ℕ). (x .0 ++ rest, x .2 .job))
     (h
-    ∙ ap₂ (buildOf kind n wanted S reportRoom) (ap (λ (j : ℕ). take j table) b)
+    ∙ ap (λ (x : ℕ). buildOf kind n wanted x S reportRoom (take bytes table) (take words (replicate logLimit 0))) g
+    ∙ ap₂ (buildOf kind n wanted (reportGroups kind n) S reportRoom) (ap (λ (j : ℕ). take j table) b)
     (take-replicate words logLimit 0 l ∙ ap (λ (j : ℕ). replicate j 0) w))
     (ap (λ (j : ℕ). drop j table) b)

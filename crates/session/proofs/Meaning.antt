@@ -17,16 +17,17 @@ use Rattle.base.proofs.Tests.{unless-zero, and-left, and-right, and-both, lt-or
 use Rattle.stacks.specs.Counts.{CountsAt}
 use Rattle.stacks.specs.Index.{rankOf, allStacks}
 use Rattle.stacks.specs.Stack.{stackPlaces, isPaneCount, isStack, stackCount}
-use Rattle.stacks.specs.Turn.{isTurn, turnsOf, Road, Fewest}
+use Rattle.stacks.specs.Turn.{isTurn, turnsIn, allGroups, Road, Fewest}
 use Rattle.stacks.proofs.Numbering.{rank-lt}
-use Rattle.stacks.proofs.TurnBound.{road-bound, turn-bound-30}
+use Rattle.stacks.proofs.GroupLaws.{all-groups}
 use Rattle.stacks.proofs.TurnLaws.{turn-last}
 use Rattle.search.specs.Build.{World}
-use Rattle.search.specs.Drive.{buildRefusal, built, Builds}
+use Rattle.search.specs.Drive.{buildRefusal, built, buildOf, Builds}
 use Rattle.search.specs.Entries.{bytesFor}
 use Rattle.search.specs.JobState.{lastLevel, countOf, levelOf}
 use Rattle.search.specs.Plan.{planOf, planLimit, planRefusal, routeFrom}
-use Rattle.search.specs.Promise.{rightWords, Plans, Finishes, PlanArrives}
+use Rattle.search.specs.Promise.{rightWords, Plans, Finishes}
+use Rattle.search.specs.PromiseBy.{PlanArrives}
 use Rattle.search.specs.Segments.{segmentCount, isLogRoom, joined}
 use Rattle.search.specs.declared.Answer.{Answer}
 use Rattle.search.specs.declared.Job.{Job}
@@ -35,15 +36,16 @@ use Rattle.search.proofs.AllStacks.{all-stacks-length, all-stacks-each}
 use Rattle.search.proofs.Coherence.{given-begin}
 use Rattle.search.proofs.Terms.{termsWith, Given}
 use Rattle.search.proofs.Finishing.{plan-arrives}
-use Rattle.search.proofs.WholeTable.{build-finishes}
+use Rattle.search.proofs.WholeTable.{build-ends, build-finishes}
+use Rattle.search.proofs.AllTurns.{few-turns}
 use Rattle.frames.specs.Frame.{stackLimit, tableLimit, reportRoom, isFrame, placesOf, kindIn, panesIn, wantedIn, sizeIn, firstWith, firstRefusal, firstOf, laterRefusal, laterOf}
 use Rattle.frames.specs.Hex.{isByte, bytesOf, fourBytes}
 use Rattle.frames.specs.Output.{levelLine, levelsFrom, levelLines, deepestLine, planLine, refusalLine}
 use Rattle.frames.proofs.FrameRefusals.{FirstPasses, first-passes, later-passes}
 use Rattle.frames.proofs.HexLaws.{number-four, line-says}
-use Rattle.session.specs.Report.{isReported, tableBytes, logWords, builtIn, headText, planText, laterTexts, reportFrom, reportOf}
+use Rattle.session.specs.Report.{isReported, reportGroups, tableBytes, logWords, builtIn, headText, planText, laterTexts, reportFrom, reportOf}
 use Rattle.session.specs.Promise.{Answers, Reports}
-use Rattle.session.proofs.LentLaws.{table-some, log-some}
+use Rattle.session.proofs.LentLaws.{groups-some, table-some, log-some}
 use Rattle.session.proofs.AnswerLaws.{plan-accepted, later-accepted, later-refused}
 
 -- as many turns are answered as stand at the front of the list
@@ -54,12 +56,12 @@ front-count : (t : Bool) (r : ℕ) (turns list : List ℕ)
 front-count true r turns list = ap length (take-append-seam turns (drop (length turns) list))
 front-count false r turns list = refl
 
-plan-count : (kind n : ℕ) (wanted given : List ℤ) (table list : List ℕ)
-    → (let out = planOf kind n wanted given table list in length (take (out .1 .turns) (out .0)) ≡ out .1 .turns)
+plan-count : (kind n : ℕ) (wanted given : List ℤ) (groups : ℕ) (table list : List ℕ)
+    → (let out = planOf kind n wanted given groups table list in length (take (out .1 .turns) (out .0)) ≡ out .1 .turns)
 unfolding planOf
-plan-count kind n wanted given table list =
-    let r = planRefusal kind n wanted given table (length list) 0 in
-    front-count (eqb r 0) r (routeFrom kind n table wanted (turnsOf kind n) given .turns) list
+plan-count kind n wanted given groups table list =
+    let r = planRefusal kind n wanted given groups table (length list) 0 in
+    front-count (eqb r 0) r (routeFrom kind n table wanted (turnsIn kind n groups) given .turns) list
 
 later-stack : (kind n : ℕ) (cs : List ℕ) → laterRefusal kind n cs ≡ 0 → laterOf kind n cs .stack ≡ placesOf (bytesOf cs)
 unfolding laterOf
@@ -86,19 +88,22 @@ unfolding all isByte
 plan-fits kind n turns h l t =
     and-both (ltb (length turns) 256) (all isByte turns) (lt-ltb (length turns) 256 (omega arith)) (turns-fit kind n turns h t)
 
-module _ (kind n : ℕ) (wanted : List ℤ) (table : List ℕ) where
-  -- Plan's promise, of a table
-  pub record PlansIn (given : List ℤ) : Type 0 where
-    pub accepts : planOf kind n wanted given table (replicate planLimit 0) .1 .refusal ≡ 0
-    pub arrives : (let out = planOf kind n wanted given table (replicate planLimit 0) in Road kind n (take (out .1 .turns) (out .0)) given wanted)
-    pub shortest : Fewest kind n given wanted (planOf kind n wanted given table (replicate planLimit 0) .1 .turns)
+-- Plan's promise, of a set and a table
+pub record PlansIn (kind n : ℕ) (wanted : List ℤ) (groups : ℕ) (table : List ℕ) (given : List ℤ) : Type 0 where
+  pub accepts : planOf kind n wanted given groups table (replicate planLimit 0) .1 .refusal ≡ 0
+  pub arrives : (let out = planOf kind n wanted given groups table (replicate planLimit 0) in Road kind n (take (out .1 .turns) (out .0)) given wanted)
+  pub shortest : Fewest kind n given wanted (planOf kind n wanted given groups table (replicate planLimit 0) .1 .turns)
 
-  answers : (cs : List ℕ) → laterRefusal kind n cs ≡ 0 → PlansIn (placesOf (bytesOf cs)) → Answers kind n wanted table cs
+module _ (kind n : ℕ) (wanted : List ℤ) (table : List ℕ) where
+  abbrev groups : ℕ
+  groups = reportGroups kind n
+
+  answers : (cs : List ℕ) → laterRefusal kind n cs ≡ 0 → PlansIn kind n wanted groups table (placesOf (bytesOf cs)) → Answers kind n wanted table cs
   unfolding laterOf PlanArrives
   answers cs h p =
       let given = placesOf (bytesOf cs) in
-      let out = planOf kind n wanted given table (replicate planLimit 0) in
-      let count = plan-count kind n wanted given table (replicate planLimit 0) in
+      let out = planOf kind n wanted given groups table (replicate planLimit 0) in
+      let count = plan-count kind n wanted given groups table (replicate planLimit 0) in
       record {
         turns = take (out .1 .turns) (out .0);
         text = sym (later-accepted kind n wanted table cs (laterOf kind n cs) refl h)
@@ -107,23 +112,25 @@ module _ (kind n : ℕ) (wanted : List ℤ) (table : List ℕ) where
         arrives = p .arrives;
         shortest = subst (Fewest kind n given wanted) (sym count) (p .shortest);
         fit = plan-fits kind n (take (out .1 .turns) (out .0)) (later-passes kind n cs h .2)
-            (rw count (plan-arrives kind n wanted given table (replicate planLimit 0) (p .accepts) .1)) (p .arrives .turns);
+            (rw count (plan-arrives kind n wanted given groups table (replicate planLimit 0) (p .accepts) .1)) (p .arrives .turns);
       }
 
-plans-in : (w : World) (kind n : ℕ) (wanted given : List ℤ) → w .job .kind ≡ kind → w .job .n ≡ n → w .job .wanted ≡ wanted
-    → Plans w given (replicate planLimit 0) → PlansIn kind n wanted (joined (w .segments)) given
-plans-in w kind n wanted given a b c p =
-    subst (λ k. PlansIn k n wanted (joined (w .segments)) given) a
-    (subst (λ m. PlansIn (w .job .kind) m wanted (joined (w .segments)) given) b
-    (subst (λ v. PlansIn (w .job .kind) (w .job .n) v (joined (w .segments)) given) c
-    (record { accepts = p .accepts; arrives = p .arrives; shortest = p .shortest })))
+plans-in : (w : World) (kind n : ℕ) (wanted : List ℤ) (groups : ℕ) (given : List ℤ) → w .job .kind ≡ kind → w .job .n ≡ n → w .job .wanted ≡ wanted
+    → w .job .groups ≡ groups → Plans w given (replicate planLimit 0) → PlansIn kind n wanted groups (joined (w .segments)) given
+plans-in w kind n wanted groups given a b c d p =
+    subst (λ k. PlansIn k n wanted groups (joined (w .segments)) given) a
+    (subst (λ m. PlansIn (w .job .kind) m wanted groups (joined (w .segments)) given) b
+    (subst (λ v. PlansIn (w .job .kind) (w .job .n) v groups (joined (w .segments)) given) c
+    (subst (λ g. PlansIn (w .job .kind) (w .job .n) (w .job .wanted) g (joined (w .segments)) given) d
+    (record { accepts = p .accepts; arrives = p .arrives; shortest = p .shortest }))))
 
 -- A later frame that is not refused is answered a road of fewest turns, from its stack to the wanted one.
-later-means : (w : World) (kind n : ℕ) (wanted : List ℤ) (cs : List ℕ) → Finishes kind n wanted w → laterRefusal kind n cs ≡ 0
+later-means : (w : World) (kind n : ℕ) (wanted : List ℤ) (cs : List ℕ) → isReported kind n ≡ true → Finishes kind n wanted w → laterRefusal kind n cs ≡ 0
     → Answers kind n wanted (joined (w .segments)) cs
-later-means w kind n wanted cs f h =
+later-means w kind n wanted cs reported f h =
     answers kind n wanted (joined (w .segments)) cs h
-    (plans-in w kind n wanted (placesOf (bytesOf cs)) (f .given-kind) (f .given-n) (f .given-wanted)
+    (plans-in w kind n wanted (reportGroups kind n) (placesOf (bytesOf cs)) (f .given-kind) (f .given-n) (f .given-wanted)
+    (f .given-groups ∙ sym (groups-some kind n reported))
     (f .plans (placesOf (bytesOf cs)) (replicate planLimit 0) (later-is-stack kind n cs h) (omega arith)))
 
 total-zeros : (xs : List ℕ) → ((i : ℕ) → getD xs i 0 ≡ 0) → total xs ≡ 0
@@ -159,9 +166,9 @@ module _ (cs table : List ℕ) (h : firstRefusal cs ≡ 0) (long : length table 
   passes : FirstPasses cs
   passes = first-passes cs h
 
-  given : Given (termsWith kind n wanted S reportRoom)
+  given : Given (termsWith kind n wanted (allGroups kind n) S reportRoom)
   unfolding isLogRoom
-  given = record { is-kind = passes .is-kind; in-range = passes .in-range; stack = passes .stack; segments = passes .segments; room = refl }
+  given = record { is-kind = passes .is-kind; in-range = passes .in-range; stack = passes .stack; of-set = all-groups kind n (passes .in-range); segments = passes .segments; room = refl }
 
   reported : isReported kind n ≡ true
   unfolding isReported
@@ -178,27 +185,29 @@ module _ (cs table : List ℕ) (h : firstRefusal cs ≡ 0) (long : length table 
   unfolding rightWords
   words-are = sym (log-some kind n S (segmentCount (stackCount kind n) S) reported (passes .segments) refl .0)
 
-  accepted : buildRefusal kind n wanted S reportRoom (length part) (length log) ≡ 0
+  accepted : buildRefusal kind n wanted (allGroups kind n) S reportRoom (length part) (length log) ≡ 0
   unfolding buildRefusal
   accepted =
       rw (
-        given-begin (termsWith kind n wanted S reportRoom) given,
+        given-begin (termsWith kind n wanted (allGroups kind n) S reportRoom) given,
         eq-eqb (length part) (bytesFor (stackCount kind n)) (part-length ∙ bytes-are),
         eq-eqb (length log) (rightWords kind n S reportRoom) (length-replicate (logWords kind n S) 0 ∙ words-are),
       )
 
-  builds : Builds kind n wanted S reportRoom part log
-  builds = build-finishes kind n wanted S reportRoom part log accepted
+  builds : Builds kind n wanted (allGroups kind n) S reportRoom part log
+  builds = build-ends kind n wanted (allGroups kind n) S reportRoom part log accepted
 
   abbrev end : World
-  end = built kind n wanted S reportRoom part log
+  end = built kind n wanted (allGroups kind n) S reportRoom part log
 
-  abbrev finishes : Finishes kind n wanted end
-  finishes = builds .finishes
+  finishes : Finishes kind n wanted end
+  finishes = build-finishes kind n wanted S reportRoom part log accepted .1
 
   built-end : builtIn kind n wanted S table ≡ (joined (end .segments) ++ drop (tableBytes kind n) table, end .job)
   unfolding builtIn
-  built-end = ap (λ (x : List ℕ × List ℕ × Answer). (x .0 ++ drop (tableBytes kind n) table, x .2 .job)) (builds .leaves)
+  built-end =
+      ap (λ (x : List ℕ × List ℕ × Answer). (x .0 ++ drop (tableBytes kind n) table, x .2 .job))
+      (ap (λ (g : ℕ). buildOf kind n wanted g S reportRoom part log) (groups-some kind n reported) ∙ builds .leaves)
 
   -- the part of the table that later frames are answered from
   table-is : take (tableBytes kind n) (builtIn kind n wanted S table .0) ≡ joined (end .segments)
@@ -214,8 +223,7 @@ module _ (cs table : List ℕ) (h : firstRefusal cs ≡ 0) (long : length table 
   deepest-low : deepest ≤ lastLevel
   deepest-low =
       let s = finishes .deepest in
-      let r = road-bound kind n (given .in-range) (s .0) wanted (s .1) (given .stack) in
-      omega (arith, s .2 .least (r .0) (r .1), r .2, turn-bound-30 kind n (given .in-range))
+      omega (arith, few-turns kind n wanted (given .in-range) (given .stack) (s .0) deepest (s .1) (s .2))
 
   counts-at : (d : ℕ) → d ≤ deepest → CountsAt kind n wanted d (countOf (end .job) d)
   counts-at d l = finishes .counts d (omega (arith, deepest-low))
@@ -289,7 +297,7 @@ module _ (cs table : List ℕ) (h : firstRefusal cs ≡ 0) (long : length table 
         reached = finishes .deepest;
         greatest = finishes .greatest;
         refused = λ ds ne. sym (later-refused kind n wanted (joined (end .segments)) ds (laterOf kind n ds) refl ne);
-        planned = λ ds z. later-means end kind n wanted ds finishes z;
+        planned = λ ds z. later-means end kind n wanted ds reported finishes z;
       }
 
 -- The report of an accepted first frame: its counts are the numbers of stacks at each distance, and its plans are shortest.

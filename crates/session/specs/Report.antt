@@ -1,5 +1,6 @@
 -- The report of an input (document 01, "The report"), by its lines.
 --   isReported              the kinds and numbers of panes that a report is made of
+--   reportGroups            the set of a report: every size
 --   tableBytes, logWords    how much of its table and log area the build of a first frame is lent
 --   headText job            the levels of a finished build and the deepest
 --   builtIn S table         the build of a first frame: the table that it leaves, and its job
@@ -11,6 +12,7 @@ use Prim.Native.Nat.{ℕ, _*_}
 use lib.Dec.{leb, eqb}
 use lib.IntN.{ℤ}
 use lib.ListN.{take, drop, replicate}
+use Rattle.stacks.specs.Turn.{allGroups}
 use Rattle.stacks.specs.Stack.{isPaneCount, stackCount}
 use Rattle.search.specs.Entries.{bytesFor}
 use Rattle.search.specs.Drive.{buildOf}
@@ -25,6 +27,9 @@ use Rattle.frames.specs.declared.First.{First}
 module _ (kind n : ℕ) where
   unfoldable pub isReported : Bool
   isReported = isPaneCount kind n && leb (stackCount kind n) stackLimit
+
+  unfoldable pub reportGroups : ℕ
+  reportGroups = cond isReported (allGroups kind n) 0
 
   unfoldable pub tableBytes : ℕ
   tableBytes = cond isReported (bytesFor (stackCount kind n)) 0
@@ -42,13 +47,13 @@ module _ (kind n : ℕ) (wanted : List ℤ) where
   unfoldable pub builtIn : ℕ → List ℕ → List ℕ × Job
   builtIn S table =
       let bytes = tableBytes kind n in
-      let end = buildOf kind n wanted S reportRoom (take bytes table) (replicate (logWords kind n S) 0) in
+      let end = buildOf kind n wanted (reportGroups kind n) S reportRoom (take bytes table) (replicate (logWords kind n S) 0) in
       (end .0 ++ drop bytes table, end .2 .job)
 
   -- the plan of a stack, or Plan's refusal
   unfoldable pub planText : List ℕ → List ℤ → List ℕ
   planText table given =
-      let out = planOf kind n wanted given table (replicate planLimit 0) in
+      let out = planOf kind n wanted given (reportGroups kind n) table (replicate planLimit 0) in
       cond (eqb (out .1 .refusal) 0) (planLine (take (out .1 .turns) (out .0))) (refusalLine (out .1 .refusal))
 
   -- the frame's refusal, or the plan of its stack

@@ -27,12 +27,14 @@ fn build_in(kind: u8, n: u8, wanted: [i8; PLACES], size: u32, table: &mut [u8]) 
     ensures { λ r. ⌜ (now (table .exit), r) ≡ builtIn kind n wanted size (now (table .entry)) ⌝ }
 {
     let mut log = [0u32; LOG_LIMIT];
+    let groups = lent::report_groups(kind, n);
     let bytes = lent::table_bytes(kind, n);
     let words = lent::log_words(kind, n, size);
     let answer = build::build::build_table(
         kind,
         n,
         wanted,
+        groups,
         size,
         REPORT_ROOM,
         &mut table[..bytes],

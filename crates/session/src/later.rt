@@ -2,6 +2,7 @@
 ghost use Rattle.frames.specs.Kept.{textOf};
 ghost use Rattle.frames.specs.Written.{Wrote};
 ghost use Rattle.session.specs.Report.{planText, laterText};
+use crate::lent;
 use frames::Line;
 use frames::TEXT_LIMIT;
 use frames::frame;
@@ -20,8 +21,9 @@ fn plan_text(
 ) -> usize
     ensures { λ r. ⌜ Wrote (planText kind n wanted (now (table .entry)) given) (now (out .entry)) (now (out .exit)) r ⌝ }
 {
+    let groups = lent::report_groups(kind, n);
     let mut turns = [0u8; PLAN_LIMIT];
-    let planned = plan::plan::plan(kind, n, wanted, given, table, &mut turns);
+    let planned = plan::plan::plan(kind, n, wanted, given, groups, table, &mut turns);
     if planned.refusal != 0 {
         return output::write_refusal(out, planned.refusal);
     }

@@ -1,11 +1,12 @@
-// How much of the report's table and log area a first frame uses: nothing of either where it is none of those that are accepted.
+// The set that a report uses, and how much of its table and log area: nothing of either where a first frame is none of those that are accepted.
 ghost use mathlib.Core.Path.{_≡_};
 ghost use Prim.Native.Nat.{_≤_};
 ghost use Rattle.frames.specs.Frame.{tableLimit};
-ghost use Rattle.session.specs.Report.{isReported, tableBytes, logWords};
+ghost use Rattle.session.specs.Report.{isReported, reportGroups, tableBytes, logWords};
 ghost use Rattle.session.specs.Reader.{logLimit};
 use frames::REPORT_ROOM;
 use frames::STACK_LIMIT;
+use perm::groups;
 use perm::kind;
 use twobit::segment;
 
@@ -16,6 +17,16 @@ fn is_reported(kind: u8, n: u8) -> bool
         return false;
     }
     kind::stack_count(kind, n) <= STACK_LIMIT
+}
+
+// Every size.
+pub(crate) fn report_groups(kind: u8, n: u8) -> u32
+    ensures { λ r. ⌜ r ≡ reportGroups kind n ⌝ }
+{
+    if !is_reported(kind, n) {
+        return 0;
+    }
+    groups::all_groups(kind, n)
 }
 
 pub(crate) fn table_bytes(kind: u8, n: u8) -> usize

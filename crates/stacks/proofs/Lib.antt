@@ -5,5 +5,6 @@ pub mod OrderLaws
 pub mod CoatLaws
 pub mod Numbering
 pub mod TurnLaws
+pub mod GroupLaws
 pub mod Roads
 pub mod TurnBound

@@ -1,12 +1,12 @@
 -- Turns: which there are, and what each does (document 01, "Stacks and turns"). A turn is a prefix reversal.
 use mathlib.Core.Path.{_≡_}
-use mathlib.Core.Bool.{Bool, true, _&&_, cond}
+use mathlib.Core.Bool.{Bool, true, not, _&&_, _||_, cond}
 use mathlib.Core.List.{List, [], _∷_, _++_, map, reverse}
-use Prim.Native.Nat.{ℕ, suc, _-_, _*_, _≤_}
-use lib.Dec.{leb}
+use Prim.Native.Nat.{ℕ, suc, _-_, _*_, _/_, _%_, _^_, _≤_}
+use lib.Dec.{leb, eqb}
 use lib.IntN.{ℤ, negℤ}
 use lib.ListN.{length, take, drop}
-use Rattle.base.specs.Words.{all, from}
+use Rattle.base.specs.Words.{all, filter, total, from}
 use Rattle.stacks.specs.Stack.{isCoated}
 
 -- the first and the last turn of a kind and n: plain from 2 to n, coated from 1 to n
@@ -22,6 +22,27 @@ isTurn kind n k = leb (firstTurn kind) k && leb k (lastTurn kind n)
 -- all turns, rising
 unfoldable pub turnsOf : ℕ → ℕ → List ℕ
 turnsOf kind n = from (firstTurn kind) (suc (lastTurn kind n) - firstTurn kind)
+
+-- a set of group sizes, those that a frame lifts, is a number: size k is its bit of weight 2^(k - 1)
+unfoldable pub lifts : ℕ → ℕ → Bool
+lifts groups k = eqb (groups / 2 ^ (k - 1) % 2) 1
+
+-- the sizes that a set has bits for are 1 to groupPlaces
+abbrev pub groupPlaces : ℕ
+groupPlaces = 32
+
+-- each size that it names is a turn, and it names one if there is one
+unfoldable pub isGroupSet : ℕ → ℕ → ℕ → Bool
+isGroupSet kind n groups =
+    all (λ k. not (lifts groups k) || isTurn kind n k) (from 1 groupPlaces)
+    && (not (eqb groups 0) || eqb (length (turnsOf kind n)) 0)
+
+-- the turns that it names, rising, and the set that names them all
+unfoldable pub turnsIn : ℕ → ℕ → ℕ → List ℕ
+turnsIn kind n groups = filter (lifts groups) (turnsOf kind n)
+
+unfoldable pub allGroups : ℕ → ℕ → ℕ
+allGroups kind n = total (map (λ k. 2 ^ (k - 1)) (turnsOf kind n))
 
 -- the turn that undoes turn k: each turn undoes itself
 unfoldable pub undoOf : ℕ → ℕ → ℕ

@@ -18,15 +18,15 @@ unfoldable pub costOf : (ℕ → ℕ) → List ℕ → ℕ
 costOf price turns = rounded (total (map price turns))
 
 -- Plan's refusals, and then 17, 18, 19: the sizes are those from 1 to the last turn of that kind and n
-unfoldable pub priceRefusal : ℕ → ℕ → List ℤ → List ℤ → List ℕ → ℕ → Tariff → ℕ
-priceRefusal kind n wanted given table slots tariff =
-    planRefusal kind n wanted given table slots (tariffRefusal (lastTurn kind n) tariff)
+unfoldable pub priceRefusal : ℕ → ℕ → List ℤ → List ℤ → ℕ → List ℕ → ℕ → Tariff → ℕ
+priceRefusal kind n wanted given groups table slots tariff =
+    planRefusal kind n wanted given groups table slots (tariffRefusal (lastTurn kind n) tariff)
 
 -- Plan's plan, its list and its number of turns, and what these turns cost; refused, the list as it was and zeros
-unfoldable pub priceOf : ℕ → ℕ → List ℤ → List ℤ → List ℕ → List ℕ → Tariff → List ℕ × Priced
-priceOf kind n wanted given table list tariff =
-    let r = priceRefusal kind n wanted given table (length list) tariff in
-    let plan = planOf kind n wanted given table list in
+unfoldable pub priceOf : ℕ → ℕ → List ℤ → List ℤ → ℕ → List ℕ → List ℕ → Tariff → List ℕ × Priced
+priceOf kind n wanted given groups table list tariff =
+    let r = priceRefusal kind n wanted given groups table (length list) tariff in
+    let plan = planOf kind n wanted given groups table list in
     cond (eqb r 0)
     (plan .0, record { refusal = 0; turns = plan .1 .turns; pennies = costOf (priceAt (tariffLines tariff)) (take (plan .1 .turns) (plan .0)) })
     (list, record { refusal = r; turns = 0; pennies = 0 })

@@ -1,7 +1,7 @@
 -- What we promise of Price and of tariffs, besides that Price is what its definition gives.
 --   PlanFirst        Plan's refusals come first, then 17, 18, 19
 --   PricePlans       the plan is Plan's
---   PriceFinished    after a finished build Price is refused for its tariff alone, and its plan is shortest
+--   PriceFinished    after a finished build Price of a stack that has a road is refused for its tariff alone, and its plan is shortest
 --   OnePriceEach     a tariff that is not refused gives each size exactly one price
 --   PricedTurns      so has each turn of an accepted plan
 --   RoundedOnce      the price is the sum, rounded once
@@ -16,12 +16,13 @@ use lib.IntN.{ℤ}
 use lib.ListN.{length, getD, take}
 use Rattle.base.specs.Words.{total}
 use Rattle.stacks.specs.Stack.{isStack}
-use Rattle.stacks.specs.Turn.{lastTurn, Road, Fewest}
+use Rattle.stacks.specs.Turn.{lastTurn}
 use Rattle.search.specs.Begin.{begun}
 use Rattle.search.specs.Build.{World, Call, after}
 use Rattle.search.specs.JobState.{beginRefusal, isFinished}
 use Rattle.search.specs.Plan.{planLimit, planOf}
 use Rattle.search.specs.Promise.{rightLengths, Buffers}
+use Rattle.search.specs.PromiseBy.{RoadIn, FewestIn, NoRoad}
 use Rattle.search.specs.Segments.{joined}
 use Rattle.search.specs.declared.Planned.{Planned}
 use Rattle.tariff.specs.Price.{costOf, priceOf}
@@ -35,9 +36,9 @@ use Rattle.tariff.specs.declared.Tariff.{Tariff}
 -- Plan's refusals come first; where it has none, the tariff's
 unfoldable pub PlanFirst : Type 0
 PlanFirst =
-    (kind n : ℕ) (wanted given : List ℤ) (table list : List ℕ) (tariff : Tariff)
-    → (let r = planOf kind n wanted given table list .1 .refusal in
-    priceOf kind n wanted given table list tariff .1 .refusal ≡ cond (eqb r 0) (tariffRefusal (lastTurn kind n) tariff) r)
+    (kind n : ℕ) (wanted given : List ℤ) (groups : ℕ) (table list : List ℕ) (tariff : Tariff)
+    → (let r = planOf kind n wanted given groups table list .1 .refusal in
+    priceOf kind n wanted given groups table list tariff .1 .refusal ≡ cond (eqb r 0) (tariffRefusal (lastTurn kind n) tariff) r)
 
 -- an outcome of Price without the price
 abbrev pub unpriced : List ℕ × Priced → List ℕ × Planned
@@ -46,35 +47,36 @@ unpriced out = (out .0, record { refusal = out .1 .refusal; turns = out .1 .turn
 -- whatever the arguments: where 17, 18 and 19 are not given, Price leaves and answers what Plan does
 unfoldable pub PricePlans : Type 0
 PricePlans =
-    (kind n : ℕ) (wanted given : List ℤ) (table list : List ℕ) (tariff : Tariff)
+    (kind n : ℕ) (wanted given : List ℤ) (groups : ℕ) (table list : List ℕ) (tariff : Tariff)
     → tariffRefusal (lastTurn kind n) tariff ≡ 0
-    → unpriced (priceOf kind n wanted given table list tariff) ≡ planOf kind n wanted given table list
+    → unpriced (priceOf kind n wanted given groups table list tariff) ≡ planOf kind n wanted given groups table list
 
--- Price as a finished build is asked for it: the job's own kind, n and wanted stack, and its segments joined
+-- Price as a finished build is asked for it: the job's own kind, n, wanted stack and set, and its segments joined
 abbrev pub priceIn : World → List ℤ → List ℕ → Tariff → List ℕ × Priced
-priceIn w given list tariff = priceOf (w .job .kind) (w .job .n) (w .job .wanted) given (joined (w .segments)) list tariff
+priceIn w given list tariff = priceOf (w .job .kind) (w .job .n) (w .job .wanted) given (w .job .groups) (joined (w .segments)) list tariff
 
 -- it is refused for its tariff alone; not refused, it arrives, and no road is shorter
-pub record Prices (w : World) (given : List ℤ) (list : List ℕ) (tariff : Tariff) : Type 0 where
-  pub refuses : priceIn w given list tariff .1 .refusal ≡ tariffRefusal (lastTurn (w .job .kind) (w .job .n)) tariff
+pub record Prices (kind n groups : ℕ) (wanted : List ℤ) (w : World) (given : List ℤ) (list : List ℕ) (tariff : Tariff) : Type 0 where
+  pub refuses : priceIn w given list tariff .1 .refusal ≡ tariffRefusal (lastTurn kind n) tariff
   pub arrives : priceIn w given list tariff .1 .refusal ≡ 0
-      → Road (w .job .kind) (w .job .n) (take (priceIn w given list tariff .1 .turns) (priceIn w given list tariff .0)) given (w .job .wanted)
-  pub shortest : priceIn w given list tariff .1 .refusal ≡ 0
-      → Fewest (w .job .kind) (w .job .n) given (w .job .wanted) (priceIn w given list tariff .1 .turns)
+      → RoadIn kind n groups (take (priceIn w given list tariff .1 .turns) (priceIn w given list tariff .0)) given wanted
+  pub shortest : priceIn w given list tariff .1 .refusal ≡ 0 → FewestIn kind n groups given wanted (priceIn w given list tariff .1 .turns)
 
--- whatever kind, n, wanted stack, S, C, buffers and list of calls have finished a build; for any stack, any turn list that 10 lets by and any tariff
+-- whatever kind, n, wanted stack, set, S, C, buffers and list of calls have finished a build; for any stack, any turn list that 10 lets by and
+-- any tariff: so it is where the stack has a road, and 20 where it has none
 unfoldable pub PriceFinished : Type 0
 PriceFinished =
-    (kind n : ℕ) (wanted : List ℤ) (S C : ℕ) (segments : List (List ℕ)) (log : List ℕ)
-    → beginRefusal kind n wanted S C ≡ 0
+    (kind n : ℕ) (wanted : List ℤ) (groups S C : ℕ) (segments : List (List ℕ)) (log : List ℕ)
+    → beginRefusal kind n wanted groups S C ≡ 0
     → Buffers kind n S C segments log
     → (calls : List (Call (rightLengths kind n S C)))
-    → (let w = after (record { job = begun kind n wanted S C; segments = segments; log = log }) calls in
+    → (let w = after (record { job = begun kind n wanted groups S C; segments = segments; log = log }) calls in
     isFinished (w .job .phase) ≡ true
     → (given : List ℤ) (list : List ℕ) (tariff : Tariff)
     → isStack kind n given ≡ true
     → planLimit ≤ length list
-    → Prices w given list tariff)
+    → ((ks : List ℕ) → RoadIn kind n groups ks given wanted → Prices kind n groups wanted w given list tariff)
+    × (NoRoad kind n groups wanted given → priceIn w given list tariff .1 .refusal ≡ 20))
 
 -- ---- what a tariff says of a size
 
@@ -99,8 +101,8 @@ OnePriceEach =
 -- so each turn of a plan that Price accepts has exactly one
 unfoldable pub PricedTurns : Type 0
 PricedTurns =
-    (kind n : ℕ) (wanted given : List ℤ) (table list : List ℕ) (tariff : Tariff)
-    → (let out = priceOf kind n wanted given table list tariff in
+    (kind n : ℕ) (wanted given : List ℤ) (groups : ℕ) (table list : List ℕ) (tariff : Tariff)
+    → (let out = priceOf kind n wanted given groups table list tariff in
     out .1 .refusal ≡ 0 → (i : ℕ) → i < out .1 .turns → OnePrice (tariffLines tariff) (getD (out .0) i 0))
 
 -- ---- what a plan costs
@@ -125,8 +127,8 @@ pub data Rearranged : List Line → List Line → Type 0 where
 -- Price leaves and answers the same by both, refusals too
 abbrev pub PricedAlike : Tariff → Tariff → Type 0
 PricedAlike one other =
-    (kind n : ℕ) (wanted given : List ℤ) (table list : List ℕ)
-    → priceOf kind n wanted given table list one ≡ priceOf kind n wanted given table list other
+    (kind n : ℕ) (wanted given : List ℤ) (groups : ℕ) (table list : List ℕ)
+    → priceOf kind n wanted given groups table list one ≡ priceOf kind n wanted given groups table list other
 
 unfoldable pub AnyOrder : Type 0
 AnyOrder =

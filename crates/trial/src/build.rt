@@ -2,6 +2,7 @@
 use crate::step;
 use job::begin;
 use job::phase;
+use perm::groups;
 use perm::kind;
 use perm::operations;
 use search::Answer;
@@ -14,6 +15,14 @@ pub fn stack_count(kind: u8, n: u8) -> u32 {
         return 0;
     }
     kind::stack_count(kind, n)
+}
+
+// The set of all group sizes that are turns; 0 where the kind or n is refused.
+pub fn all_groups(kind: u8, n: u8) -> u32 {
+    if operations::kind_refusal(kind, n) != 0 {
+        return 0;
+    }
+    groups::all_groups(kind, n)
 }
 
 // G; 0 where S is.
@@ -95,18 +104,19 @@ fn run_in(begun: Answer, order: u8, stacks: u32, table: &mut [u8], log: &mut [u3
     )
 }
 
-// A whole build. Refused as Begin is, and where a call of the build is.
+// A whole build by the turns of a set. Refused as Begin is, and where a call of the build is.
 pub fn build(
     kind: u8,
     n: u8,
     wanted: [i8; PLACES],
+    groups: u32,
     size: u32,
     room: u32,
     order: u8,
     table: &mut [u8],
     log: &mut [u32],
 ) -> Answer {
-    let begun = begin::begin(kind, n, wanted, size, room);
+    let begun = begin::begin(kind, n, wanted, groups, size, room);
     if begun.refusal != 0 {
         return begun;
     }

@@ -10,6 +10,12 @@ pub fn number(n: u64) {
     io::print_decimal(STDOUT_FILENO, n);
 }
 
+// Two hexadecimal digits.
+pub fn byte(b: u8) {
+    io::write_all(STDOUT_FILENO, b" ");
+    io::print_hex(STDOUT_FILENO, b as u64, 2);
+}
+
 // A word and its number.
 pub fn field(text: &[u8], n: u64) {
     io::write_all(STDOUT_FILENO, b" ");
@@ -28,6 +34,20 @@ pub fn kind_and_n(kind: u8, n: u8) {
         number(kind as u64);
     }
     number(n as u64);
+}
+
+// The sizes that a set of groups names.
+pub fn lifting(groups: u32) {
+    word(b" lifting");
+    let mut left = groups;
+    let mut k: u64 = 1;
+    while k <= 32 {
+        if left % 2 == 1 {
+            number(k);
+        }
+        left /= 2;
+        k += 1;
+    }
 }
 
 // What became of a call.

@@ -15,7 +15,7 @@ use Rattle.graph.proofs.Levels.{Level}
 use Rattle.stacks.specs.Index.{rankOf, stackAt, allStacks}
 use Rattle.stacks.specs.Order.{precedes}
 use Rattle.stacks.specs.Stack.{isPaneCount, isStack, stackCount}
-use Rattle.stacks.specs.Turn.{flip, turnOf, Road, turnBound}
+use Rattle.stacks.specs.Turn.{allGroups, flip, turnOf, Road, turnBound}
 use Rattle.stacks.proofs.Numbering
 use Rattle.stacks.proofs.TurnBound
 use Rattle.stacks.proofs.TurnLaws
@@ -23,7 +23,8 @@ use Rattle.search.specs.Begin.{beginOf}
 use Rattle.search.specs.Blank.{blankOf}
 use Rattle.search.specs.Build.{World, Lengths, Call, doClose, outcome}
 use Rattle.search.specs.Close.{closeOf}
-use Rattle.search.specs.Drive.{buildRefusal, Builds}
+use Rattle.search.specs.Drive.{buildRefusal, built}
+use Rattle.search.specs.Promise.{Finishes}
 use Rattle.search.specs.Expand.{expandRefusal, expandOf}
 use Rattle.search.specs.JobState.{countLimit, stackCountAt, passedOf, countOf, levelOf, isFinished, isCoherent}
 use Rattle.search.specs.Look.{lookOf}
@@ -103,8 +104,8 @@ module _ (job : Job) (j : ℕ) (log log′ : List ℕ) (long : length log ≡ le
     look-log-own = LogReads.look-log-own job j log log′ long stretch
 
 -- Begin's job is coherent, Blank and Close keep coherence, and so do Settle and Expand where the count has room for the segment's stacks
-begin-coherent : (kind n : ℕ) (wanted : List ℤ) (S C : ℕ) → beginOf kind n wanted S C .refusal ≡ 0
-    → isCoherent (beginOf kind n wanted S C .job) ≡ true
+begin-coherent : (kind n : ℕ) (wanted : List ℤ) (groups S C : ℕ) → beginOf kind n wanted groups S C .refusal ≡ 0
+    → isCoherent (beginOf kind n wanted groups S C .job) ≡ true
 begin-coherent = CallsCoherent.begin-coherent
 
 module _ (job : Job) (coherent : isCoherent job ≡ true) where
@@ -121,9 +122,10 @@ module _ (job : Job) (coherent : isCoherent job ≡ true) where
     expand-coherent : isCoherent (expandOf job j segment log .2 .job) ≡ true
     expand-coherent = ExpandCoherent.expand-coherent job coherent j segment log room
 
--- Build the whole table ends, in a finished build
+-- Build the whole table ends, by the full set in a finished build
 build-finishes : (kind n : ℕ) (wanted : List ℤ) (S C : ℕ) (table log : List ℕ)
-    → buildRefusal kind n wanted S C (length table) (length log) ≡ 0 → Builds kind n wanted S C table log
+    → buildRefusal kind n wanted (allGroups kind n) S C (length table) (length log) ≡ 0
+    → (let w = built kind n wanted (allGroups kind n) S C table log in (isFinished (w .job .phase) ≡ true) × Finishes kind n wanted w)
 build-finishes = WholeTable.build-finishes
 
 -- only Close finishes a build

@@ -4,4 +4,5 @@ pub mod Starred
 pub mod WholeTable
 pub mod PlainThree
 pub mod Pricing
+pub mod Limited
 pub mod Cited

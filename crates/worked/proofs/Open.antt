@@ -1,6 +1,7 @@
 -- Every definition that a worked case computes with. Who unfolds `all-open` unfolds them all, so that they are listed here alone; but for
 -- `rounded`, which only the case of a price looks into.
 use Rattle.base.specs.Words
+use Rattle.graph.specs.Walks
 use Rattle.stacks.specs.Stack
 use Rattle.stacks.specs.Index
 use Rattle.stacks.specs.Turn
@@ -27,7 +28,7 @@ use Rattle.worked.specs.Cases
 use Rattle.worked.specs.PlainThree
 
 words : Unit {0}
-unfolding Words.all Words.tally Words.total Words.fact Words.from Words.without Words.firstFrom
+unfolding Walks.isMove Words.all Words.tally Words.filter Words.total Words.fact Words.from Words.without Words.firstFrom
 words = tt
 
 stacks : Unit {0}
@@ -39,7 +40,7 @@ unfolding Index.smaller Index.rankFrom Index.coat Index.coatBits Index.rankOf In
 indexes = tt
 
 turns : Unit {0}
-unfolding Turn.firstTurn Turn.lastTurn Turn.isTurn Turn.turnsOf Turn.flip Turn.turnOf Turn.turnsFrom
+unfolding Turn.firstTurn Turn.lastTurn Turn.isTurn Turn.turnsOf Turn.lifts Turn.isGroupSet Turn.turnsIn Turn.allGroups Turn.flip Turn.turnOf Turn.turnsFrom
 turns = tt
 
 operations : Unit {0}
@@ -115,7 +116,7 @@ unfolding Build.lent Build.kept Build.isOwn Build.isLentOwn Build.outcome Build.
 builds = tt
 
 drives : Unit {0}
-unfolding Drive.isOpen Drive.isPending Drive.firstOpen Drive.firstPending Drive.nextCall Drive.advanced Drive.drive Drive.mostCalls
+unfolding Drive.isOpen Drive.isPending Drive.firstOpen Drive.firstPending Drive.nextCall Drive.advanced Drive.hasEnded Drive.drive Drive.mostCalls
 drives = tt
 
 whole-tables : Unit {0}

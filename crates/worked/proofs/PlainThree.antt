@@ -19,11 +19,12 @@ use Rattle.search.specs.Segments.{joined}
 use Rattle.search.specs.declared.Phase.{Phase}
 use Rattle.search.specs.declared.Phase.the-variants.{Finished}
 use Rattle.search.specs.Plan.{planLimit}
-use Rattle.search.specs.Promise.{rightBytes, rightLengths, Buffers, Promise, Continues, FinishedByClose, Plans, Finishes, WholeBuild, PlanArrives}
+use Rattle.search.specs.Promise.{rightBytes, rightLengths, Buffers, Promise, Continues, FinishedByClose, Plans, Finishes, WholeBuild}
+use Rattle.search.specs.PromiseBy.{PlanArrives}
 use Rattle.search.proofs.Finishing.{plan-arrives}
-use Rattle.search.proofs.WholeBuild.{whole-build}
+use Rattle.search.proofs.AllTurns.{full-road, whole-build}
 use Rattle.worked.specs.Cases.{plain, ordered, any}
-use Rattle.worked.specs.PlainThree.{Calls, start, part, end, early, calls, given, table, PlainThree}
+use Rattle.worked.specs.PlainThree.{Calls, start, part, end, early, calls, given, table, PlainThree, all}
 use Rattle.worked.proofs.Open.{all-open}
 
 -- The theorem's clauses over any world of which the table, the level and the counts are known: no clause computes the calls anew.
@@ -150,10 +151,12 @@ module _ (first second : ℕ) (words : ℕ → ℕ) where
           same-kind = finishes .given-kind;
           same-n = finishes .given-n;
           same-wanted = finishes .given-wanted;
+          same-groups = finishes .given-groups;
           accepts = plans .accepts;
           turns = refl;
           road = plans .arrives;
           fewest = plans .shortest;
+          few = plans .few;
           spoilt = refl;
-          spoilt-road = plan-arrives plain 3 (ordered 3) given (0x90 ∷ 0xf5 ∷ []) (any slots planLimit) refl .0;
+          spoilt-road = full-road plain 3 refl (plan-arrives plain 3 (ordered 3) given all (0x90 ∷ 0xf5 ∷ []) (any slots planLimit) refl .0);
         }

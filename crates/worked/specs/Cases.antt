@@ -1,7 +1,7 @@
 -- The words of the worked cases: stacks written by their panes, and builds that take the segments in turn.
 --   places     the panes of a list, top first, and unused places to twelve
 --   ordered    the ordered stack, all coats up
---   startOf    Begin for the ordered stack with C = 16, and buffers that hold zeros
+--   startOf    Begin for the ordered stack by all turns with C = 16, and buffers that hold zeros
 --   endOf      the world that such a build comes to after as many levels
 --   whole      Build the whole table for the same, in buffers of these lengths
 --   any        any list of a length, by the number at each place
@@ -16,6 +16,7 @@ use Rattle.base.specs.Words.{from}
 use Rattle.stacks.specs.Stack.{stackPlaces, stackCount}
 use Rattle.search.specs.Begin.{beginOf}
 use Rattle.search.specs.Build.{World, Lengths, Lent, Call, own, other, doBlank, doExpand, doSettle, doClose, outcome, after}
+use Rattle.stacks.specs.Turn.{allGroups}
 use Rattle.search.specs.Drive.{buildOf}
 use Rattle.search.specs.Promise.{rightBytes, rightWords, rightLengths}
 use Rattle.search.specs.Segments.{segmentCount}
@@ -67,7 +68,7 @@ module _ (kind n S : ℕ) where
   unfoldable pub startOf : World
   startOf =
       record {
-        job = beginOf kind n (ordered n) S 16 .job;
+        job = beginOf kind n (ordered n) (allGroups kind n) S 16 .job;
         segments = map (λ j. replicate (rightBytes kind n S j) 0) (from 0 (segmentCount (stackCount kind n) S));
         log = replicate (rightWords kind n S 16) 0;
       }
@@ -78,4 +79,4 @@ module _ (kind n S : ℕ) where
       after {right = rightLengths kind n S 16} startOf (blankAll G ++ searchLevels G d)
 
   unfoldable pub whole : ℕ → ℕ → List ℕ × List ℕ × Answer
-  whole bytes words = buildOf kind n (ordered n) S 16 (replicate bytes 0) (replicate words 0)
+  whole bytes words = buildOf kind n (ordered n) (allGroups kind n) S 16 (replicate bytes 0) (replicate words 0)

@@ -1,7 +1,8 @@
--- What the worked cases say. Read Starred beside document 01's "At the edges", PlainThree beside the promise of a build, and Pricing beside
--- document 02's F-1.
+-- What the worked cases say. Read Starred beside document 01's "At the edges", PlainThree beside the promise of a build, and Pricing and Limited
+-- beside document 02's F-1 and F-2.
 pub mod Cases
 pub mod Starred
 pub mod WholeTable
 pub mod PlainThree
 pub mod Pricing
+pub mod Limited

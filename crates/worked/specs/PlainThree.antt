@@ -1,4 +1,4 @@
--- What the whole-build theorem says of one list of calls: plain 3 for the ordered stack, S 4 and C 16, so that there are two segments.
+-- What the whole-build theorem says of one list of calls: plain 3 for the ordered stack by all turns, S 4 and C 16, so that there are two segments.
 --   start    Begin's job; a byte for each segment and 32 numbers for the log area, whatever they are
 --   early    the calls to the middle of level 1. Some are refused: a segment that is not there, a buffer of a wrong length, a Close too soon
 --   calls    those and the rest, to the end and past it
@@ -14,12 +14,12 @@ use Rattle.base.specs.Words.{total}
 use Rattle.stacks.specs.Counts.{CountsAt}
 use Rattle.stacks.specs.Index.{rankOf}
 use Rattle.stacks.specs.Stack.{isStack}
-use Rattle.stacks.specs.Turn.{Road, Fewest}
+use Rattle.stacks.specs.Turn.{allGroups, Road, Fewest}
 use Rattle.search.specs.Begin.{begun, beginOf}
 use Rattle.search.specs.Build.{World, Call, own, doBlank, doExpand, doSettle, doLook, doClose, outcome, after, isLentOwn, CarriesOn}
 use Rattle.search.specs.Close.{closeOf}
 use Rattle.search.specs.Entries.{entryAt, seenIn}
-use Rattle.search.specs.JobState.{countOf, isFinished, lastLevel}
+use Rattle.search.specs.JobState.{countOf, isFinished}
 use Rattle.search.specs.Plan.{planLimit, planOf}
 use Rattle.search.specs.Promise.{rightLengths, FinishedByClose}
 use Rattle.search.specs.Segments.{joined}
@@ -54,6 +54,10 @@ calls =
     ∷ doClose
     ∷ (searchLevels 2 3 ++ (doClose ∷ doExpand 0 own own ∷ doLook 0 own ∷ [])))
 
+-- sizes 2 and 3
+abbrev pub all : ℕ
+all = allGroups plain 3
+
 -- plain 3 1 2
 abbrev pub given : List ℤ
 given = places (up 3 ∷ up 1 ∷ up 2 ∷ [])
@@ -66,7 +70,7 @@ module _ (first second : ℕ) (words : ℕ → ℕ) where
   unfoldable pub start : World
   start =
       record {
-        job = begun plain 3 (ordered 3) 4 16;
+        job = begun plain 3 (ordered 3) all 4 16;
         segments = (first ∷ []) ∷ (second ∷ []) ∷ [];
         log = any words 32;
       }
@@ -79,13 +83,13 @@ module _ (first second : ℕ) (words : ℕ → ℕ) where
 
   -- slots are what the turn list held before
   pub record PlainThree (slots : ℕ → ℕ) : Type 0 where
-    pub begins : beginOf plain 3 (ordered 3) 4 16 ≡ record { refusal = 0; job = begun plain 3 (ordered 3) 4 16 }
+    pub begins : beginOf plain 3 (ordered 3) all 4 16 ≡ record { refusal = 0; job = begun plain 3 (ordered 3) all 4 16 }
     pub answers : refusals start early ≡ 9 ∷ 0 ∷ 13 ∷ 10 ∷ 8 ∷ 0 ∷ 11 ∷ 0 ∷ 0 ∷ 10 ∷ 0 ∷ []
     -- part of the list: no call has finished the build, so one carries it on; 31 levels suffice, and no Close says 14
     pub part-way : part .job .phase ≡ Level 1
     pub continues : (call : Call (rightLengths plain 3 4 16)) × (isLentOwn call ≡ true) × (outcome part call .refusal ≡ 0)
         × CarriesOn part (outcome part call .world)
-    pub levels : (d : ℕ) → part .job .phase ≡ Level d → d ≤ lastLevel
+    pub levels : (d : ℕ) → part .job .phase ≡ Level d → d ≤ 31
     pub closes : outcome {right = rightLengths plain 3 4 16} part doClose .refusal ≡ 14 → ⊥
     pub ends : (more : Calls) × (isFinished (after start (early ++ more) .job .phase) ≡ true)
     -- the whole list: a Close of it has finished the build, and whatever follows leaves it so
@@ -112,15 +116,17 @@ module _ (first second : ℕ) (words : ℕ → ℕ) where
     -- the deepest level, 3, is reached, and no stack needs more
     pub deepest : (s : List ℤ) × (isStack plain 3 s ≡ true) × Fewest plain 3 s (ordered 3) 3
     pub greatest : (s : List ℤ) (d : ℕ) → isStack plain 3 s ≡ true → Fewest plain 3 s (ordered 3) d → d ≤ 3
-    -- Plan gets the job's kind, n and wanted stack, which are Begin's
+    -- Plan gets the job's kind, n, wanted stack and set, which are Begin's
     pub same-kind : end .job .kind ≡ plain
     pub same-n : end .job .n ≡ 3
     pub same-wanted : end .job .wanted ≡ ordered 3
+    pub same-groups : end .job .groups ≡ all
     -- Plan takes 3 1 2 to the ordered stack by turns 3 and 2, and no road is shorter
-    pub accepts : planOf plain 3 (ordered 3) given table (any slots planLimit) .1 .refusal ≡ 0
-    pub turns : planOf plain 3 (ordered 3) given table (any slots planLimit) .1 .turns ≡ 2
+    pub accepts : planOf plain 3 (ordered 3) given all table (any slots planLimit) .1 .refusal ≡ 0
+    pub turns : planOf plain 3 (ordered 3) given all table (any slots planLimit) .1 .turns ≡ 2
     pub road : Road plain 3 (3 ∷ 2 ∷ []) given (ordered 3)
     pub fewest : Fewest plain 3 given (ordered 3) 2
+    pub few : planOf plain 3 (ordered 3) given all table (any slots planLimit) .1 .turns ≤ 30
     -- from a spoilt table, in which 3 1 2 has entry 1, the plan is longer, and arrives
-    pub spoilt : planOf plain 3 (ordered 3) given (0x90 ∷ 0xf5 ∷ []) (any slots planLimit) .1 ≡ record { refusal = 0; turns = 4 }
+    pub spoilt : planOf plain 3 (ordered 3) given all (0x90 ∷ 0xf5 ∷ []) (any slots planLimit) .1 ≡ record { refusal = 0; turns = 4 }
     pub spoilt-road : Road plain 3 (2 ∷ 3 ∷ 2 ∷ 3 ∷ []) given (ordered 3)

@@ -1,8 +1,8 @@
 // A build with everything that its calls are lent, and drivers that bring it to its end.
 
-use crate::paper::{self, Measures, PAPER, UNSEEN};
+use crate::paper::{self, Measures, COATED, PAPER, UNSEEN};
 use crate::rng::Rng;
-use crate::search::Distances;
+use crate::search::{self, Distances};
 use crate::system::*;
 
 #[derive(Clone)]
@@ -27,7 +27,7 @@ pub enum Order {
 impl Build {
     // Begins; segments and log area hold anything. Refused, the number.
     pub fn begin<S: System + ?Sized>(system: &S, fields: &Fields, rng: &mut Rng) -> Result<Build, u8> {
-        let begun = system.begin(fields.kind, fields.n, fields.wanted, fields.size, fields.room);
+        let begun = fields.begin(system);
         if begun.refusal != 0 {
             return Err(begun.refusal);
         }
@@ -56,7 +56,7 @@ impl Build {
         }
         let table = self.table();
         for i in 0..4 * table.len() as u64 {
-            let right = distances.turns.get(i as usize).map_or(UNSEEN, |turns| turns % 3);
+            let right = distances.turns.get(i as usize).copied().flatten().map_or(UNSEEN, |turns| turns % 3);
             let entry = paper::entry_at(&table, i);
             if entry != right {
                 return Err(format!("entry {i} is {entry} and not {right}"));
@@ -144,9 +144,10 @@ impl Build {
     }
 }
 
-// Build the whole table by the system's own calls: Begin's refusals, then 10 for the table's length and for the log area's.
+// Build the whole table by the system's own calls: Begin's refusals, then 10 for the table's length and for the log area's. Where Close gives 14
+// the build has ended too, at that level.
 pub fn whole_table<S: System + ?Sized>(system: &S, fields: &Fields, table: &mut [u8], logs: &mut [u32]) -> Answer {
-    let begun = system.begin(fields.kind, fields.n, fields.wanted, fields.size, fields.room);
+    let begun = fields.begin(system);
     let measures = match fields.measures() {
         Ok(measures) if begun.refusal == 0 => measures,
         _ => return begun,
@@ -158,7 +159,7 @@ pub fn whole_table<S: System + ?Sized>(system: &S, fields: &Fields, table: &mut 
     let segments = table.chunks(fields.size as usize / 4).map(<[u8]>::to_vec).collect();
     let mut build = Build { job: begun.job, measures, segments, logs: logs.to_vec() };
     let refusal = match build.finish(system, Order::Rising, &mut Rng::new(0)) {
-        Ok(_) => 0,
+        Ok(_) | Err((14, _)) => 0,
         Err((refusal, _)) => refusal,
     };
     table.copy_from_slice(&build.table());
@@ -166,19 +167,36 @@ pub fn whole_table<S: System + ?Sized>(system: &S, fields: &Fields, table: &mut 
     Answer { refusal, job: build.job }
 }
 
-// The five fields that Begin takes.
+// The six fields that Begin takes.
 #[derive(Clone, Copy, Debug)]
 pub struct Fields {
     pub kind: u8,
     pub n: u8,
     pub wanted: Stack,
+    pub groups: Groups,
     pub size: u32,
     pub room: u32,
 }
 
 impl Fields {
+    pub fn begin<S: System + ?Sized>(&self, system: &S) -> Answer {
+        let Fields { kind, n, wanted, groups, size, room } = *self;
+        system.begin(kind, n, wanted, groups, size, room)
+    }
+
     pub fn measures(&self) -> Result<Measures, u8> {
-        PAPER.measures(self.kind, self.n, &self.wanted, self.size, self.room)
+        PAPER.measures(self.kind, self.n, &self.wanted, self.groups, self.size, self.room)
+    }
+
+    // A job of these fields in a phase, with nothing passed, waiting or counted.
+    pub fn job(&self, phase: Phase) -> Job {
+        let Fields { kind, n, wanted, groups, size, room } = *self;
+        Job { kind, n, wanted, groups, size, room, phase, ..NO_JOB }
+    }
+
+    // The plain search for the wanted stack, by the turns of the set.
+    pub fn distances(&self) -> Distances {
+        search::search(self.kind == COATED, &self.wanted[..self.n as usize], self.groups)
     }
 }
 

@@ -3,24 +3,27 @@
 use std::fmt;
 use std::rc::Rc;
 
+use crate::paper;
 use crate::system::*;
 
-// A call; tables are shared, as some are large.
+// Tables are shared, as some are large.
+type Table = Rc<Vec<u8>>;
+
 #[derive(Clone)]
 pub enum Call {
     Index { kind: u8, n: u8, stack: Stack },
     StackAt { kind: u8, n: u8, index: u32 },
     Turn { kind: u8, n: u8, stack: Stack, k: u8 },
-    Begin { kind: u8, n: u8, wanted: Stack, size: u32, room: u32 },
+    Begin { kind: u8, n: u8, wanted: Stack, groups: Groups, size: u32, room: u32 },
     Blank { job: Job, j: u32, segment: Vec<u8> },
     Expand { job: Job, j: u32, segment: Vec<u8>, logs: Vec<u32> },
     Settle { job: Job, j: u32, segment: Vec<u8>, logs: Vec<u32> },
     Look { job: Job, j: u32, logs: Vec<u32> },
     Close { job: Job },
-    ReadEntry { kind: u8, n: u8, table: Rc<Vec<u8>>, index: u32 },
-    Plan { kind: u8, n: u8, wanted: Stack, given: Stack, table: Rc<Vec<u8>>, list: Vec<u8> },
-    Price { kind: u8, n: u8, wanted: Stack, given: Stack, table: Rc<Vec<u8>>, list: Vec<u8>, tariff: Tariff },
-    Build { kind: u8, n: u8, wanted: Stack, size: u32, room: u32, table: Vec<u8>, logs: Vec<u32> },
+    ReadEntry { kind: u8, n: u8, table: Table, index: u32 },
+    Plan { kind: u8, n: u8, wanted: Stack, given: Stack, groups: Groups, table: Table, list: Vec<u8> },
+    Price { kind: u8, n: u8, wanted: Stack, given: Stack, groups: Groups, table: Table, list: Vec<u8>, tariff: Tariff },
+    Build { kind: u8, n: u8, wanted: Stack, groups: Groups, size: u32, room: u32, table: Vec<u8>, logs: Vec<u32> },
 }
 
 pub const OPERATIONS: [&str; 13] = [
@@ -139,6 +142,29 @@ impl Call {
         }
     }
 
+    // Plan's call as one of Price.
+    pub fn priced(&self, tariff: Tariff) -> Call {
+        match self.clone() {
+            Call::Plan { kind, n, wanted, given, groups, table, list } => {
+                Call::Price { kind, n, wanted, given, groups, table, list, tariff }
+            }
+            _ => unreachable!("only plans are priced"),
+        }
+    }
+
+    // Whether the call's set is not that of every turn; for an accepted call, so that its kind and n are right.
+    pub fn is_limited(&self) -> bool {
+        let (kind, n, groups) = match self {
+            Call::Begin { kind, n, groups, .. } | Call::Build { kind, n, groups, .. } => (*kind, *n, *groups),
+            Call::Plan { kind, n, groups, .. } | Call::Price { kind, n, groups, .. } => (*kind, *n, *groups),
+            _ => match self.job() {
+                Some(job) => (job.kind, job.n, job.groups),
+                None => return false,
+            },
+        };
+        groups != paper::full_set(kind, n)
+    }
+
     pub fn job(&self) -> Option<&Job> {
         match self {
             Call::Blank { job, .. } | Call::Expand { job, .. } | Call::Settle { job, .. } => Some(job),
@@ -169,8 +195,8 @@ impl Call {
             Call::Index { kind, n, stack } => Answered::Indexed(system.index_of_stack(*kind, *n, *stack)),
             Call::StackAt { kind, n, index } => Answered::Stacked(system.stack_at_index(*kind, *n, *index)),
             Call::Turn { kind, n, stack, k } => Answered::Stacked(system.turn(*kind, *n, *stack, *k)),
-            Call::Begin { kind, n, wanted, size, room } => {
-                Answered::Answer(system.begin(*kind, *n, *wanted, *size, *room))
+            Call::Begin { kind, n, wanted, groups, size, room } => {
+                Answered::Answer(system.begin(*kind, *n, *wanted, *groups, *size, *room))
             }
             Call::Blank { job, j, .. } => Answered::Answer(system.blank(job, *j, segment.slice())),
             Call::Expand { job, j, .. } => Answered::Expanded(system.expand(job, *j, segment.slice(), logs.slice())),
@@ -180,21 +206,21 @@ impl Call {
             Call::ReadEntry { kind, n, table, index } => {
                 Answered::Entry(reading(table, &mut kept_off, |table| system.read_entry(*kind, *n, table, *index)))
             }
-            Call::Plan { kind, n, wanted, given, table, .. } => {
+            Call::Plan { kind, n, wanted, given, groups, table, .. } => {
                 let list = list.slice();
                 Answered::Planned(reading(table, &mut kept_off, |table| {
-                    system.plan(*kind, *n, *wanted, *given, table, list)
+                    system.plan(*kind, *n, *wanted, *given, *groups, table, list)
                 }))
             }
-            Call::Price { kind, n, wanted, given, table, tariff, .. } => {
+            Call::Price { kind, n, wanted, given, groups, table, tariff, .. } => {
                 let list = list.slice();
                 Answered::Priced(reading(table, &mut kept_off, |table| {
-                    system.price(*kind, *n, *wanted, *given, table, list, tariff)
+                    system.price(*kind, *n, *wanted, *given, *groups, table, list, tariff)
                 }))
             }
-            Call::Build { kind, n, wanted, size, room, .. } => {
+            Call::Build { kind, n, wanted, groups, size, room, .. } => {
                 let (table, logs) = (segment.slice(), logs.slice());
-                Answered::Answer(system.build_table(*kind, *n, *wanted, *size, *room, table, logs))
+                Answered::Answer(system.build_table(*kind, *n, *wanted, *groups, *size, *room, table, logs))
             }
         };
         let segment = segment.contents(&mut kept_off);
@@ -249,8 +275,8 @@ struct Shown<'a>(&'a Job);
 
 impl fmt::Display for Shown<'_> {
     fn fmt(&self, f: &mut fmt::Formatter) -> fmt::Result {
-        let Job { kind, n, wanted, size, room, phase, passed, waiting, counts } = self.0;
-        write!(f, "kind {kind} n {n} wanted {wanted:?} size {size} room {room} phase {phase:?}")?;
+        let Job { kind, n, wanted, groups, size, room, phase, passed, waiting, counts } = self.0;
+        write!(f, "kind {kind} n {n} wanted {wanted:?} groups {groups:#b} size {size} room {room} phase {phase:?}")?;
         write!(f, "\n    passed  {}\n    waiting {}\n    counts  {}", Runs(passed), Runs(waiting), Runs(counts))
     }
 }
@@ -274,8 +300,8 @@ impl fmt::Display for Call {
             Call::Index { kind, n, stack } => write!(f, " kind {kind} n {n} stack {stack:?}"),
             Call::StackAt { kind, n, index } => write!(f, " kind {kind} n {n} index {index}"),
             Call::Turn { kind, n, stack, k } => write!(f, " kind {kind} n {n} stack {stack:?} k {k}"),
-            Call::Begin { kind, n, wanted, size, room } => {
-                write!(f, " kind {kind} n {n} wanted {wanted:?} size {size} room {room}")
+            Call::Begin { kind, n, wanted, groups, size, room } => {
+                write!(f, " kind {kind} n {n} wanted {wanted:?} groups {groups:#b} size {size} room {room}")
             }
             Call::Blank { job, j, segment } => write!(f, " j {j}\n    {}\n    segment {}", Shown(job), Runs(segment)),
             Call::Expand { job, j, segment, logs } | Call::Settle { job, j, segment, logs } => {
@@ -286,17 +312,17 @@ impl fmt::Display for Call {
             Call::ReadEntry { kind, n, table, index } => {
                 write!(f, " kind {kind} n {n} index {index}\n    table   {}", Runs(table))
             }
-            Call::Plan { kind, n, wanted, given, table, list }
-            | Call::Price { kind, n, wanted, given, table, list, .. } => {
-                write!(f, " kind {kind} n {n} wanted {wanted:?} given {given:?}")?;
+            Call::Plan { kind, n, wanted, given, groups, table, list }
+            | Call::Price { kind, n, wanted, given, groups, table, list, .. } => {
+                write!(f, " kind {kind} n {n} wanted {wanted:?} given {given:?} groups {groups:#b}")?;
                 write!(f, "\n    table   {}\n    list    {}", Runs(table), Runs(list))?;
                 match self {
                     Call::Price { tariff, .. } => write!(f, "\n    tariff  {}", Lines(tariff)),
                     _ => Ok(()),
                 }
             }
-            Call::Build { kind, n, wanted, size, room, table, logs } => {
-                write!(f, " kind {kind} n {n} wanted {wanted:?} size {size} room {room}")?;
+            Call::Build { kind, n, wanted, groups, size, room, table, logs } => {
+                write!(f, " kind {kind} n {n} wanted {wanted:?} groups {groups:#b} size {size} room {room}")?;
                 write!(f, "\n    table   {}\n    logs    {}", Runs(table), Runs(logs))
             }
         }

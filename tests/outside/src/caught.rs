@@ -57,6 +57,18 @@ pub fn limits() -> Caught {
     Ok(format!("{} limits tried from both sides, {wrong_limits} wrong limits caught", LIMITS.len()))
 }
 
+// Each two refusals at once, where there is a set: the one that comes first in the papers is given.
+pub fn orders() -> Caught {
+    let orders = deliberate::orders();
+    for (call, right) in &orders {
+        match call.run(&PAPER).answer.refusal() {
+            refusal if refusal == *right => {}
+            refusal => return Err(format!("refused {refusal} and not {right}: {call}")),
+        }
+    }
+    Ok(format!("{} calls with one or two refusals each, in the papers' order", orders.len()))
+}
+
 // Each exchange of two fields or two parameters.
 pub fn exchanges() -> Caught {
     if exchange::places() != linked::places() {

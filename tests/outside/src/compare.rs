@@ -1,7 +1,8 @@
 // Compares two systems call by call, and each answer with what the papers say of all calls.
 
+use std::collections::BTreeMap;
 use std::fmt;
-use std::ops::Range;
+use std::ops::{Range, RangeInclusive};
 
 use crate::bill;
 use crate::call::{Answered, Answers, Call, Outcome, OPERATIONS};
@@ -17,35 +18,50 @@ pub struct Tally {
     pub waiting: u64,
     pub waiting_at_once: u64,
     pub finished: u64,
-    pub plans_by_turns: [u64; 31],
-    pub prices_by_turns: [u64; 31],
+    pub finished_late: u64,
+    pub limited: [u64; OPERATIONS.len()],
+    pub plans_by_turns: BTreeMap<u32, u64>,
+    pub prices_by_turns: BTreeMap<u32, u64>,
     pub halves: u64,
     pub twelve_lines: u64,
 }
 
-const LAST_REFUSAL: usize = 19;
+const LAST_REFUSAL: usize = 21;
+
+// The turns of the longest plan.
+const MOST_TURNS: u32 = 254;
+
+// The turns that are told apart in print.
+const TURNS_IN_PRINT: [RangeInclusive<u32>; 5] = [0..=0, 1..=30, 31..=252, 253..=253, 254..=254];
+
+fn with_turns(by_turns: &BTreeMap<u32, u64>, turns: &RangeInclusive<u32>) -> u64 {
+    by_turns.range(turns.clone()).map(|(_, times)| times).sum()
+}
 
 // The refusals of each operation by the papers.
 pub const LISTED: [&[u8]; OPERATIONS.len()] = [
     &[1, 2, 3],
     &[1, 2, 4],
     &[1, 2, 3, 4],
-    &[1, 2, 3, 5, 6],
+    &[1, 2, 3, 21, 5, 6],
     &[7, 8, 9, 10, 11],
     &[7, 8, 9, 10, 11],
     &[7, 8, 9, 10, 12],
     &[7, 9, 10],
     &[7, 8, 13, 14],
     &[1, 2, 10, 4],
-    &[1, 2, 3, 10, 15],
-    &[1, 2, 3, 10, 15, 17, 18, 19],
-    &[1, 2, 3, 5, 6, 10],
+    &[1, 2, 3, 21, 10, 20, 15],
+    &[1, 2, 3, 21, 10, 20, 15, 17, 18, 19],
+    &[1, 2, 3, 21, 5, 6, 10],
 ];
 
 impl Tally {
     fn add(&mut self, call: &Call, outcome: &Outcome) {
         let refusal = outcome.answer.refusal();
         self.refusals[call.operation()][refusal as usize] += 1;
+        if refusal == 0 {
+            self.limited[call.operation()] += u64::from(call.is_limited());
+        }
         match (&outcome.answer, call) {
             (Answered::Expanded(answer), Call::Expand { job, j, .. }) if answer.waits => {
                 self.waiting += 1;
@@ -53,13 +69,16 @@ impl Tally {
             }
             (Answered::Answer(answer), Call::Close { .. }) if refusal == 0 => {
                 self.finished += u64::from(matches!(answer.job.phase, Phase::Finished(_)));
+                self.finished_late += u64::from(matches!(answer.job.phase, Phase::Finished(31..)));
             }
-            (Answered::Planned(planned), _) if refusal == 0 => self.plans_by_turns[planned.turns as usize] += 1,
+            (Answered::Planned(planned), _) if refusal == 0 => {
+                *self.plans_by_turns.entry(planned.turns).or_default() += 1;
+            }
             (Answered::Priced(priced), Call::Price { tariff, .. }) if matches!(refusal, 0 | 18 | 19) => {
                 self.twelve_lines += u64::from(tariff.count == 12);
                 if refusal == 0 {
                     let plan = &outcome.list[..priced.turns as usize];
-                    self.prices_by_turns[plan.len()] += 1;
+                    *self.prices_by_turns.entry(priced.turns).or_default() += 1;
                     self.halves += u64::from(bill::sum(tariff, plan) % 1000 == 500);
                 }
             }
@@ -91,14 +110,18 @@ impl Tally {
             (self.waiting > self.waiting_at_once, "Waiting after some stacks"),
             (self.waiting_at_once > 0, "Waiting with nothing passed"),
             (self.finished > 0, "a finishing Close"),
-            (self.plans_by_turns[0] > 0, "a plan of no turn"),
-            (self.plans_by_turns[30] > 0, "a plan of 30 turns"),
-            (self.prices_by_turns[0] > 0, "a price of no turn"),
-            (self.prices_by_turns[30] > 0, "a price of 30 turns"),
+            (self.finished_late > 0, "a Close that finishes past level 31"),
+            (self.plans_by_turns.contains_key(&0), "a plan of no turn"),
+            (self.plans_by_turns.contains_key(&MOST_TURNS), "a plan of 254 turns"),
+            (self.prices_by_turns.contains_key(&0), "a price of no turn"),
+            (self.prices_by_turns.contains_key(&MOST_TURNS), "a price of 254 turns"),
             (self.halves > 0, "a sum that ends in half a penny"),
             (self.twelve_lines > 0, "a tariff of 12 right lines"),
         ];
         unmet.extend(others.iter().filter(|(met, _)| !met).map(|(_, what)| format!("no case had {what}")));
+        let takes_set = |operation: &usize| LISTED[*operation].contains(&21) || LISTED[*operation].contains(&7);
+        let never = (0..OPERATIONS.len()).filter(takes_set).filter(|&operation| self.limited[operation] == 0);
+        unmet.extend(never.map(|operation| format!("{} never took a limited set", OPERATIONS[operation])));
         unmet
     }
 }
@@ -124,12 +147,15 @@ impl fmt::Display for Tally {
         }
         writeln!(
             f,
-            "  Waiting {} (at once {}), builds finished {}",
-            self.waiting, self.waiting_at_once, self.finished
+            "  Waiting {} (at once {}), builds finished {} (past level 31 {})",
+            self.waiting, self.waiting_at_once, self.finished, self.finished_late
         )?;
-        let by_turns = |numbers: &[u64]| numbers.iter().map(u64::to_string).collect::<Vec<String>>().join(" ");
-        writeln!(f, "  plans of 0 to 30 turns: {}", by_turns(&self.plans_by_turns))?;
-        writeln!(f, "  prices of 0 to 30 turns: {}", by_turns(&self.prices_by_turns))?;
+        let limited = OPERATIONS.iter().zip(&self.limited).filter(|(_, times)| **times > 0);
+        let limited: Vec<String> = limited.map(|(operation, times)| format!("{operation} {times}")).collect();
+        writeln!(f, "  by limited sets: {}", limited.join(", "))?;
+        let in_print = |by_turns| TURNS_IN_PRINT.map(|turns| with_turns(by_turns, &turns).to_string()).join(" ");
+        writeln!(f, "  plans of 0, 1 to 30, 31 to 252, 253, 254 turns: {}", in_print(&self.plans_by_turns))?;
+        writeln!(f, "  prices of 0, 1 to 30, 31 to 252, 253, 254 turns: {}", in_print(&self.prices_by_turns))?;
         write!(f, "  sums that end in half a penny {}, tariffs of 12 right lines {}", self.halves, self.twelve_lines)
     }
 }
@@ -202,6 +228,9 @@ fn laws(call: &Call, outcome: &Outcome) -> Result<(), String> {
         };
         return law(beside, "a refusal that gave more than its number");
     }
+    if let (Some(job), Some(after)) = (call.job(), outcome.answer.job()) {
+        law(begun_by(job) == begun_by(after), "a job that is not of the same begin")?;
+    }
     match (call, &outcome.answer) {
         (Call::Index { kind, n, stack }, Answered::Indexed(answer)) => {
             law(paper::stack_at(*kind, *n, answer.index) == *stack, "an index that does not lead back")
@@ -220,25 +249,41 @@ fn laws(call: &Call, outcome: &Outcome) -> Result<(), String> {
             law(bill::is_rounded(answer.pennies, sum), "pennies that are not the sum, rounded once")
         }
         (Call::Build { kind, n, .. }, Answered::Answer(answer)) => {
-            law(matches!(answer.job.phase, Phase::Finished(_)), "a whole build that is not finished")?;
+            law(has_ended(&answer.job), "a whole build that has not ended")?;
+            let stacks = paper::count_of_stacks(*kind, *n);
+            let seen = (0..stacks).filter(|&i| paper::entry_at(&outcome.segment, i) != paper::UNSEEN).count() as u64;
             let counted = answer.job.counts.iter().sum::<u64>();
-            law(counted == paper::count_of_stacks(*kind, *n), "counts of a whole build that do not add to N")
+            law(counted == seen, "counts of a whole build that do not add to the stacks seen")?;
+            law(call.is_limited() || seen == stacks, "a whole build by every turn that has not seen all stacks")
         }
         _ => Ok(()),
     }
 }
 
+// What Begin was given.
+fn begun_by(job: &Job) -> (u8, u8, Stack, Groups, u32, u32) {
+    (job.kind, job.n, job.wanted, job.groups, job.size, job.room)
+}
+
+// Finished, or at the last level with stacks that it brought, where no call carries on.
+fn has_ended(job: &Job) -> bool {
+    matches!(job.phase, Phase::Finished(_)) || job.phase == Phase::Level(255) && job.counts[255] != 0
+}
+
 // What holds of an accepted plan, priced or not.
 fn plan_laws(call: &Call, after: &[u8], turns: u32) -> Result<(), String> {
-    let (Call::Plan { kind, n, wanted, given, list, .. } | Call::Price { kind, n, wanted, given, list, .. }) = call
+    let (Call::Plan { kind, n, wanted, given, groups, list, .. }
+    | Call::Price { kind, n, wanted, given, groups, list, .. }) = call
     else {
         unreachable!("only plans come here")
     };
-    law(turns <= 30, "a plan of over 30 turns")?;
+    law(turns <= MOST_TURNS, "a plan of over 254 turns")?;
     let (plan, rest) = after.split_at(turns as usize);
     law(*rest == list[plan.len()..], "bytes past the plan that changed")?;
     let right_turns = plan.iter().all(|k| paper::turns(*kind, *n).any(|turn| turn == *k));
     law(right_turns, "a plan with a turn that is none")?;
+    let of_set = plan.iter().all(|k| paper::sizes_of(*groups).any(|size| size == *k));
+    law(of_set, "a plan with a turn that is not of the set")?;
     let end = plan.iter().fold(*given, |at, k| paper::turned(*kind, &at, *k));
     law(end == *wanted, "a plan that does not arrive")
 }

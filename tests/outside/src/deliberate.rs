@@ -1,5 +1,5 @@
-// Calls made on purpose, none by the chance of a seed: each limit of the papers from both sides, each refusal of each operation, answers in
-// which no two numbers can be mistaken for each other, and bytes past the first mebibyte.
+// Calls made on purpose, none by the chance of a seed: each limit of the papers from both sides, each refusal of each operation, any two
+// refusals at once where there is a set, answers in which no two numbers can be mistaken for each other, and bytes past the first mebibyte.
 
 use std::rc::Rc;
 
@@ -18,7 +18,8 @@ pub struct Limit {
 }
 
 // Not among the moved, as they cannot be told apart: an S of at least 3, 2 or 1, as none of these is a multiple of 4 (and with one of at
-// least 0 there is no G); 19 for size 0 or n + 1, as 17 lets no line by that has it.
+// least 0 there is no G); 19 for size 0 or n + 1, as 17 lets no line by that has it; a set of size 0, which has no bit; a level of 256 and its
+// count, which no job holds.
 pub const LIMITS: &[Limit] = &[
     Limit {
         name: "panes of a plain stack",
@@ -45,6 +46,20 @@ pub const LIMITS: &[Limit] = &[
             |limits| limits.first_turn[1] = 2,
             |limits| limits.turn_past_n = -1,
             |limits| limits.turn_past_n = 1,
+        ],
+    },
+    Limit {
+        name: "sizes of a set",
+        calls: sets,
+        moved: &[
+            |limits| limits.first_group[0] = 1,
+            |limits| limits.first_group[0] = 3,
+            |limits| limits.first_group[1] = 2,
+            |limits| limits.group_past_n = -1,
+            |limits| limits.group_past_n = 1,
+            |limits| limits.least_groups[0] = 1,
+            |limits| limits.least_groups[1] = 0,
+            |limits| limits.least_groups[1] = 2,
         ],
     },
     Limit {
@@ -89,16 +104,34 @@ pub const LIMITS: &[Limit] = &[
         moved: &[
             |limits| limits.first_level = 0,
             |limits| limits.first_level = 2,
-            |limits| limits.last_level = 30,
-            |limits| limits.last_level = 32,
+            |limits| limits.last_level = 31,
+            |limits| limits.last_level = 254,
         ],
     },
     Limit {
         name: "the deepest level",
-        calls: || calls_on([0, 29, 30, 31, 32, 255].map(|deepest| small_job(Phase::Finished(deepest)))),
-        moved: &[|limits| limits.most_deepest = 29, |limits| limits.most_deepest = 31],
+        calls: || calls_on([0, 30, 31, 32, 253, 254, 255].map(|deepest| small_job(Phase::Finished(deepest)))),
+        moved: &[
+            |limits| limits.most_deepest = 30,
+            |limits| limits.most_deepest = 253,
+            |limits| limits.most_deepest = 255,
+        ],
     },
-    Limit { name: "counts", calls: counts, moved: &[|limits| limits.most_count -= 1, |limits| limits.most_count += 1] },
+    Limit {
+        name: "the level that must bring nothing",
+        calls: last_levels,
+        moved: &[|limits| limits.level_of_14 = 31, |limits| limits.level_of_14 = 254],
+    },
+    Limit {
+        name: "counts",
+        calls: counts,
+        moved: &[
+            |limits| limits.most_count -= 1,
+            |limits| limits.most_count += 1,
+            |limits| limits.counts = 32,
+            |limits| limits.counts = 255,
+        ],
+    },
     Limit {
         name: "stacks passed",
         calls: || calls_on([(0, 4), (0, 5), (1, 2), (1, 3)].map(|(j, passed)| with_passed(j, passed))),
@@ -135,13 +168,13 @@ pub const LIMITS: &[Limit] = &[
     },
     Limit {
         name: "the turn list",
-        calls: || with_prices([0, 29, 30, 31].map(|len| plan3(&TABLE3, [1, 3, 2], len))),
-        moved: &[|limits| limits.least_list = 29, |limits| limits.least_list = 31],
+        calls: || with_prices([0, 30, 31, 253, 254, 255].map(|len| plan3(&TABLE3, [1, 3, 2], len))),
+        moved: &[|limits| limits.least_list = 30, |limits| limits.least_list = 253, |limits| limits.least_list = 255],
     },
     Limit {
         name: "turns of a plan",
         calls: long_plans,
-        moved: &[|limits| limits.most_turns = 29, |limits| limits.most_turns = 31],
+        moved: &[|limits| limits.most_turns = 30, |limits| limits.most_turns = 253, |limits| limits.most_turns = 255],
     },
     Limit {
         name: "lines of a tariff",
@@ -226,16 +259,26 @@ impl Limit {
 
 // ---- What the calls are made of
 
+// Sets of plain 3.
+const TURN_2: Groups = 0b010;
+const TURN_3: Groups = 0b100;
+const BOTH: Groups = TURN_2 | TURN_3;
+
 // Two segments, of 4 and of 2 stacks, so that the last byte has spare entries.
-const SMALL: Fields = Fields { kind: PLAIN, n: 3, wanted: [1, 2, 3, 0, 0, 0, 0, 0, 0, 0, 0, 0], size: 4, room: 16 };
+const SMALL: Fields =
+    Fields { kind: PLAIN, n: 3, wanted: [1, 2, 3, 0, 0, 0, 0, 0, 0, 0, 0, 0], groups: BOTH, size: 4, room: 16 };
 const SMALL_LOGS: usize = 32;
 
 // Two full segments, and no two fields alike.
-const TELLING: Fields = Fields { kind: COATED, n: 2, wanted: [2, -1, 0, 0, 0, 0, 0, 0, 0, 0, 0, 0], size: 4, room: 20 };
+const TELLING: Fields =
+    Fields { kind: COATED, n: 2, wanted: [2, -1, 0, 0, 0, 0, 0, 0, 0, 0, 0, 0], groups: 0b11, size: 4, room: 20 };
 const TELLING_LOGS: usize = 40;
 
 // The table of plain 3 for the ordered stack, by document 01.
 const TABLE3: [u8; 2] = [0x90, 0xf6];
+
+// The bytes of the shortest turn list that is taken.
+const LIST: usize = 254;
 
 fn stack3(panes: [i8; 3]) -> Stack {
     let mut stack = NO_STACK;
@@ -243,13 +286,13 @@ fn stack3(panes: [i8; 3]) -> Stack {
     stack
 }
 
-fn job_of(fields: &Fields, phase: Phase) -> Job {
-    let Fields { kind, n, wanted, size, room } = *fields;
-    Job { kind, n, wanted, size, room, phase, ..NO_JOB }
+// Every turn of a kind and n for the ordered stack, in as few segments as there can be.
+fn whole(kind: u8, n: u8) -> Fields {
+    Fields { kind, n, wanted: ordered(n), groups: paper::full_set(kind, n), size: 67_108_864, room: 16 }
 }
 
 fn small_job(phase: Phase) -> Job {
-    job_of(&SMALL, phase)
+    SMALL.job(phase)
 }
 
 fn with_passed(j: usize, passed: u32) -> Job {
@@ -277,8 +320,8 @@ fn ready(mut job: Job) -> Job {
 }
 
 fn look(job: Job, j: u32) -> Call {
-    let logs = PAPER.measures(job.kind, job.n, &job.wanted, job.size, job.room).map_or(SMALL_LOGS, |m| m.log_numbers());
-    Call::Look { job, j, logs: vec![0; logs] }
+    let measures = PAPER.measures(job.kind, job.n, &job.wanted, job.groups, job.size, job.room);
+    Call::Look { job, j, logs: vec![0; measures.map_or(SMALL_LOGS, |measures| measures.log_numbers())] }
 }
 
 // The five calls on each of some small jobs. Look comes first: it needs nothing of a phase, so it shows a wrong limit before anything else.
@@ -297,43 +340,38 @@ fn calls_on(jobs: impl IntoIterator<Item = Job>) -> Vec<Call> {
 }
 
 fn begin(fields: &Fields) -> Call {
-    let Fields { kind, n, wanted, size, room } = *fields;
-    Call::Begin { kind, n, wanted, size, room }
+    let Fields { kind, n, wanted, groups, size, room } = *fields;
+    Call::Begin { kind, n, wanted, groups, size, room }
 }
 
 fn build(fields: &Fields, bytes: usize, words: usize) -> Call {
-    let Fields { kind, n, wanted, size, room } = *fields;
-    Call::Build { kind, n, wanted, size, room, table: vec![0x5a; bytes], logs: vec![7; words] }
+    let Fields { kind, n, wanted, groups, size, room } = *fields;
+    Call::Build { kind, n, wanted, groups, size, room, table: vec![0x5a; bytes], logs: vec![7; words] }
 }
 
 fn plan3(table: &[u8], given: [i8; 3], list: usize) -> Call {
     let (table, list) = (Rc::new(table.to_vec()), vec![0xee; list]);
-    Call::Plan { kind: PLAIN, n: 3, wanted: ordered(3), given: stack3(given), table, list }
+    Call::Plan { kind: PLAIN, n: 3, wanted: ordered(3), given: stack3(given), groups: BOTH, table, list }
+}
+
+fn plan3_by(groups: Groups, table: &[u8], given: [i8; 3]) -> Call {
+    let (table, list) = (Rc::new(table.to_vec()), vec![0xee; LIST]);
+    Call::Plan { kind: PLAIN, n: 3, wanted: ordered(3), given: stack3(given), groups, table, list }
 }
 
 // A line's first size, last size and price.
 type Triple = (u8, u8, u32);
 
-// Plan's call as one of Price.
-fn price(plan: &Call, tariff: Tariff) -> Call {
-    match plan.clone() {
-        Call::Plan { kind, n, wanted, given, table, list } => {
-            Call::Price { kind, n, wanted, given, table, list, tariff }
-        }
-        _ => unreachable!("only plans are priced"),
-    }
-}
-
 // Prices of the plan 2, 3, 2.
 fn prices3(tariffs: &[&[Triple]]) -> Vec<Call> {
-    let plan = plan3(&TABLE3, [1, 3, 2], 30);
-    tariffs.iter().map(|lines| price(&plan, Tariff::of(lines))).collect()
+    let plan = plan3(&TABLE3, [1, 3, 2], LIST);
+    tariffs.iter().map(|lines| plan.priced(Tariff::of(lines))).collect()
 }
 
 // Each call of Plan, and after it one of Price by document 02's tariff.
 fn with_prices(plans: impl IntoIterator<Item = Call>) -> Vec<Call> {
     let tariff = Tariff::of(&[(1, 2, 1_250), (3, 3, 1_250)]);
-    plans.into_iter().flat_map(|plan| [plan.clone(), price(&plan, tariff)]).collect()
+    plans.into_iter().flat_map(|plan| [plan.clone(), plan.priced(tariff)]).collect()
 }
 
 // The price of one pane's plan: with its coat down it takes turn 1, plain it has no turn.
@@ -341,8 +379,8 @@ fn price1(kind: u8, lines: &[Triple]) -> Call {
     let (pane, entries) = if kind == COATED { (-1, 0xf4) } else { (1, 0xfc) };
     let mut given = NO_STACK;
     given[0] = pane;
-    let (table, list, tariff) = (Rc::new(vec![entries]), vec![0xee; 30], Tariff::of(lines));
-    Call::Price { kind, n: 1, wanted: ordered(1), given, table, list, tariff }
+    let (table, list, tariff) = (Rc::new(vec![entries]), vec![0xee; LIST], Tariff::of(lines));
+    Call::Price { kind, n: 1, wanted: ordered(1), given, groups: paper::full_set(kind, 1), table, list, tariff }
 }
 
 // ---- The limits
@@ -358,14 +396,15 @@ fn panes(kind: u8, most: u8) -> Vec<Call> {
         let index = stacks.saturating_sub(1) as u32;
         // Zeros are not touched until they are read, so the largest table costs nothing.
         let table = Rc::new(vec![0; paper::bytes_of(stacks)]);
-        let fields = Fields { kind, n, wanted: stack, size: 67_108_864, room: 16 };
+        let fields = Fields { wanted: stack, ..whole(kind, n) };
         calls.push(Call::Index { kind, n, stack });
         calls.push(Call::StackAt { kind, n, index });
         calls.push(Call::Turn { kind, n, stack, k: n });
         calls.push(begin(&fields));
         calls.push(Call::ReadEntry { kind, n, table: table.clone(), index });
-        let plan = Call::Plan { kind, n, wanted: stack, given: stack, table, list: vec![0xee; 30] };
-        calls.push(price(&plan, Tariff::of(&[(1, n, 1)])));
+        let groups = fields.groups;
+        let plan = Call::Plan { kind, n, wanted: stack, given: stack, groups, table, list: vec![0xee; LIST] };
+        calls.push(plan.priced(Tariff::of(&[(1, n, 1)])));
         calls.push(plan);
         calls.push(build(&fields, 0, 0));
     }
@@ -376,6 +415,45 @@ fn turns() -> Vec<Call> {
     let plain = [0, 1, 2, 3, 4, 255].map(|k| Call::Turn { kind: PLAIN, n: 3, stack: ordered(3), k });
     let coated = [0, 1, 2, 3, 255].map(|k| Call::Turn { kind: COATED, n: 2, stack: ordered(2), k });
     plain.into_iter().chain(coated).collect()
+}
+
+// Right sets, the sizes next to them, no size, and every bit alone and beside every turn. Begin comes first: no wrong limit makes it turn by what
+// is no turn.
+fn sets() -> Vec<Call> {
+    let tried: [(u8, u8, &[Groups]); 8] = [
+        (PLAIN, 3, &[0b110, 0b010, 0b100, 0b111, 0b001, 0b101, 0b1110, 0b1000, 0]),
+        (COATED, 2, &[0b11, 0b01, 0b10, 0b111, 0b100, 0b110, 0]),
+        (PLAIN, 1, &[0, 1, 2, 0b11]),
+        (COATED, 1, &[1, 0, 2, 0b11]),
+        (PLAIN, 2, &[0b10, 0b01, 0b11, 0b100, 0]),
+        (PLAIN, 4, &[0b1110, 0b1010, 0b1000, 0b11110, 0b1111]),
+        (PLAIN, 12, &[0xffe, 0x800, 0x002, 0xfff, 0x1ffe, 0x1000]),
+        (COATED, 10, &[0x3ff, 0x200, 0x001, 0x7ff, 0x400]),
+    ];
+    let mut fields: Vec<Fields> = Vec::new();
+    for (kind, n, sets) in tried {
+        let right = whole(kind, n);
+        fields.extend(sets.iter().map(|&groups| Fields { groups, ..right }));
+        let alone = (0..32).map(|bit| 1 << bit);
+        let beside = (0..32).map(|bit| right.groups | 1 << bit);
+        fields.extend(alone.chain(beside).chain([u32::MAX]).map(|groups| Fields { groups, ..right }));
+    }
+    let begun = fields.iter().map(begin);
+    let looked = fields.iter().map(|fields| look(fields.job(Phase::Blanking), 0));
+    let jobs = [Phase::Blanking, Phase::Level(1)].into_iter().flat_map(|phase| {
+        let sets = [BOTH, TURN_2, TURN_3, 0, 1, BOTH | 1, BOTH | 0b1000, BOTH | 1 << 31];
+        sets.map(|groups| Job { groups, ..small_job(phase) })
+    });
+    let others = fields.iter().flat_map(|fields| {
+        let Fields { kind, n, wanted, groups, .. } = *fields;
+        let bytes = paper::bytes_of(paper::count_of_stacks(kind, n));
+        // The tables of the largest n are of a wrong length, which costs nothing.
+        let bytes = if bytes > 1 << 20 { 0 } else { bytes };
+        let table = Rc::new(vec![0xfc; bytes]);
+        let plan = Call::Plan { kind, n, wanted, given: wanted, groups, table, list: vec![0xee; LIST] };
+        [plan.clone(), plan.priced(Tariff::of(&[(1, n, 1)])), build(fields, bytes, fields.room as usize)]
+    });
+    begun.chain(looked).chain(calls_on(jobs)).chain(others).collect()
 }
 
 // Read comes first: the spare entry past the last stack can be read by mistake.
@@ -391,24 +469,23 @@ fn indices() -> Vec<Call> {
 
 fn sizes() -> Vec<Call> {
     let small = [0, 2, 4, 6, 8, 12, 67_108_860, 67_108_864, 67_108_868].map(|size| Fields { size, ..SMALL });
-    let large = Fields { kind: PLAIN, n: 12, wanted: ordered(12), size: 67_108_864, room: 16 };
-    let large = [67_108_860, 67_108_864, 67_108_868].map(|size| Fields { size, ..large });
+    let large = [67_108_860, 67_108_864, 67_108_868].map(|size| Fields { size, ..whole(PLAIN, 12) });
     let begun = small.iter().chain(&large).map(begin);
-    let looked = small.iter().chain(&large).map(|fields| look(job_of(fields, Phase::Blanking), 0));
+    let looked = small.iter().chain(&large).map(|fields| look(fields.job(Phase::Blanking), 0));
     let built = small.iter().map(|fields| build(fields, 2, fields.measures().map_or(16, |m| m.log_numbers())));
     begun.chain(looked).chain(built).collect()
 }
 
 // Plain 8 has 64 segments by S 632 and 65 by S 628.
 fn segment_counts() -> Vec<Call> {
-    let fields = [632, 628].map(|size| Fields { kind: PLAIN, n: 8, wanted: ordered(8), size, room: 16 });
-    let looked = fields.iter().map(|fields| look(job_of(fields, Phase::Blanking), 63));
+    let fields = [632, 628].map(|size| Fields { size, ..whole(PLAIN, 8) });
+    let looked = fields.iter().map(|fields| look(fields.job(Phase::Blanking), 63));
     fields.iter().map(begin).chain(looked).chain(fields.iter().map(|fields| build(fields, 0, 0))).collect()
 }
 
 fn rooms() -> Vec<Call> {
     let fields = [15, 16, 17, 1_048_575, 1_048_576, 1_048_577].map(|room| Fields { size: 8, room, ..SMALL });
-    let looked = fields.iter().map(|fields| look(job_of(fields, Phase::Blanking), 0));
+    let looked = fields.iter().map(|fields| look(fields.job(Phase::Blanking), 0));
     let built = fields.iter().map(|fields| build(fields, 2, fields.room as usize));
     fields.iter().map(begin).chain(looked).chain(built).collect()
 }
@@ -416,33 +493,40 @@ fn rooms() -> Vec<Call> {
 // The phases, then every number that is none and every level that Blanking has not: they come back with the job as they were.
 fn phase_numbers() -> Vec<Call> {
     let phases = [Phase::Blanking, Phase::Level(1), Phase::Finished(1)];
-    let numbers = (3..=255).map(|number| Phase::NoPhase(number, number % 33));
+    let numbers = (3..=255).map(|number| Phase::NoPhase(number, 255 - number));
     let levels = (1..=255).map(|level| Phase::NoPhase(0, level));
     calls_on(phases.into_iter().chain(numbers).chain(levels).map(small_job))
 }
 
-// Levels at both ends and past them; Close at the last two levels, with and without new stacks.
+// Levels at both ends and past them.
 fn levels() -> Vec<Call> {
-    let mut calls = calls_on([0, 1, 2, 30, 31, 32, 255].map(|d| small_job(Phase::Level(d))));
-    for (d, count) in [(30, 0), (30, 1), (31, 0), (31, 1)] {
-        calls.push(Call::Close { job: ready(with_count(d as usize, count, Phase::Level(d))) });
-    }
-    calls
+    calls_on([0, 1, 2, 30, 31, 32, 33, 253, 254, 255].map(|d| small_job(Phase::Level(d))))
+}
+
+// Close with and without new stacks; a count that is not that of the level plays no part.
+fn last_levels() -> Vec<Call> {
+    let brought = |d: u8, count| Call::Close { job: ready(with_count(d as usize, count, Phase::Level(d))) };
+    let beside = |d: u8, level: usize| Call::Close { job: ready(with_count(level, 1, Phase::Level(d))) };
+    let levels = [1, 29, 30, 31, 32, 127, 128, 253, 254, 255];
+    let counts = levels.iter().flat_map(|&d| [0, 1, 1 << 60].map(|count| brought(d, count)));
+    let beside = [beside(31, 32), beside(254, 255), beside(255, 254), beside(255, 31), beside(255, 0)];
+    counts.chain(beside).collect()
 }
 
 // The limit of a count, at each level.
 fn counts() -> Vec<Call> {
     let limit = 1 << 60;
-    let jobs = (0..32).flat_map(|level| [limit, limit + 1].map(|count| with_count(level, count, Phase::Level(2))));
-    calls_on(jobs.chain([with_count(31, limit - 1, Phase::Level(2)), with_count(31, u64::MAX, Phase::Level(2))]))
+    let level_2 = |level, count| with_count(level, count, Phase::Level(2));
+    let jobs = (0..256).flat_map(|level| [limit, limit + 1].map(|count| level_2(level, count)));
+    calls_on(jobs.chain([31, 255].into_iter().flat_map(|level| [level_2(level, limit - 1), level_2(level, u64::MAX)])))
 }
 
 // The last segment and the one past it, of two segments and of 64, for each call that names one.
 fn segment_numbers() -> Vec<Call> {
-    let many = Fields { kind: PLAIN, n: 8, wanted: ordered(8), size: 632, room: 16 };
+    let many = Fields { size: 632, ..whole(PLAIN, 8) };
     let (level, blanking) = (small_job(Phase::Level(1)), small_job(Phase::Blanking));
     let looked = [1, 2, 3, 257, 65_537, u32::MAX].map(|j| look(level, j));
-    let of_many = [63, 64, 65].map(|j| look(job_of(&many, Phase::Level(1)), j));
+    let of_many = [63, 64, 65].map(|j| look(many.job(Phase::Level(1)), j));
     let others = [1, 2, 257, u32::MAX].into_iter().flat_map(|j| {
         let (segment, logs) = (vec![0xff], vec![0; SMALL_LOGS]);
         [
@@ -466,28 +550,44 @@ fn expand_into(waiting: u32) -> Call {
     Call::Expand { job: with_waiting(0, waiting), j: 1, segment: vec![0xfc], logs: vec![9; SMALL_LOGS] }
 }
 
-// Two stacks on a road that Plan follows turn by turn, 30 and 31 turns from the wanted one; and the highest price that there is.
+// Stacks on a road that Plan follows turn by turn, so many turns from the wanted one, by the full set and by three sizes; and the highest price
+// that there is. The lists have room for a turn too many, and then for none.
 fn long_plans() -> Vec<Call> {
-    let fields = Fields { kind: PLAIN, n: 9, wanted: ordered(9), size: 67_108_864, room: 16 };
-    let calls = |seed| {
-        let mut table = vec![0xff; paper::bytes_of(paper::count_of_stacks(fields.kind, fields.n))];
-        let road = walked(&mut Rng::new(seed), &fields, 31, &mut table);
-        let table = Rc::new(table);
-        let Fields { kind, n, wanted, .. } = fields;
-        let plan = |turns: usize| {
-            let given = road.get(turns).copied().unwrap_or(wanted);
-            Call::Plan { kind, n, wanted, given, table: table.clone(), list: vec![0xee; 40] }
-        };
-        [plan(30), plan(31)]
+    let full = whole(PLAIN, 9);
+    let limited = Fields { groups: paper::set_of([2, 7, 9]), ..full };
+    let tariff = Tariff::of(&[(1, 9, 1_000_000)]);
+    let mut calls = Vec::new();
+    for fields in [full, limited] {
+        let plans = (0..).map(|seed| long_plans_of(&fields, seed)).find(|plans| followed(plans));
+        for plan in plans.expect("some road has no shorter way") {
+            calls.extend([plan.priced(tariff), plan]);
+        }
+    }
+    calls
+}
+
+const LONG: [usize; 5] = [30, 31, 253, 254, 255];
+
+fn long_plans_of(fields: &Fields, seed: u64) -> Vec<Call> {
+    let Fields { kind, n, wanted, groups, .. } = *fields;
+    let mut table = vec![0xff; paper::bytes_of(paper::count_of_stacks(kind, n))];
+    let road = walked(&mut Rng::new(seed), fields, 255, true, &mut table);
+    let table = Rc::new(table);
+    let plan = |turns: usize, list| {
+        let given = road.get(turns).copied().unwrap_or(wanted);
+        Call::Plan { kind, n, wanted, given, groups, table: table.clone(), list: vec![0xee; list] }
     };
-    let followed = |calls: &[Call; 2]| {
-        let longer = Paper { limits: Limits { most_turns: 31, ..PAPER.limits } };
-        let all = |call: &Call, turns| call.run(&longer).answer == Answered::Planned(Planned { refusal: 0, turns });
-        all(&calls[0], 30) && all(&calls[1], 31)
+    LONG.iter().flat_map(|&turns| [plan(turns, LIST + 6), plan(turns, LIST)]).collect()
+}
+
+// Each list that is long enough has all turns of its road.
+fn followed(plans: &[Call]) -> bool {
+    let longer = Paper { limits: Limits { most_turns: 255, ..PAPER.limits } };
+    let all = |(place, turns): (usize, &usize)| {
+        let planned = Planned { refusal: 0, turns: *turns as u32 };
+        plans[2 * place].run(&longer).answer == Answered::Planned(planned)
     };
-    let plans = (0..).map(calls).find(followed).expect("some road has no shorter way");
-    let prices = plans.each_ref().map(|plan| price(plan, Tariff::of(&[(1, 9, 1_000_000)])));
-    plans.into_iter().chain(prices).collect()
+    LONG.iter().enumerate().all(all)
 }
 
 // Twelve lines, a size each, and one line fewer or more counted. Only plain 12 can have them; the plan is turn 2.
@@ -497,9 +597,10 @@ fn line_counts() -> Vec<Call> {
     // Zeros are not touched until they are read, so the largest table costs nothing.
     let mut table = vec![0; paper::bytes_of(paper::count_of_stacks(kind, n))];
     paper::set_entry(&mut table, u64::from(paper::index(kind, n, &given)), 1);
-    let plan = Call::Plan { kind, n, wanted, given, table: Rc::new(table), list: vec![0xee; 30] };
+    let groups = paper::full_set(kind, n);
+    let plan = Call::Plan { kind, n, wanted, given, groups, table: Rc::new(table), list: vec![0xee; LIST] };
     let lines: Vec<Triple> = (1..=12).rev().map(|size| (size, size, 1_000 * u32::from(size))).collect();
-    [11, 12, 13, 256, 268, u32::MAX].map(|count| price(&plan, Tariff { count, ..Tariff::of(&lines) })).into()
+    [11, 12, 13, 256, 268, u32::MAX].map(|count| plan.priced(Tariff { count, ..Tariff::of(&lines) })).into()
 }
 
 // Both lines of a tariff, each at the limit and past it.
@@ -552,14 +653,17 @@ fn begin_and_build() -> Vec<Call> {
         Fields { kind: 2, ..TELLING },
         Fields { n: 0, ..TELLING },
         Fields { kind: PLAIN, ..TELLING },
+        Fields { groups: 0, ..TELLING },
         Fields { size: 6, ..TELLING },
         Fields { room: 15, ..TELLING },
     ];
+    let sets = [0b01, 0b10].map(|groups| Fields { groups, ..TELLING });
     // Right lengths, and one too few or too many of each.
     let lengths = [(2, 40), (1, 40), (3, 40), (2, 39), (2, 41), (40, 2), (0, 0)];
-    let begun = wrong.iter().chain([&TELLING, &SMALL]).map(begin);
+    let begun = wrong.iter().chain([&TELLING, &SMALL]).chain(&sets).map(begin);
     let built = lengths.iter().map(|(bytes, words)| build(&TELLING, *bytes, *words));
-    begun.chain(wrong.iter().map(|fields| build(fields, 2, TELLING_LOGS))).chain(built).collect()
+    let by_sets = wrong.iter().chain(&sets).map(|fields| build(fields, 2, TELLING_LOGS));
+    begun.chain(by_sets).chain(built).collect()
 }
 
 fn blank_calls() -> Vec<Call> {
@@ -568,7 +672,7 @@ fn blank_calls() -> Vec<Call> {
     vec![
         Call::Blank { job, j: 0, segment: segment.clone() },
         Call::Blank { job, j: 1, segment: segment.clone() },
-        Call::Blank { job: job_of(&TELLING, Phase::Blanking), j: 1, segment: segment.clone() },
+        Call::Blank { job: TELLING.job(Phase::Blanking), j: 1, segment: segment.clone() },
         Call::Blank { job: NO_JOB, j: 0, segment: segment.clone() },
         Call::Blank { job: small_job(Phase::Level(1)), j: 0, segment: segment.clone() },
         Call::Blank { job, j: 2, segment },
@@ -580,7 +684,7 @@ fn blank_calls() -> Vec<Call> {
 
 // A job of Level 4 with something in every field.
 fn telling_job() -> Job {
-    let mut job = job_of(&TELLING, Phase::Level(4));
+    let mut job = TELLING.job(Phase::Level(4));
     job.passed[..2].copy_from_slice(&[1, 2]);
     job.waiting[..2].copy_from_slice(&[3, 18]);
     job.counts[..5].copy_from_slice(&[1, 2, 3, 4, 5]);
@@ -598,12 +702,26 @@ fn expand_calls() -> Vec<Call> {
         Call::Expand { job, j, segment: bytes.to_vec(), logs }
     };
     let (job, small) = (telling_job(), small_job(Phase::Level(1)));
+    let by = |groups, job| Job { groups, ..job };
     vec![
         // Entries 0 are those of level 3; the child of one waits for a place.
         expand(job, 0, &[0xc3], TELLING_LOGS),
         expand(job, 0, &[0x00], TELLING_LOGS),
         expand(job, 1, &[0x0f], TELLING_LOGS),
         expand(small, 0, &[0xfc], SMALL_LOGS),
+        // By a set of one size there is a child fewer; where it would wait, none waits.
+        expand(by(0b01, job), 0, &[0xc3], TELLING_LOGS),
+        expand(by(0b10, job), 0, &[0xc3], TELLING_LOGS),
+        expand(by(0b01, job), 0, &[0x00], TELLING_LOGS),
+        expand(by(0b10, job), 0, &[0x00], TELLING_LOGS),
+        expand(by(TURN_2, small), 0, &[0xfc], SMALL_LOGS),
+        expand(by(TURN_3, small), 0, &[0xfc], SMALL_LOGS),
+        expand(by(TURN_2, with_waiting(0, 16)), 1, &[0xfc], SMALL_LOGS),
+        expand(by(TURN_3, with_waiting(0, 15)), 1, &[0xfc], SMALL_LOGS),
+        // Labels and counts of the last levels.
+        expand(small_job(Phase::Level(253)), 0, &[0xfc], SMALL_LOGS),
+        expand(small_job(Phase::Level(254)), 0, &[0xfd], SMALL_LOGS),
+        expand(small_job(Phase::Level(255)), 0, &[0xfe], SMALL_LOGS),
         expand(NO_JOB, 0, &[0xfc], SMALL_LOGS),
         expand(small_job(Phase::Blanking), 0, &[0xfc], SMALL_LOGS),
         expand(small, 2, &[0xfc], SMALL_LOGS),
@@ -621,6 +739,9 @@ fn settle_calls() -> Vec<Call> {
     vec![
         settle(job, 0, &[0xff], telling_logs()),
         settle(job, 1, &[0xff], telling_logs()),
+        settle(Job { phase: Phase::Level(254), ..job }, 0, &[0xff], telling_logs()),
+        settle(Job { phase: Phase::Level(255), ..job }, 0, &[0xff], telling_logs()),
+        settle(Job { groups: 0b10, ..job }, 0, &[0xff], telling_logs()),
         settle(small, 0, &[0xfc], vec![0; SMALL_LOGS]),
         settle(NO_JOB, 0, &[0xfc], vec![0; SMALL_LOGS]),
         settle(small_job(Phase::Blanking), 0, &[0xfc], vec![0; SMALL_LOGS]),
@@ -654,7 +775,8 @@ fn close_calls() -> Vec<Call> {
         close(with_passed(1, 2)),
         close(one_waits(Phase::Level(2))),
         close(one_waits(Phase::Blanking)),
-        close(level(31, 1)),
+        close(Job { groups: TURN_3, ..level(3, 5) }),
+        close(level(255, 1)),
     ]
 }
 
@@ -675,7 +797,7 @@ fn read_calls() -> Vec<Call> {
 fn plan_calls() -> Vec<Call> {
     let plan = |kind, n, wanted: [i8; 3], given: [i8; 3]| {
         let (wanted, given) = (stack3(wanted), stack3(given));
-        Call::Plan { kind, n, wanted, given, table: Rc::new(TABLE3.into()), list: vec![0xee; 30] }
+        Call::Plan { kind, n, wanted, given, groups: BOTH, table: Rc::new(TABLE3.into()), list: vec![0xee; LIST] }
     };
     vec![
         plan(PLAIN, 3, [1, 2, 3], [1, 2, 3]),
@@ -686,14 +808,30 @@ fn plan_calls() -> Vec<Call> {
         plan(PLAIN, 3, [1, 1, 3], [3, 1, 2]),
         plan(PLAIN, 3, [1, 2, 3], [1, 1, 3]),
         // 10 for the table and for the list.
-        plan3(&TABLE3[..1], [3, 1, 2], 30),
-        plan3(&[0x90, 0xf6, 0xff], [3, 1, 2], 30),
-        plan3(&TABLE3, [3, 1, 2], 29),
-        // 15: the given stack is unseen; the wanted entry is not 0, for another stack and for itself; no turn leads nearer.
-        plan3(&[0x90, 0xff], [3, 1, 2], 30),
-        plan3(&[0x91, 0xf6], [3, 1, 2], 30),
-        plan3(&[0x91, 0xf6], [1, 2, 3], 30),
-        plan3(&[0xfc, 0xf6], [3, 1, 2], 30),
+        plan3(&TABLE3[..1], [3, 1, 2], LIST),
+        plan3(&[0x90, 0xf6, 0xff], [3, 1, 2], LIST),
+        plan3(&TABLE3, [3, 1, 2], LIST - 1),
+        // 20: the given stack is unseen, for another stack and for the wanted one.
+        plan3(&[0x90, 0xff], [3, 1, 2], LIST),
+        plan3(&[0x93, 0xf6], [1, 2, 3], LIST),
+        // 15: the wanted entry is not 0, for another stack, also when unseen, and for itself; no turn leads nearer.
+        plan3(&[0x91, 0xf6], [3, 1, 2], LIST),
+        plan3(&[0x93, 0xf6], [3, 1, 2], LIST),
+        plan3(&[0x91, 0xf6], [1, 2, 3], LIST),
+        plan3(&[0xfc, 0xf6], [3, 1, 2], LIST),
+        // 21: no size, and one that is no turn.
+        plan3_by(0, &TABLE3, [3, 1, 2]),
+        plan3_by(BOTH | 1, &TABLE3, [3, 1, 2]),
+        // By turn 2 and by turn 3 alone, from their own tables; a stack without a road.
+        plan3_by(TURN_2, &[0xdc, 0xff], [2, 1, 3]),
+        plan3_by(TURN_2, &[0xdc, 0xff], [3, 2, 1]),
+        plan3_by(TURN_3, &[0xfc, 0xf7], [3, 2, 1]),
+        // From the table of both turns: no turn of the set leads nearer, at once and after a turn.
+        plan3_by(TURN_2, &TABLE3, [3, 1, 2]),
+        plan3_by(TURN_3, &TABLE3, [3, 1, 2]),
+        // Turn 2, which is smaller, leads to an entry that is nearer too.
+        plan3_by(TURN_3, &[0x3c, 0xf7], [3, 2, 1]),
+        plan3_by(BOTH, &[0x3c, 0xf7], [3, 2, 1]),
     ]
 }
 
@@ -706,7 +844,7 @@ fn price_calls() -> Vec<Call> {
         &[(1, 2, 1_250), (2, 3, 1_250)],
     ];
     let plans = plan_calls();
-    let of_plans = tariffs.iter().flat_map(|lines| plans.iter().map(|plan| price(plan, Tariff::of(lines))));
+    let of_plans = tariffs.iter().flat_map(|lines| plans.iter().map(|plan| plan.priced(Tariff::of(lines))));
     let telling = prices3(&[
         // Sums of 6,499, 6,500, 6,501 and 7,500.
         &[(3, 3, 4_299), (1, 2, 1_100)],
@@ -720,9 +858,131 @@ fn price_calls() -> Vec<Call> {
     // Past the count stand lines that would be seen.
     let mut tariff = Tariff { lines: [Line { first: 1, last: 3, price: 7 }; 12], count: 2 };
     tariff.lines[..2].copy_from_slice(&Tariff::of(&[(3, 3, 4_300), (1, 2, 1_100)]).lines[..2]);
-    let counted = [0, 1, 2, 3, 12, 13].map(|count| price(&plan3(&TABLE3, [1, 3, 2], 30), Tariff { count, ..tariff }));
+    let counted = [0, 1, 2, 3, 12, 13].map(|count| plan3(&TABLE3, [1, 3, 2], LIST).priced(Tariff { count, ..tariff }));
     let of_1 = [PLAIN, COATED].map(|kind| price1(kind, &[(1, 1, 2_500)]));
-    of_plans.chain(telling).chain(counted).chain(of_1).collect()
+    // A tariff is of sizes 1 to n, whatever the set: the turn that is lifted has its line, another size none, or two.
+    let of_set: [&[Triple]; 4] =
+        [&[(1, 3, 2_500)], &[(2, 2, 2_500)], &[(1, 2, 2_500)], &[(1, 1, 0), (2, 3, 2_500), (3, 3, 0)]];
+    let of_set = of_set.map(|lines| plan3_by(TURN_2, &[0xdc, 0xff], [2, 1, 3]).priced(Tariff::of(lines)));
+    of_plans.chain(telling).chain(counted).chain(of_1).chain(of_set).collect()
+}
+
+// ---- Two refusals at once
+
+// What brings a refusal about.
+type Cause<A> = (u8, fn(&mut A));
+
+// By the operation's order of refusals, each cause alone and any two at once, and the refusal of the first of them.
+fn in_order<A: Clone>(right: &A, causes: &[Cause<A>], call: fn(&A) -> Call) -> Vec<(Call, u8)> {
+    let mut calls = vec![(call(right), 0)];
+    for (place, (refusal, first)) in causes.iter().enumerate() {
+        let mut alone = right.clone();
+        first(&mut alone);
+        calls.push((call(&alone), *refusal));
+        for (_, second) in &causes[place + 1..] {
+            let mut both = right.clone();
+            // A table or a list that gets a wrong length gets it last.
+            second(&mut both);
+            first(&mut both);
+            calls.push((call(&both), *refusal));
+        }
+    }
+    calls
+}
+
+// Begin's fields, and the lengths of the table and the log area beside them.
+const BUILDING: [Cause<(Fields, usize, usize)>; 8] = [
+    (1, |(fields, ..)| fields.kind = 2),
+    (2, |(fields, ..)| fields.n = 11),
+    (3, |(fields, ..)| fields.wanted[1] = 2),
+    (21, |(fields, ..)| fields.groups = 0b110),
+    (5, |(fields, ..)| fields.size = 6),
+    (6, |(fields, ..)| fields.room = 15),
+    (10, |(_, bytes, _)| *bytes = 1),
+    (10, |(_, _, words)| *words = 41),
+];
+
+// Plan's arguments and Price's.
+#[derive(Clone)]
+struct Planning {
+    kind: u8,
+    n: u8,
+    wanted: [i8; 3],
+    given: [i8; 3],
+    groups: Groups,
+    table: Vec<u8>,
+    list: usize,
+    tariff: Tariff,
+}
+
+impl Planning {
+    fn plan(&self) -> Call {
+        let Planning { kind, n, groups, .. } = *self;
+        let (wanted, given) = (stack3(self.wanted), stack3(self.given));
+        Call::Plan { kind, n, wanted, given, groups, table: Rc::new(self.table.clone()), list: vec![0xee; self.list] }
+    }
+
+    fn price(&self) -> Call {
+        self.plan().priced(self.tariff)
+    }
+}
+
+// Price has all of them, Plan those up to 15. The given stack 3 1 2 has its entry in the second byte, the wanted one in the first.
+const PLANNING: [Cause<Planning>; 12] = [
+    (1, |of| of.kind = 255),
+    (2, |of| of.n = 0),
+    (3, |of| of.wanted = [1, 1, 3]),
+    (3, |of| of.given = [3, 1, 4]),
+    (21, |of| of.groups = 0b001),
+    (10, |of| of.table.truncate(1)),
+    (10, |of| of.list = LIST - 1),
+    (20, |of| of.table[1] = 0xff),
+    (15, |of| of.table[0] = 0x91),
+    (17, |of| of.tariff.lines[0].price = 1_000_001),
+    (18, |of| of.tariff.count = 2),
+    (19, |of| of.tariff.lines[1].first = 1),
+];
+
+// Other causes of the same refusals.
+const OTHER_PLANNING: [Cause<Planning>; 5] = [
+    (3, |of| of.given = [0, 1, 2]),
+    (21, |of| of.groups = 0),
+    (10, |of| of.table.push(0xff)),
+    (20, |of| of.table[1] = 0xff),
+    (15, |of| of.table[0] = 0xfc),
+];
+
+// At level 255.
+const CLOSING: [Cause<Job>; 4] = [
+    (7, |job| job.groups = 0),
+    (8, |job| job.phase = Phase::Finished(254)),
+    (13, |job| job.waiting[1] = 1),
+    (14, |job| job.counts[255] = 1),
+];
+
+// Each call with the refusal that the papers' order gives.
+pub fn orders() -> Vec<(Call, u8)> {
+    let right = (TELLING, 2, TELLING_LOGS);
+    let planning = Planning {
+        kind: PLAIN,
+        n: 3,
+        wanted: [1, 2, 3],
+        given: [3, 1, 2],
+        groups: BOTH,
+        table: TABLE3.into(),
+        list: LIST,
+        tariff: Tariff::of(&[(1, 1, 1_250), (2, 2, 1_250), (3, 3, 1_250)]),
+    };
+    [
+        in_order(&right, &BUILDING[..6], |(fields, ..)| begin(fields)),
+        in_order(&right, &BUILDING, |(fields, bytes, words)| build(fields, *bytes, *words)),
+        in_order(&planning, &PLANNING[..9], Planning::plan),
+        in_order(&planning, &PLANNING, Planning::price),
+        in_order(&planning, &OTHER_PLANNING, Planning::plan),
+        in_order(&planning, &OTHER_PLANNING, Planning::price),
+        in_order(&ready(small_job(Phase::Level(255))), &CLOSING, |&job| Call::Close { job }),
+    ]
+    .concat()
 }
 
 // ---- Past the first mebibyte
@@ -730,11 +990,11 @@ fn price_calls() -> Vec<Call> {
 // Plain 11 as one segment of 9,979,200 bytes, its wanted stack the last one.
 pub fn beyond_a_mebibyte() -> Vec<Call> {
     let wanted = std::array::from_fn(|place| 11 - place as i8);
-    let fields = Fields { kind: PLAIN, n: 11, wanted, size: 39_916_800, room: 16 };
-    let Fields { kind, n, size, .. } = fields;
+    let fields = Fields { wanted, size: 39_916_800, ..whole(PLAIN, 11) };
+    let Fields { kind, n, groups, size, .. } = fields;
     let bytes = paper::bytes_of(u64::from(size));
     let level = |passed: u32, waiting: u32| {
-        let mut job = job_of(&fields, Phase::Level(1));
+        let mut job = fields.job(Phase::Level(1));
         (job.passed[0], job.waiting[0]) = (passed, waiting);
         job
     };
@@ -745,7 +1005,7 @@ pub fn beyond_a_mebibyte() -> Vec<Call> {
     let mut segment = vec![0xff; bytes];
     segment[bytes - 10..].fill(0);
     let mut table = vec![0xff; bytes];
-    let road = walked(&mut Rng::new(1), &fields, 12, &mut table);
+    let road = walked(&mut Rng::new(1), &fields, 12, true, &mut table);
     let table = Rc::new(table);
     let entries =
         road.iter().map(|stack| Call::ReadEntry { kind, n, table: table.clone(), index: paper::index(kind, n, stack) });
@@ -754,11 +1014,12 @@ pub fn beyond_a_mebibyte() -> Vec<Call> {
         n,
         wanted,
         given,
+        groups,
         table: table.clone(),
-        list: vec![0xee; 30],
+        list: vec![0xee; LIST],
     });
-    let prices = plans.each_ref().map(|plan| price(plan, Tariff::of(&[(1, 5, 1_100), (6, 11, 4_300)])));
-    let job = job_of(&fields, Phase::Blanking);
+    let prices = plans.each_ref().map(|plan| plan.priced(Tariff::of(&[(1, 5, 1_100), (6, 11, 4_300)])));
+    let job = fields.job(Phase::Blanking);
     [
         Call::Blank { job, j: 0, segment: vec![0x24; bytes] },
         Call::Settle { job: level(0, 6), j: 0, segment: vec![0xff; bytes], logs: offsets.clone() },
@@ -773,6 +1034,7 @@ pub fn beyond_a_mebibyte() -> Vec<Call> {
 
 // All of them, the largest last.
 pub fn calls() -> Vec<Call> {
+    let orders = orders().into_iter().map(|(call, _)| call);
     let limits = LIMITS.iter().rev().flat_map(|limit| (limit.calls)());
-    operations().into_iter().chain(limits).chain(beyond_a_mebibyte()).collect()
+    operations().into_iter().chain(orders).chain(limits).chain(beyond_a_mebibyte()).collect()
 }

@@ -3,8 +3,8 @@
 //
 // Not here, as it cannot be told apart: the place of the job among the parameters. It is passed in memory, so that the numbers and buffers
 // around it come in the same registers wherever it stands. Nor here, as no safe call is like them: a stack in the place of a number, which
-// moves every register between the two, and a buffer in the place of either or behind the tariff, which makes a number an address: Price has no
-// registers left for its buffers, so that they come in memory, as the tariff does.
+// moves every register between the two, and a buffer in the place of either or behind the tariff, which makes a number an address: Plan and
+// Price have no registers left for their set and buffers, so that these come in memory, as the tariff does.
 
 use std::fmt;
 use std::rc::Rc;
@@ -23,7 +23,7 @@ struct Struct {
 }
 
 const REFUSAL: Field = ("refusal", 1, 1);
-const JOB_FIELD: Field = ("job", 792, 8);
+const JOB_FIELD: Field = ("job", 2592, 8);
 
 const JOB: Struct = Struct {
     name: "HokrundJob",
@@ -33,11 +33,12 @@ const JOB: Struct = Struct {
         ("phase", 1, 1),
         ("level", 1, 1),
         ("wanted", 12, 1),
+        ("groups", 4, 4),
         ("size", 4, 4),
         ("room", 4, 4),
         ("passed", 256, 4),
         ("waiting", 256, 4),
-        ("counts", 256, 8),
+        ("counts", 2048, 8),
     ],
 };
 const INDEXED: Struct = Struct { name: "HokrundIndexed", fields: &[REFUSAL, ("index", 4, 4)] };
@@ -62,21 +63,21 @@ const PARAMETERS: [(&str, &[&str]); 20] = [
     ("Index", &["kind", "n"]),
     ("Stack at", &["kind", "n", "index"]),
     ("Turn", &["kind", "n", "k"]),
-    ("Begin", &["kind", "n", "size", "room"]),
+    ("Begin", &["kind", "n", "groups", "size", "room"]),
     ("Expand", &["segment", "log"]),
     ("Expand", &["length", "words"]),
     ("Settle", &["segment", "log"]),
     ("Settle", &["length", "words"]),
     ("Read", &["kind", "n", "index"]),
-    ("Plan", &["kind", "n"]),
+    ("Plan", &["kind", "n", "groups"]),
     ("Plan", &["wanted", "given"]),
     ("Plan", &["table", "list"]),
     ("Plan", &["length", "slots"]),
-    ("Price", &["kind", "n"]),
+    ("Price", &["kind", "n", "groups"]),
     ("Price", &["wanted", "given"]),
     ("Price", &["table", "list"]),
     ("Price", &["length", "slots"]),
-    ("Build", &["kind", "n", "size", "room"]),
+    ("Build", &["kind", "n", "groups", "size", "room"]),
     ("Build", &["table", "log"]),
     ("Build", &["length", "words"]),
 ];
@@ -188,6 +189,7 @@ fn fields_of_job(job: &Job) -> Vec<Vec<u8>> {
         vec![phase],
         vec![level],
         bytes_of_stack(&job.wanted),
+        words(&[job.groups]),
         words(&[job.size]),
         words(&[job.room]),
         words(&job.passed),
@@ -203,11 +205,12 @@ fn job_of_fields(fields: &[Vec<u8>]) -> Job {
         n: fields[1][0],
         phase: Phase::of_numbers(fields[2][0], fields[3][0]),
         wanted: stack_of(&fields[4]),
-        size: number(&fields[5]) as u32,
-        room: number(&fields[6]) as u32,
-        passed: words(7),
-        waiting: words(8),
-        counts: std::array::from_fn(|level| number(&fields[9][8 * level..][..8])),
+        groups: number(&fields[5]) as u32,
+        size: number(&fields[6]) as u32,
+        room: number(&fields[7]) as u32,
+        passed: words(8),
+        waiting: words(9),
+        counts: std::array::from_fn(|level| number(&fields[10][8 * level..][..8])),
     }
 }
 
@@ -328,8 +331,9 @@ impl Number<'_> {
 // The number of that name, where the call has one.
 fn number_of<'a>(call: &'a mut Call, name: &str) -> Option<Number<'a>> {
     match call {
-        Call::Index { kind, n, .. } | Call::Plan { kind, n, .. } | Call::Price { kind, n, .. } => {
-            vec![("kind", Number::Byte(kind)), ("n", Number::Byte(n))]
+        Call::Index { kind, n, .. } => vec![("kind", Number::Byte(kind)), ("n", Number::Byte(n))],
+        Call::Plan { kind, n, groups, .. } | Call::Price { kind, n, groups, .. } => {
+            vec![("kind", Number::Byte(kind)), ("n", Number::Byte(n)), ("groups", Number::Word(groups))]
         }
         Call::StackAt { kind, n, index } | Call::ReadEntry { kind, n, index, .. } => {
             vec![("kind", Number::Byte(kind)), ("n", Number::Byte(n)), ("index", Number::Word(index))]
@@ -337,9 +341,10 @@ fn number_of<'a>(call: &'a mut Call, name: &str) -> Option<Number<'a>> {
         Call::Turn { kind, n, k, .. } => {
             vec![("kind", Number::Byte(kind)), ("n", Number::Byte(n)), ("k", Number::Byte(k))]
         }
-        Call::Begin { kind, n, size, room, .. } | Call::Build { kind, n, size, room, .. } => vec![
+        Call::Begin { kind, n, groups, size, room, .. } | Call::Build { kind, n, groups, size, room, .. } => vec![
             ("kind", Number::Byte(kind)),
             ("n", Number::Byte(n)),
+            ("groups", Number::Word(groups)),
             ("size", Number::Word(size)),
             ("room", Number::Word(room)),
         ],

@@ -21,36 +21,51 @@ faults! {
 FAULTS {
     // Index, Stack at, Turn, Begin.
     IndexSkipsUnusedPlaces, CoatsFromTheBottom, TurnOnePlain, TurnKeepsCoats, TurnOrderOf3And4,
-    BeginTakesRoom15, BeginTakes65Segments, BeginTakesOddSize, BeginOrderOf5And6,
+    BeginTakesRoom15, BeginTakes65Segments, BeginTakesOddSize, BeginOrderOf5And6, BeginTakesTurn1OfPlain, BeginTakesSizeAboveN,
+    BeginTakesHighBits, BeginTakesEmptySet, BeginRefusesSetOfPlain1, BeginOrderOf3And21, BeginOrderOf21And5, BeginForgetsSet,
+    BeginGivesFullSet,
     // Coherence.
-    LoosePhase, LooseCounts, LooseLevel, LooseDeepest, LoosePassed, LooseWaiting, LooseBeyondG, LooseWanted, LooseRoom, StrictCounts,
+    LoosePhase, LooseCounts, LooseLateCounts, LooseLevel, LooseDeepest, LoosePassed, LooseWaiting, LooseBeyondG, LooseWanted, LooseRoom,
+    LooseSet, StrictCounts, StrictLevel, StrictDeepest, StrictSet,
     // Blank.
-    BlankSparesZero, BlankForgetsWanted, BlankTwice, BlankRefusesPartly, BlankPassesSize,
+    BlankSparesZero, BlankForgetsWanted, BlankTwice, BlankRefusesPartly, BlankPassesSize, BlankDropsSet,
     // Expand.
     ExpandWaitsEarly, ExpandWaitsLate, ExpandCountsOwnChildren, ExpandNamesHighest, ExpandLogsHalf, ExpandPassesWaiting,
     ExpandFromTheFirst, ExpandFallingTurns, ExpandOfLevelD, ExpandCountsLogged, ExpandMarksSeen, ExpandSpares,
-    ExpandTakesPassed, OrderOf7And8, OrderOf8And9, OrderOf10And11,
+    ExpandTakesPassed, ExpandByEveryTurn, ExpandSkipsLargest, ExpandByNextSizes, ExpandLabelsTo31, ExpandCountsTo31, ExpandDropsSet,
+    OrderOf7And8, OrderOf8And9, OrderOf10And11,
     // Settle and Look.
     SettleMarksSeen, SettleCountsNothing, SettleMarksNothing, SettleKeepsWaiting, SettleTakesSpares, SettleLooksPastWaiting,
-    SettleMarksThenRefuses, LookNotWhileBlanking, LookFromWaiting,
+    SettleMarksThenRefuses, SettleLabelsTo31, SettleCountsTo31, SettleDropsSet, LookNotWhileBlanking, LookFromWaiting,
     // Close.
-    CloseWithLogWaiting, CloseUnpassed, CloseKeepsPassed, CloseDeepestD, CloseAddsCount0, CloseByZero, CloseTakesLevel31,
-    CloseOrderOf13And14,
+    CloseWithLogWaiting, CloseUnpassed, CloseKeepsPassed, CloseDeepestD, CloseAddsCount0, CloseByZero, CloseTakesLevel255,
+    CloseStopsAtLevel31, CloseStopsAtLevel254, CloseFinishesAtLevel255, CloseOrderOf13And14, CloseDropsSet,
     // Read and Plan.
-    ReadBitsReversed, ReadOrderOf10And4, ReadTakesLongTable, PlanTakesLargest, PlanEndsAtZero, PlanTakes29Only, PlanTakes31,
-    PlanWritesRefused, PlanClearsRest, PlanSkipsWantedEntry, PlanOrderOf3And10, PlanTakesShortList,
+    ReadBitsReversed, ReadOrderOf10And4, ReadTakesLongTable, PlanTakesLargest, PlanEndsAtZero, PlanTakes30Only, PlanTakes253Only,
+    PlanTakes255, PlanWritesRefused, PlanClearsRest, PlanSkipsWantedEntry, PlanOrderOf3And10, PlanTakesShortList, PlanTakesListOf30,
+    // Its set, and the given stack's own 3.
+    PlanTakesTurn1OfPlain, PlanTakesSizeAboveN, PlanTakesHighBits, PlanTakesEmptySet, PlanRefusesSetOfPlain1, PlanOrderOf3And21,
+    PlanOrderOf21And10, PlanByEveryTurn, PlanSkipsLargest, PlanByNextSizes, PlanOrderOf10And20, PlanOrderOf20And15, PlanGives15ForUnseen,
+    PlanGives20ForLost, PlanTakesWantedUnseen,
     // Price: its tariff.
     PriceTakes13Lines, PriceTakesLowByteOfCount, PriceLooksPastCount, PriceTakesFirst0, PriceTakesLastBeforeFirst,
     PriceTakesLastPastN, PriceTakesHigherPrice, PriceSkipsSize1, PriceSkipsSize1OfPlain, PriceSkipsSizeN, PriceTakesSizeWithoutLine,
-    PriceTakesFirstLineOfTwo, PriceTakesTwoLinesOfSizeN, PriceOrderOf10And17, PriceOrderOf15And17, PriceOrderOf17And18,
-    PriceOrderOf18And19, PriceLooksAtTariffFirst, PriceLooksLineByLine, PriceLooksSizeBySize,
+    PriceTakesFirstLineOfTwo, PriceTakesTwoLinesOfSizeN, PriceOrderOf10And17, PriceOrderOf15And17, PriceOrderOf20And17,
+    PriceOrderOf17And18, PriceOrderOf18And19, PriceLooksAtTariffFirst, PriceLooksLineByLine, PriceLooksSizeBySize, PriceAsksLinesOfSet,
+    PriceTakesTwoLinesBesideSet,
+    // Its set, its list, and the given stack's own 3.
+    PriceTakesTurn1OfPlain, PriceTakesSizeAboveN, PriceTakesHighBits, PriceTakesEmptySet, PriceRefusesSetOfPlain1, PriceOrderOf3And21,
+    PriceOrderOf21And10, PriceByEveryTurn, PriceSkipsLargest, PriceByNextSizes, PriceOrderOf10And20, PriceOrderOf20And15,
+    PriceGives15ForUnseen, PriceGives20ForLost, PriceTakesWantedUnseen, PriceTakesListOf30,
     // Its sum, its rounding, and what it leaves.
-    PriceOfFirstTurn, PriceForgetsTurn30, PriceOfSizeBelow, PriceOfEachSizeOnce, PriceSumsIn16Bits, PriceSumsIn24Bits,
-    PriceRoundsEachTurn, PriceRoundsDown, PriceRoundsUp, PriceRoundsHalvesDown, PriceRoundsHalvesToEven,
-    PriceWritesRefused, PriceKeepsList, PriceClearsRest, PriceRefusedWithTurns, PriceRefusedWithPennies,
+    PriceOfFirstTurn, PriceOfFirst30, PriceForgetsTurn254, PriceOfSizeBelow, PriceOfEachSizeOnce, PriceSumsIn16Bits, PriceSumsIn24Bits,
+    PriceSumsIn27Bits, PricePenniesIn16Bits, PriceRoundsEachTurn, PriceRoundsDown, PriceRoundsUp, PriceRoundsHalvesDown,
+    PriceRoundsHalvesToEven, PriceWritesRefused, PriceKeepsList, PriceClearsRest, PriceRefusedWithTurns, PriceRefusedWithPennies,
     // Build the whole table.
     BuildTakesLongTable, BuildTakesLongLog, BuildOrderOf6And10, BuildRefusedWithJob, BuildAnswersBegun, BuildKeepsTable,
-    BuildWritesRefused, BuildDeepestD,
+    BuildWritesRefused, BuildDeepestD, BuildTakesTurn1OfPlain, BuildTakesSizeAboveN, BuildTakesHighBits, BuildTakesEmptySet,
+    BuildRefusesSetOfPlain1, BuildOrderOf3And21, BuildOrderOf21And5, BuildByEveryTurn, BuildSkipsLargest, BuildByNextSizes, BuildForgetsSet,
+    BuildGivesFullSet,
 }
 FAR_FAULTS {
     BlankStopsAtMebibyte, ExpandWrapsAtMebibyte, SettleWrapsAtMebibyte, ReadWrapsAtMebibyte, PlanStopsAtMebibyte,
@@ -67,15 +82,167 @@ fn wrapped(i: u64) -> u64 {
 
 pub struct Faulty(pub Fault);
 
+// The faults that an operation may have with its set.
+struct SetFaults {
+    turn_1: Fault,
+    above_n: Fault,
+    high_bits: Fault,
+    empty: Fault,
+    plain_1: Fault,
+    order_3_21: Fault,
+    // By every turn, without the largest, by the sizes one above; none where it makes no turn.
+    turns: Option<[Fault; 3]>,
+}
+
+const BEGIN: SetFaults = SetFaults {
+    turn_1: Fault::BeginTakesTurn1OfPlain,
+    above_n: Fault::BeginTakesSizeAboveN,
+    high_bits: Fault::BeginTakesHighBits,
+    empty: Fault::BeginTakesEmptySet,
+    plain_1: Fault::BeginRefusesSetOfPlain1,
+    order_3_21: Fault::BeginOrderOf3And21,
+    turns: None,
+};
+
+const PLAN: SetFaults = SetFaults {
+    turn_1: Fault::PlanTakesTurn1OfPlain,
+    above_n: Fault::PlanTakesSizeAboveN,
+    high_bits: Fault::PlanTakesHighBits,
+    empty: Fault::PlanTakesEmptySet,
+    plain_1: Fault::PlanRefusesSetOfPlain1,
+    order_3_21: Fault::PlanOrderOf3And21,
+    turns: Some([Fault::PlanByEveryTurn, Fault::PlanSkipsLargest, Fault::PlanByNextSizes]),
+};
+
+const PRICE: SetFaults = SetFaults {
+    turn_1: Fault::PriceTakesTurn1OfPlain,
+    above_n: Fault::PriceTakesSizeAboveN,
+    high_bits: Fault::PriceTakesHighBits,
+    empty: Fault::PriceTakesEmptySet,
+    plain_1: Fault::PriceRefusesSetOfPlain1,
+    order_3_21: Fault::PriceOrderOf3And21,
+    turns: Some([Fault::PriceByEveryTurn, Fault::PriceSkipsLargest, Fault::PriceByNextSizes]),
+};
+
+const BUILD: SetFaults = SetFaults {
+    turn_1: Fault::BuildTakesTurn1OfPlain,
+    above_n: Fault::BuildTakesSizeAboveN,
+    high_bits: Fault::BuildTakesHighBits,
+    empty: Fault::BuildTakesEmptySet,
+    plain_1: Fault::BuildRefusesSetOfPlain1,
+    order_3_21: Fault::BuildOrderOf3And21,
+    turns: Some([Fault::BuildByEveryTurn, Fault::BuildSkipsLargest, Fault::BuildByNextSizes]),
+};
+
+// The faults that Plan and Price may have with a given stack that is unseen.
+struct UnseenFaults {
+    order_10_20: Fault,
+    order_20_15: Fault,
+    gives_15: Fault,
+    gives_20: Fault,
+    takes_wanted: Fault,
+}
+
+const PLAN_UNSEEN: UnseenFaults = UnseenFaults {
+    order_10_20: Fault::PlanOrderOf10And20,
+    order_20_15: Fault::PlanOrderOf20And15,
+    gives_15: Fault::PlanGives15ForUnseen,
+    gives_20: Fault::PlanGives20ForLost,
+    takes_wanted: Fault::PlanTakesWantedUnseen,
+};
+
+const PRICE_UNSEEN: UnseenFaults = UnseenFaults {
+    order_10_20: Fault::PriceOrderOf10And20,
+    order_20_15: Fault::PriceOrderOf20And15,
+    gives_15: Fault::PriceGives15ForUnseen,
+    gives_20: Fault::PriceGives20ForLost,
+    takes_wanted: Fault::PriceTakesWantedUnseen,
+};
+
+fn is_right_set(kind: u8, n: u8, groups: Groups) -> bool {
+    PAPER.right_groups(kind, n, groups).is_ok()
+}
+
+// 5 where S or G is wrong too, else 21.
+fn size_before_set(kind: u8, n: u8, wanted: &Stack, size: u32, room: u32) -> u8 {
+    match PAPER.measures(kind, n, wanted, paper::full_set(kind, n), size, room) {
+        Err(5) => 5,
+        _ => 21,
+    }
+}
+
 impl Faulty {
     fn is(&self, fault: Fault) -> bool {
         self.0 == fault
     }
 
+    // The set as the fault takes it, of a kind and n that may be wrong: what it lets by is left out, and nothing stands for every turn.
+    fn set_taken(&self, faults: &SetFaults, kind: u8, n: u8, groups: Groups) -> Groups {
+        if PAPER.right_kind_and_n(kind, n).is_err() {
+            return groups;
+        }
+        match self.0 {
+            fault if fault == faults.turn_1 && kind == PLAIN => groups & !1,
+            fault if fault == faults.above_n => groups & ((1 << n) - 1),
+            fault if fault == faults.high_bits => groups & 0xffff,
+            fault if fault == faults.empty && groups == 0 => paper::full_set(kind, n),
+            _ if is_right_set(kind, n, groups) => {
+                faults.turns.map_or(groups, |turns| self.turns_taken(turns, kind, n, groups))
+            }
+            _ => groups,
+        }
+    }
+
+    // The turns that the fault makes by a right set.
+    fn turns_taken(&self, [every, skips_largest, next]: [Fault; 3], kind: u8, n: u8, groups: Groups) -> Groups {
+        let full = paper::full_set(kind, n);
+        let largest = paper::sizes_of(groups).last();
+        let taken = match self.0 {
+            fault if fault == every => full,
+            fault if fault == skips_largest => groups & !paper::set_of(largest),
+            fault if fault == next => groups << 1 & full,
+            _ => groups,
+        };
+        if taken == 0 {
+            groups
+        } else {
+            taken
+        }
+    }
+
+    // Refusals from 3 to 21 and what comes after them, given otherwise by the fault.
+    fn set_otherwise(&self, faults: &SetFaults, refusal: u8, kind: u8, n: u8, groups: Groups) -> u8 {
+        match refusal {
+            1 | 2 => refusal,
+            3 if self.is(faults.order_3_21) && !is_right_set(kind, n, groups) => 21,
+            3 | 21 => refusal,
+            _ if self.is(faults.plain_1) && kind == PLAIN && n == 1 => 21,
+            _ => refusal,
+        }
+    }
+
+    // Plan's answer where 10, 20 or 15 has its place, given otherwise by the fault.
+    fn unseen_otherwise(&self, faults: &UnseenFaults, planned: Planned, call: &Planning) -> Planned {
+        let Planning { kind, n, wanted, given, table, .. } = *call;
+        if !matches!(planned.refusal, 10 | 15 | 20) || table.len() != paper::bytes_of(paper::count_of_stacks(kind, n)) {
+            return planned;
+        }
+        let entry_of = |stack: &Stack| paper::entry_at(table, u64::from(paper::index(kind, n, stack)));
+        let refusal = match planned.refusal {
+            10 if self.is(faults.order_10_20) && entry_of(given) == 3 => 20,
+            20 if self.is(faults.order_20_15) && entry_of(wanted) != 0 => 15,
+            20 if self.is(faults.gives_15) => 15,
+            20 if self.is(faults.takes_wanted) && given == wanted => 0,
+            15 if self.is(faults.gives_20) && entry_of(wanted) == 0 => 20,
+            other => other,
+        };
+        Planned { refusal, ..planned }
+    }
+
     // A job with what the fault overlooks put right.
     fn mended(&self, job: &Job) -> Job {
         let mut job = *job;
-        let measures = PAPER.measures(job.kind, job.n, &job.wanted, job.size, job.room);
+        let measures = PAPER.measures(job.kind, job.n, &job.wanted, job.groups, job.size, job.room);
         match (self.0, measures) {
             (Fault::LoosePhase, _) => {
                 if let Phase::NoPhase(number, level) = job.phase {
@@ -83,16 +250,18 @@ impl Faulty {
                 }
             }
             (Fault::LooseCounts, _) => job.counts.iter_mut().for_each(|count| *count = (*count).min(1 << 60)),
+            (Fault::LooseLateCounts, _) => job.counts[32..].iter_mut().for_each(|count| *count = (*count).min(1 << 60)),
             (Fault::LooseLevel, _) => {
                 if let Phase::Level(d) = job.phase {
-                    job.phase = Phase::Level(d.clamp(1, 31));
+                    job.phase = Phase::Level(d.max(1));
                 }
             }
             (Fault::LooseDeepest, _) => {
                 if let Phase::Finished(deepest) = job.phase {
-                    job.phase = Phase::Finished(deepest.min(30));
+                    job.phase = Phase::Finished(deepest.min(254));
                 }
             }
+            (Fault::LooseSet, Err(21)) => job.groups = paper::full_set(job.kind, job.n),
             (Fault::LooseWanted, _) if (1..=10).contains(&job.n) => job.wanted = ordered(job.n),
             (Fault::LooseRoom, _) => job.room = job.room.max(16),
             (Fault::LoosePassed, Ok(measures)) => clip(&mut job.passed, measures, |j| measures.stacks_of(j)),
@@ -108,7 +277,13 @@ impl Faulty {
 
     // The refusals that any call on a job shares, given otherwise by the fault.
     fn otherwise(&self, refusal: u8, job: &Job, j: u32, phase_is_right: bool) -> u8 {
-        let strict = self.is(Fault::StrictCounts) && job.counts.contains(&(1 << 60));
+        let strict = match self.0 {
+            Fault::StrictCounts => job.counts.contains(&(1 << 60)),
+            Fault::StrictLevel => matches!(job.phase, Phase::Level(32..)),
+            Fault::StrictDeepest => matches!(job.phase, Phase::Finished(31..)),
+            Fault::StrictSet => refusal != 7 && job.groups != paper::full_set(job.kind, job.n),
+            _ => false,
+        };
         match refusal {
             _ if strict => 7,
             7 if self.is(Fault::OrderOf7And8) && !phase_is_right => 8,
@@ -133,10 +308,17 @@ impl Faulty {
         let stacks = measures.stacks_of(here);
         let last = if self.is(Fault::ExpandSpares) { 4 * segment.len() as u64 } else { stacks };
         let expanded = if self.is(Fault::ExpandOfLevelD) { d % 3 } else { (d - 1) % 3 };
+        let (label, counted) = self.marks(Fault::ExpandLabelsTo31, Fault::ExpandCountsTo31, d);
+        let turns = [Fault::ExpandByEveryTurn, Fault::ExpandSkipsLargest, Fault::ExpandByNextSizes];
+        let groups = self.turns_taken(turns, job.kind, job.n, job.groups);
         let mut after = *job;
+        if self.is(Fault::ExpandDropsSet) {
+            after.groups = paper::full_set(job.kind, job.n);
+        }
         for i in first..last {
             if paper::entry_at(segment, i) == expanded {
-                let mut children = paper::children(job, (here * u64::from(job.size) + i) % measures.stacks);
+                let parent = (here * u64::from(job.size) + i) % measures.stacks;
+                let mut children = paper::children(&Job { groups, ..*job }, parent);
                 if self.is(Fault::ExpandFallingTurns) {
                     children.reverse();
                 }
@@ -155,7 +337,7 @@ impl Faulty {
                         if self.is(Fault::ExpandMarksSeen) {
                             paper::set_entry(segment, child.offset, 3);
                         }
-                        paper::mark(segment, child.offset, d, &mut after.counts);
+                        mark(segment, child.offset, label, &mut after.counts[counted]);
                         continue;
                     }
                     let waiting = &mut after.waiting[child.segment as usize];
@@ -170,6 +352,13 @@ impl Faulty {
             after.passed[j as usize] = (i + 1).min(stacks) as u32;
         }
         (after, None)
+    }
+
+    // The label of level d and the place of its count, as five bits would hold the level by one of these faults.
+    fn marks(&self, labels: Fault, counts: Fault, d: u8) -> (u8, usize) {
+        let label = if self.is(labels) { d.min(31) % 3 } else { d % 3 };
+        let counted = if self.is(counts) { d.min(31) } else { d };
+        (label, counted as usize)
     }
 
     fn full(&self, children: &[Child], after: &Job, here: u64, measures: Measures) -> Option<u32> {
@@ -221,13 +410,23 @@ impl Faulty {
     }
 
     // The refusals of a tariff, given otherwise by the fault.
-    fn tariff_otherwise(&self, refusal: u8, n: u8, tariff: &Tariff) -> u8 {
+    fn tariff_otherwise(&self, refusal: u8, n: u8, groups: Groups, tariff: &Tariff) -> u8 {
         let of_tariff = PAPER.right_lines(n, tariff).err();
         let lines = &tariff.lines[..tariff.count.min(12) as usize];
+        let lines_of = |size: u8| lines.iter().filter(|line| paper::covers(line, size)).count();
         let mut lines_of_sizes = (1..=n).map(|size| lines.iter().filter(|line| paper::covers(line, size)).count());
         match (self.0, refusal) {
             (Fault::PriceLooksAtTariffFirst, 1..) => of_tariff.unwrap_or(refusal),
             (Fault::PriceOrderOf10And17, 10) | (Fault::PriceOrderOf15And17, 15) if of_tariff == Some(17) => 17,
+            (Fault::PriceOrderOf20And17, 20) if of_tariff == Some(17) => 17,
+            (Fault::PriceAsksLinesOfSet, 18) if paper::sizes_of(groups).all(|size| lines_of(size) > 0) => {
+                if lines_of_sizes.any(|lines| lines > 1) {
+                    19
+                } else {
+                    0
+                }
+            }
+            (Fault::PriceTakesTwoLinesBesideSet, 19) if paper::sizes_of(groups).all(|size| lines_of(size) < 2) => 0,
             (Fault::PriceOrderOf17And18, 17) if lines_of_sizes.any(|lines| lines == 0) => 18,
             (Fault::PriceOrderOf18And19, 18) if lines_of_sizes.any(|lines| lines > 1) => 19,
             (Fault::PriceLooksSizeBySize, 18) if lines_of_sizes.find(|&lines| lines != 1) > Some(1) => 19,
@@ -252,11 +451,14 @@ impl Faulty {
         let once: Vec<u8> = (1..=12).filter(|k| plan.contains(k)).collect();
         match self.0 {
             Fault::PriceOfFirstTurn => paper::pennies(sum_of(&plan[..plan.len().min(1)])),
-            Fault::PriceForgetsTurn30 => paper::pennies(sum_of(&plan[..plan.len().min(29)])),
+            Fault::PriceOfFirst30 => paper::pennies(sum_of(&plan[..plan.len().min(30)])),
+            Fault::PriceForgetsTurn254 => paper::pennies(sum_of(&plan[..plan.len().min(253)])),
             Fault::PriceOfSizeBelow => paper::pennies(sum_of(&below)),
             Fault::PriceOfEachSizeOnce => paper::pennies(sum_of(&once)),
             Fault::PriceSumsIn16Bits => paper::pennies(sum % (1 << 16)),
             Fault::PriceSumsIn24Bits => paper::pennies(sum % (1 << 24)),
+            Fault::PriceSumsIn27Bits => paper::pennies(sum % (1 << 27)),
+            Fault::PricePenniesIn16Bits => paper::pennies(sum) % (1 << 16),
             Fault::PriceRoundsEachTurn => plan.iter().map(|&k| paper::pennies(sum_of(&[k]))).sum(),
             Fault::PriceRoundsDown => (sum / 1000) as u32,
             Fault::PriceRoundsUp => sum.div_ceil(1000) as u32,
@@ -264,6 +466,29 @@ impl Faulty {
             Fault::PriceRoundsHalvesToEven if sum % 2000 == 500 => (sum / 1000) as u32,
             _ => paper::pennies(sum),
         }
+    }
+}
+
+// What Plan is asked.
+struct Planning<'a> {
+    kind: u8,
+    n: u8,
+    wanted: &'a Stack,
+    given: &'a Stack,
+    table: &'a [u8],
+}
+
+impl Planning<'_> {
+    fn has_wrong_length(&self, list: &[u8]) -> bool {
+        self.table.len() != paper::bytes_of(paper::count_of_stacks(self.kind, self.n)) || list.len() < 254
+    }
+}
+
+// Gives an unseen entry the label and one more in the count.
+fn mark(segment: &mut [u8], i: u64, label: u8, count: &mut u64) {
+    if paper::entry_at(segment, i) == 3 {
+        paper::set_entry(segment, i, label);
+        *count += 1;
     }
 }
 
@@ -312,8 +537,13 @@ impl System for Faulty {
         answer
     }
 
-    fn begin(&self, kind: u8, n: u8, wanted: Stack, size: u32, room: u32) -> Answer {
-        let mut answer = PAPER.begin(kind, n, wanted, size, room);
+    fn begin(&self, kind: u8, n: u8, wanted: Stack, groups: Groups, size: u32, room: u32) -> Answer {
+        let taken = self.set_taken(&BEGIN, kind, n, groups);
+        let mut answer = PAPER.begin(kind, n, wanted, taken, size, room);
+        answer.refusal = self.set_otherwise(&BEGIN, answer.refusal, kind, n, groups);
+        if self.is(Fault::BeginOrderOf21And5) && answer.refusal == 21 {
+            answer.refusal = size_before_set(kind, n, &wanted, size, room);
+        }
         let loose = match (self.0, answer.refusal) {
             (Fault::BeginTakesRoom15, 6) => room == 15,
             (Fault::BeginTakes65Segments, 5) => size.is_multiple_of(4) && (4..=67_108_864).contains(&size),
@@ -321,7 +551,16 @@ impl System for Faulty {
             _ => false,
         };
         if loose {
-            return Answer { refusal: 0, job: Job { kind, n, wanted, size, room, ..NO_JOB } };
+            return Answer { refusal: 0, job: Job { kind, n, wanted, groups, size, room, ..NO_JOB } };
+        }
+        if answer.refusal != 0 {
+            answer.job = NO_JOB;
+        } else {
+            answer.job.groups = match self.0 {
+                Fault::BeginForgetsSet => 0,
+                Fault::BeginGivesFullSet => paper::full_set(kind, n),
+                _ => groups,
+            };
         }
         if self.is(Fault::BeginOrderOf5And6) && answer.refusal == 5 && !(16..=1_048_576).contains(&room) {
             answer.refusal = 6;
@@ -355,6 +594,7 @@ impl System for Faulty {
             }
             Fault::BlankForgetsWanted => segment.fill(0xff),
             Fault::BlankPassesSize => answer.job.passed[place] = job.size,
+            Fault::BlankDropsSet => answer.job.groups = paper::full_set(job.kind, job.n),
             _ => {}
         }
         answer
@@ -396,6 +636,12 @@ impl System for Faulty {
         let waiting = &stretch[..given.waiting[j as usize] as usize];
         let right = |offset: &u32| u64::from(*offset) < stacks;
         match self.0 {
+            Fault::SettleLabelsTo31 | Fault::SettleCountsTo31 if refusal == 0 => {
+                let (label, counted) = self.marks(Fault::SettleLabelsTo31, Fault::SettleCountsTo31, d);
+                segment.copy_from_slice(&before);
+                answer.job.counts = given.counts;
+                waiting.iter().for_each(|&i| mark(segment, u64::from(i), label, &mut answer.job.counts[counted]));
+            }
             Fault::SettleMarksSeen => waiting.iter().for_each(|&i| {
                 if refusal == 0 {
                     paper::set_entry(segment, u64::from(i), d % 3)
@@ -404,6 +650,7 @@ impl System for Faulty {
             Fault::SettleCountsNothing if refusal == 0 => answer.job.counts = given.counts,
             Fault::SettleMarksNothing => segment.copy_from_slice(&before),
             Fault::SettleKeepsWaiting if refusal == 0 => answer.job.waiting = given.waiting,
+            Fault::SettleDropsSet if refusal == 0 => answer.job.groups = paper::full_set(job.kind, job.n),
             Fault::SettleTakesSpares if refusal == 12 => {
                 let in_bytes = |offset: &u32| u64::from(*offset) < 4 * before.len() as u64;
                 if waiting.iter().all(in_bytes) {
@@ -454,12 +701,15 @@ impl System for Faulty {
         let mut answer = PAPER.close(&given);
         let ended = matches!(job.phase, Phase::Finished(_));
         answer.refusal = self.otherwise(answer.refusal, job, 0, !ended);
-        let level_31 = job.phase == Phase::Level(31) && job.counts[31] != 0;
-        if self.is(Fault::CloseOrderOf13And14) && answer.refusal == 13 && level_31 {
-            answer.refusal = 14;
-        }
-        if self.is(Fault::CloseTakesLevel31) && answer.refusal == 14 {
-            return Answer { refusal: 0, job: Job { phase: Phase::Finished(30), passed: [0; 64], ..*job } };
+        let brought = |d: u8| job.phase == Phase::Level(d) && job.counts[d as usize] != 0;
+        answer.refusal = match (self.0, answer.refusal) {
+            (Fault::CloseOrderOf13And14, 13) if brought(255) => 14,
+            (Fault::CloseStopsAtLevel31, 0) if brought(31) => 14,
+            (Fault::CloseStopsAtLevel254, 0) if brought(254) => 14,
+            (_, other) => other,
+        };
+        if self.is(Fault::CloseTakesLevel255) && answer.refusal == 14 {
+            return Answer { refusal: 0, job: Job { phase: Phase::Finished(254), passed: [0; 64], ..*job } };
         }
         if answer.refusal != 0 {
             return Answer { refusal: answer.refusal, job: *job };
@@ -469,6 +719,10 @@ impl System for Faulty {
             (Fault::CloseKeepsPassed, _, _) => after.passed = job.passed,
             (Fault::CloseDeepestD, _, Phase::Finished(deepest)) => after.phase = Phase::Finished(deepest + 1),
             (Fault::CloseAddsCount0, Phase::Blanking, _) => after.counts[0] = job.counts[0] + 1,
+            (Fault::CloseFinishesAtLevel255, Phase::Level(254), Phase::Level(255)) => {
+                after.phase = Phase::Finished(254)
+            }
+            (Fault::CloseDropsSet, _, _) => after.groups = paper::full_set(job.kind, job.n),
             (Fault::CloseByZero, Phase::Level(d), Phase::Level(_)) if job.counts[d as usize] < 3 => {
                 after.phase = Phase::Finished(d - 1)
             }
@@ -499,15 +753,35 @@ impl System for Faulty {
         answer
     }
 
-    fn plan(&self, kind: u8, n: u8, wanted: Stack, given: Stack, table: &[u8], list: &mut [u8]) -> Planned {
+    fn plan(
+        &self,
+        kind: u8,
+        n: u8,
+        wanted: Stack,
+        given: Stack,
+        groups: Groups,
+        table: &[u8],
+        list: &mut [u8],
+    ) -> Planned {
         let mut lent = list.to_vec();
-        if self.is(Fault::PlanTakesShortList) && lent.len() == 29 {
-            lent.push(0);
+        match (self.0, lent.len()) {
+            (Fault::PlanTakesShortList, 253) | (Fault::PlanTakesListOf30, 30..) => lent.resize(lent.len().max(254), 0),
+            _ => {}
         }
         let near = self.is(Fault::PlanStopsAtMebibyte).then(|| seen_to_mebibyte(table));
         let table = near.as_deref().unwrap_or(table);
-        let mut answer = PAPER.plan(kind, n, wanted, given, table, &mut lent);
-        if self.is(Fault::PlanOrderOf3And10) && answer.refusal == 3 && list.len() < 30 {
+        let taken = self.set_taken(&PLAN, kind, n, groups);
+        let mut answer = PAPER.plan(kind, n, wanted, given, taken, table, &mut lent);
+        let refusal = self.set_otherwise(&PLAN, answer.refusal, kind, n, groups);
+        if refusal != answer.refusal {
+            return Planned { refusal, turns: 0 };
+        }
+        let call = Planning { kind, n, wanted: &wanted, given: &given, table };
+        answer = self.unseen_otherwise(&PLAN_UNSEEN, answer, &call);
+        if self.is(Fault::PlanOrderOf3And10) && answer.refusal == 3 && list.len() < 254 {
+            answer.refusal = 10;
+        }
+        if self.is(Fault::PlanOrderOf21And10) && answer.refusal == 21 && call.has_wrong_length(list) {
             answer.refusal = 10;
         }
         let short = list.len().min(lent.len());
@@ -517,16 +791,17 @@ impl System for Faulty {
         let goal_entry = if walks { entry_of(&wanted) } else { 0 };
         let given_entry = if walks { entry_of(&given) } else { 0 };
         match self.0 {
-            Fault::PlanTakes29Only if answer.turns == 30 => answer = Planned { refusal: 15, turns: 0 },
+            Fault::PlanTakes30Only if answer.turns > 30 => answer = Planned { refusal: 15, turns: 0 },
+            Fault::PlanTakes253Only if answer.turns > 253 => answer = Planned { refusal: 15, turns: 0 },
             Fault::PlanClearsRest if answer.refusal == 0 => list[answer.turns as usize..].fill(0),
             Fault::PlanWritesRefused if answer.refusal == 15 => list[0] ^= 1,
             Fault::PlanSkipsWantedEntry if walks && given == wanted && goal_entry != 3 => {
                 answer = Planned { refusal: 0, turns: 0 }
             }
-            Fault::PlanTakesLargest | Fault::PlanEndsAtZero | Fault::PlanTakes31
+            Fault::PlanTakesLargest | Fault::PlanEndsAtZero | Fault::PlanTakes255
                 if walks && goal_entry == 0 && given_entry != 3 =>
             {
-                let limit = if self.is(Fault::PlanTakes31) { 31 } else { 30 };
+                let limit = if self.is(Fault::PlanTakes255) { 255 } else { 254 };
                 let mut at = given;
                 let mut plan = Vec::new();
                 loop {
@@ -536,7 +811,7 @@ impl System for Faulty {
                     }
                     let nearer = (entry_of(&at) + 2) % 3;
                     let mut leading =
-                        paper::turns(kind, n).filter(|&k| entry_of(&paper::turned(kind, &at, k)) == nearer);
+                        paper::sizes_of(taken).filter(|&k| entry_of(&paper::turned(kind, &at, k)) == nearer);
                     let k = if self.is(Fault::PlanTakesLargest) { leading.last() } else { leading.next() };
                     let (Some(k), true) = (k, plan.len() < limit.min(list.len())) else {
                         return answer;
@@ -558,6 +833,7 @@ impl System for Faulty {
         n: u8,
         wanted: Stack,
         given: Stack,
+        groups: Groups,
         table: &[u8],
         list: &mut [u8],
         tariff: &Tariff,
@@ -565,19 +841,37 @@ impl System for Faulty {
         let near = self.is(Fault::PriceStopsAtMebibyte).then(|| seen_to_mebibyte(table));
         let table = near.as_deref().unwrap_or(table);
         let before = list.to_vec();
+        let taken = self.set_taken(&PRICE, kind, n, groups);
+        let call = Planning { kind, n, wanted: &wanted, given: &given, table };
         let mut planned_list = list.to_vec();
-        let planned = PAPER.plan(kind, n, wanted, given, table, &mut planned_list);
-        let plan = &planned_list[..planned.turns as usize];
+        if self.is(Fault::PriceTakesListOf30) && list.len() >= 30 {
+            planned_list.resize(list.len().max(254), 0);
+        }
+        let mut planned = PAPER.plan(kind, n, wanted, given, taken, table, &mut planned_list);
+        planned_list.truncate(list.len());
+        planned.refusal = self.set_otherwise(&PRICE, planned.refusal, kind, n, groups);
+        if self.is(Fault::PriceOrderOf21And10) && planned.refusal == 21 && call.has_wrong_length(list) {
+            planned.refusal = 10;
+        }
+        planned = self.unseen_otherwise(&PRICE_UNSEEN, planned, &call);
+        let plan = &planned_list[..(planned.turns as usize).min(list.len())];
         let tariff = self.counted(tariff);
         let lines = &tariff.lines[..tariff.count.min(12) as usize];
-        let mut answer = self.paper(kind).price(kind, n, wanted, given, table, list, &tariff);
-        answer.refusal = self.tariff_otherwise(answer.refusal, n, &tariff);
+        let mut answer = Priced { refusal: planned.refusal, turns: 0, pennies: 0 };
+        if answer.refusal == 0 {
+            answer.refusal = self.paper(kind).right_lines(n, &tariff).err().unwrap_or(0);
+        }
+        answer.refusal = self.tariff_otherwise(answer.refusal, n, groups, &tariff);
+        if answer.refusal == 0 {
+            answer.turns = planned.turns;
+            list.copy_from_slice(&planned_list);
+        }
         match (self.0, answer.refusal) {
-            (Fault::PriceWritesRefused, 17..) => list.copy_from_slice(&planned_list),
+            (Fault::PriceWritesRefused, 17..=19) => list.copy_from_slice(&planned_list),
             (Fault::PriceKeepsList, 0) => list.copy_from_slice(&before),
             (Fault::PriceClearsRest, 0) => list[plan.len()..].fill(0),
-            (Fault::PriceRefusedWithTurns, 17..) => answer.turns = planned.turns,
-            (_, 0) | (Fault::PriceRefusedWithPennies, 17..) => answer.pennies = self.pennies(plan, lines),
+            (Fault::PriceRefusedWithTurns, 17..=19) => answer.turns = planned.turns,
+            (_, 0) | (Fault::PriceRefusedWithPennies, 17..=19) => answer.pennies = self.pennies(plan, lines),
             _ => {}
         }
         answer
@@ -588,12 +882,14 @@ impl System for Faulty {
         kind: u8,
         n: u8,
         wanted: Stack,
+        groups: Groups,
         size: u32,
         room: u32,
         table: &mut [u8],
         logs: &mut [u32],
     ) -> Answer {
-        let fields = Fields { kind, n, wanted, size, room };
+        let taken = self.set_taken(&BUILD, kind, n, groups);
+        let fields = Fields { kind, n, wanted, groups: taken, size, room };
         let fitting = fields.measures().map(|measures| (paper::bytes_of(measures.stacks), measures.log_numbers()));
         let (mut bytes, mut words) = (table.len(), logs.len());
         match (self.0, fitting) {
@@ -602,13 +898,24 @@ impl System for Faulty {
             _ => {}
         }
         let before = table.to_vec();
-        let mut answer = PAPER.build_table(kind, n, wanted, size, room, &mut table[..bytes], &mut logs[..words]);
+        let mut answer = PAPER.build_table(kind, n, wanted, taken, size, room, &mut table[..bytes], &mut logs[..words]);
+        let refusal = self.set_otherwise(&BUILD, answer.refusal, kind, n, groups);
+        if refusal != answer.refusal {
+            table.copy_from_slice(&before);
+            return Answer { refusal, job: NO_JOB };
+        }
+        if refusal == 0 {
+            answer.job.groups = groups;
+        }
         match (self.0, answer.refusal) {
+            (Fault::BuildOrderOf21And5, 21) => answer.refusal = size_before_set(kind, n, &wanted, size, room),
+            (Fault::BuildForgetsSet, 0) => answer.job.groups = 0,
+            (Fault::BuildGivesFullSet, 0) => answer.job.groups = paper::full_set(kind, n),
             (Fault::BuildOrderOf6And10, 6) if table.len() != paper::bytes_of(paper::count_of_stacks(kind, n)) => {
                 answer.refusal = 10
             }
             (Fault::BuildRefusedWithJob, 10) | (Fault::BuildAnswersBegun, 0) => {
-                answer.job = PAPER.begin(kind, n, wanted, size, room).job
+                answer.job = PAPER.begin(kind, n, wanted, groups, size, room).job
             }
             (Fault::BuildKeepsTable, 0) => table.copy_from_slice(&before),
             (Fault::BuildWritesRefused, 1..) => table.iter_mut().for_each(|byte| *byte ^= 1),

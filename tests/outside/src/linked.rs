@@ -19,11 +19,12 @@ struct CJob {
     phase: u8,
     level: u8,
     wanted: CStack,
+    groups: u32,
     size: u32,
     room: u32,
     passed: [u32; 64],
     waiting: [u32; 64],
-    counts: [u64; 32],
+    counts: [u64; 256],
 }
 
 #[repr(C)]
@@ -98,10 +99,12 @@ pub const JOB_BYTES: usize = size_of::<CJob>();
 
 // The layout that include/hokrund.h asserts on its side.
 const _: () = {
-    assert!(JOB_BYTES == 792 && offset_of!(CJob, wanted) == 4 && offset_of!(CJob, size) == 16);
-    assert!(offset_of!(CJob, passed) == 24 && offset_of!(CJob, waiting) == 280 && offset_of!(CJob, counts) == 536);
-    assert!(size_of::<CIndexed>() == 8 && size_of::<CStacked>() == 13 && size_of::<CAnswer>() == 800);
-    assert!(size_of::<CExpanded>() == 800 && offset_of!(CExpanded, on) == 4 && offset_of!(CExpanded, job) == 8);
+    assert!(JOB_BYTES == 2592 && offset_of!(CJob, wanted) == 4 && offset_of!(CJob, groups) == 16);
+    assert!(offset_of!(CJob, size) == 20 && offset_of!(CJob, room) == 24);
+    assert!(offset_of!(CJob, passed) == 28 && offset_of!(CJob, waiting) == 284 && offset_of!(CJob, counts) == 544);
+    assert!(size_of::<CIndexed>() == 8 && size_of::<CStacked>() == 13);
+    assert!(size_of::<CAnswer>() == 2600 && offset_of!(CAnswer, job) == 8);
+    assert!(size_of::<CExpanded>() == 2600 && offset_of!(CExpanded, on) == 4 && offset_of!(CExpanded, job) == 8);
     assert!(size_of::<CLook>() == 24 && size_of::<CEntry>() == 2 && size_of::<CPlanned>() == 8);
     assert!(size_of::<CLine>() == 8 && offset_of!(CLine, last) == 1 && offset_of!(CLine, price) == 4);
     assert!(size_of::<CTariff>() == 100 && offset_of!(CTariff, lines) == 4);
@@ -114,7 +117,7 @@ pub fn places() -> [(&'static str, Vec<usize>); 11] {
         ($of:ty: $($field:ident)*) => { vec![$(offset_of!($of, $field)),*] };
     }
     [
-        ("HokrundJob", places!(CJob: kind n phase level wanted size room passed waiting counts)),
+        ("HokrundJob", places!(CJob: kind n phase level wanted groups size room passed waiting counts)),
         ("HokrundIndexed", places!(CIndexed: refusal index)),
         ("HokrundStacked", places!(CStacked: refusal stack)),
         ("HokrundAnswer", places!(CAnswer: refusal job)),
@@ -132,7 +135,7 @@ extern "C" {
     fn hokrund_index_of_stack(kind: u8, n: u8, stack: CStack) -> CIndexed;
     fn hokrund_stack_at_index(kind: u8, n: u8, index: u32) -> CStacked;
     fn hokrund_turn(kind: u8, n: u8, stack: CStack, k: u8) -> CStacked;
-    fn hokrund_begin(kind: u8, n: u8, wanted: CStack, size: u32, room: u32) -> CAnswer;
+    fn hokrund_begin(kind: u8, n: u8, wanted: CStack, groups: u32, size: u32, room: u32) -> CAnswer;
     fn hokrund_blank(job: CJob, j: u32, segment: *mut u8, length: usize) -> CAnswer;
     fn hokrund_expand(job: CJob, j: u32, segment: *mut u8, length: usize, log: *mut u32, words: usize) -> CExpanded;
     fn hokrund_settle(job: CJob, j: u32, segment: *mut u8, length: usize, log: *const u32, words: usize) -> CAnswer;
@@ -145,6 +148,7 @@ extern "C" {
         n: u8,
         wanted: CStack,
         given: CStack,
+        groups: u32,
         table: *const u8,
         length: usize,
         list: *mut u8,
@@ -156,6 +160,7 @@ extern "C" {
         n: u8,
         wanted: CStack,
         given: CStack,
+        groups: u32,
         table: *const u8,
         length: usize,
         list: *mut u8,
@@ -167,6 +172,7 @@ extern "C" {
         kind: u8,
         n: u8,
         wanted: CStack,
+        groups: u32,
         size: u32,
         room: u32,
         table: *mut u8,
@@ -184,6 +190,7 @@ fn mirror(job: &Job) -> CJob {
         phase,
         level,
         wanted: CStack { places: job.wanted },
+        groups: job.groups,
         size: job.size,
         room: job.room,
         passed: job.passed,
@@ -197,6 +204,7 @@ fn job(mirror: CJob) -> Job {
         kind: mirror.kind,
         n: mirror.n,
         wanted: mirror.wanted.places,
+        groups: mirror.groups,
         size: mirror.size,
         room: mirror.room,
         phase: Phase::of_numbers(mirror.phase, mirror.level),
@@ -236,8 +244,8 @@ impl System for Library {
         stacked(unsafe { hokrund_turn(kind, n, CStack { places: stack }, k) })
     }
 
-    fn begin(&self, kind: u8, n: u8, wanted: Stack, size: u32, room: u32) -> Answer {
-        answer(unsafe { hokrund_begin(kind, n, CStack { places: wanted }, size, room) })
+    fn begin(&self, kind: u8, n: u8, wanted: Stack, groups: Groups, size: u32, room: u32) -> Answer {
+        answer(unsafe { hokrund_begin(kind, n, CStack { places: wanted }, groups, size, room) })
     }
 
     fn blank(&self, job: &Job, j: u32, segment: &mut [u8]) -> Answer {
@@ -273,10 +281,20 @@ impl System for Library {
         Entry { refusal: r.refusal, entry: r.entry }
     }
 
-    fn plan(&self, kind: u8, n: u8, wanted: Stack, given: Stack, table: &[u8], list: &mut [u8]) -> Planned {
+    fn plan(
+        &self,
+        kind: u8,
+        n: u8,
+        wanted: Stack,
+        given: Stack,
+        groups: Groups,
+        table: &[u8],
+        list: &mut [u8],
+    ) -> Planned {
         let (wanted, given) = (CStack { places: wanted }, CStack { places: given });
+        let (length, slots) = (table.len(), list.len());
         let r =
-            unsafe { hokrund_plan(kind, n, wanted, given, table.as_ptr(), table.len(), list.as_mut_ptr(), list.len()) };
+            unsafe { hokrund_plan(kind, n, wanted, given, groups, table.as_ptr(), length, list.as_mut_ptr(), slots) };
         Planned { refusal: r.refusal, turns: r.turns }
     }
 
@@ -286,14 +304,15 @@ impl System for Library {
         n: u8,
         wanted: Stack,
         given: Stack,
+        groups: Groups,
         table: &[u8],
         list: &mut [u8],
         tariff: &Tariff,
     ) -> Priced {
         let (wanted, given, tariff) = (CStack { places: wanted }, CStack { places: given }, self::tariff(tariff));
         let (length, slots) = (table.len(), list.len());
-        let r =
-            unsafe { hokrund_price(kind, n, wanted, given, table.as_ptr(), length, list.as_mut_ptr(), slots, tariff) };
+        let (table, list) = (table.as_ptr(), list.as_mut_ptr());
+        let r = unsafe { hokrund_price(kind, n, wanted, given, groups, table, length, list, slots, tariff) };
         Priced { refusal: r.refusal, turns: r.turns, pennies: r.pennies }
     }
 
@@ -302,6 +321,7 @@ impl System for Library {
         kind: u8,
         n: u8,
         wanted: Stack,
+        groups: Groups,
         size: u32,
         room: u32,
         table: &mut [u8],
@@ -309,8 +329,7 @@ impl System for Library {
     ) -> Answer {
         let wanted = CStack { places: wanted };
         let (length, words) = (table.len(), logs.len());
-        answer(unsafe {
-            hokrund_build_table(kind, n, wanted, size, room, table.as_mut_ptr(), length, logs.as_mut_ptr(), words)
-        })
+        let (table, logs) = (table.as_mut_ptr(), logs.as_mut_ptr());
+        answer(unsafe { hokrund_build_table(kind, n, wanted, groups, size, room, table, length, logs, words) })
     }
 }

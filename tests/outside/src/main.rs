@@ -10,12 +10,27 @@ use std::process::ExitCode;
 use std::time::Instant;
 
 use outside::cases::{Family, FAMILIES};
-use outside::checks;
+use outside::checks::{self, Frame, DEEP};
 use outside::compare::{compare, compare_call, Tally};
 use outside::linked::Library;
 use outside::paper::PAPER;
 use outside::system::System;
 use outside::{caught, deliberate, pipe, report_faults};
+
+// A system that is held to the checks, and how far its builds go.
+struct Held {
+    name: &'static str,
+    system: &'static dyn System,
+    plain_to: u8,
+    coated_to: u8,
+    frames: &'static [Frame],
+}
+
+// The library's builds reach further than the paper's, which stop where its seconds do.
+const HELD: [Held; 2] = [
+    Held { name: "paper", system: &PAPER, plain_to: 9, coated_to: 6, frames: DEEP.split_at(1).0 },
+    Held { name: "library", system: &Library, plain_to: 10, coated_to: 8, frames: DEEP },
+];
 
 struct Options {
     seed: u64,
@@ -111,16 +126,18 @@ fn main() -> ExitCode {
     println!("outside tests, seed {}, about {} calls", options.seed, options.cases);
     let mut fine = true;
     if options.family.is_none() {
-        // The library's builds reach further than the paper's, which stop where its seconds do.
-        let systems: [(&str, &dyn System, u8, u8); 2] = [("paper", &PAPER, 9, 6), ("library", &Library, 10, 8)];
-        for (name, system, plain_to, coated_to) in systems {
+        for Held { name, system, plain_to, coated_to, frames } in HELD {
             fine &= report(&format!("{name}, examples"), || checks::examples(system));
             fine &= report(&format!("{name}, numbering"), || checks::numbering(system));
             fine &= report(&format!("{name}, builds"), || checks::builds(system, options.seed));
+            fine &= report(&format!("{name}, limited sets"), || checks::limited(system, options.seed));
+            fine &= report(&format!("{name}, deep builds"), || checks::deep(system, frames));
+            fine &= report(&format!("{name}, last level"), || checks::late(system));
             fine &= report(&format!("{name}, diameters"), || checks::diameters(system, plain_to, coated_to));
         }
         fine &= report("comparison", || caught::by_families(options.seed));
         fine &= report("limits", caught::limits);
+        fine &= report("orders", caught::orders);
         fine &= report("exchanges", caught::exchanges);
         fine &= report("far bytes", caught::far);
         fine &= report("on purpose", || on_purpose(&Library));

@@ -15,6 +15,10 @@ pub struct Limits {
     pub most_panes: [u8; 2],
     pub first_turn: [u8; 2],
     pub turn_past_n: i8,
+    // Of a set: its sizes, and how many of them, where n has no turn and where it has some.
+    pub first_group: [u8; 2],
+    pub group_past_n: i8,
+    pub least_groups: [u32; 2],
     pub index_past_stacks: i64,
     pub size_step: u32,
     pub least_size: u32,
@@ -27,6 +31,9 @@ pub struct Limits {
     pub first_level: u8,
     pub last_level: u8,
     pub most_deepest: u8,
+    // The level that 14 is about.
+    pub level_of_14: u8,
+    pub counts: usize,
     pub most_count: u64,
     pub passed_past_m: i64,
     pub waiting_past_c: i64,
@@ -56,6 +63,9 @@ const LIMITS: Limits = Limits {
     most_panes: [12, 10],
     first_turn: [2, 1],
     turn_past_n: 0,
+    first_group: [2, 1],
+    group_past_n: 0,
+    least_groups: [0, 1],
     index_past_stacks: 0,
     size_step: 4,
     least_size: 4,
@@ -66,8 +76,10 @@ const LIMITS: Limits = Limits {
     phases: 3,
     most_blanking_level: 0,
     first_level: 1,
-    last_level: 31,
-    most_deepest: 30,
+    last_level: 255,
+    most_deepest: 254,
+    level_of_14: 255,
+    counts: 256,
     most_count: 1 << 60,
     passed_past_m: 0,
     waiting_past_c: 0,
@@ -76,8 +88,8 @@ const LIMITS: Limits = Limits {
     segment_past_g: 0,
     offset_past_m: 0,
     falling_past_free: 0,
-    most_turns: 30,
-    least_list: 30,
+    most_turns: 254,
+    least_list: 254,
     most_lines: 12,
     least_first: 1,
     last_past_first: 0,
@@ -119,6 +131,21 @@ pub fn is_stack(kind: u8, n: u8, stack: &Stack) -> bool {
 // The turns of a kind and n, rising.
 pub fn turns(kind: u8, n: u8) -> impl Iterator<Item = u8> {
     LIMITS.first_turn[kind as usize]..=n
+}
+
+// The sizes of a set, rising.
+pub fn sizes_of(groups: Groups) -> impl Iterator<Item = u8> {
+    (1..=32).filter(move |size| groups >> (size - 1) & 1 == 1)
+}
+
+// The set of these sizes.
+pub fn set_of(sizes: impl IntoIterator<Item = u8>) -> Groups {
+    sizes.into_iter().fold(0, |groups, size| groups | 1 << (size - 1))
+}
+
+// The set of every turn of a kind and n.
+pub fn full_set(kind: u8, n: u8) -> Groups {
+    set_of(turns(kind, n))
 }
 
 // The stack after turn k.
@@ -211,7 +238,7 @@ pub fn set_entry(entries: &mut [u8], i: u64, value: u8) {
 }
 
 // Gives an unseen entry the label of level d, one more in count d; a seen one stays.
-pub fn mark(segment: &mut [u8], i: u64, d: u8, counts: &mut [u64; 32]) {
+pub fn mark(segment: &mut [u8], i: u64, d: u8, counts: &mut [u64; 256]) {
     if entry_at(segment, i) == UNSEEN {
         set_entry(segment, i, d % 3);
         counts[d as usize] += 1;
@@ -248,16 +275,34 @@ impl Measures {
 }
 
 impl Paper {
-    fn right_kind_and_n(&self, kind: u8, n: u8) -> Result<(), u8> {
+    pub fn right_kind_and_n(&self, kind: u8, n: u8) -> Result<(), u8> {
         refuse(1, kind != PLAIN && kind != COATED)?;
         refuse(2, n < self.limits.least_panes || n > self.limits.most_panes[kind as usize])
     }
 
+    // Refuses a set that names a size that is no turn, and the empty one where n has turns.
+    pub fn right_groups(&self, kind: u8, n: u8, groups: Groups) -> Result<(), u8> {
+        let limits = &self.limits;
+        let last = n.saturating_add_signed(limits.group_past_n);
+        refuse(21, !sizes_of(groups).all(|size| limits.first_group[kind as usize] <= size && size <= last))?;
+        let has_turns = turns(kind, n).next().is_some();
+        refuse(21, groups.count_ones() < limits.least_groups[usize::from(has_turns)])
+    }
+
     // The refusals of Begin, and what its fields measure.
-    pub fn measures(&self, kind: u8, n: u8, wanted: &Stack, size: u32, room: u32) -> Result<Measures, u8> {
+    pub fn measures(
+        &self,
+        kind: u8,
+        n: u8,
+        wanted: &Stack,
+        groups: Groups,
+        size: u32,
+        room: u32,
+    ) -> Result<Measures, u8> {
         let limits = &self.limits;
         self.right_kind_and_n(kind, n)?;
         refuse(3, !is_stack(kind, n, wanted))?;
+        self.right_groups(kind, n, groups)?;
         let stacks = count_of_stacks(kind, n);
         let right_size = (limits.least_size..=limits.most_size).contains(&size);
         refuse(5, !size.is_multiple_of(limits.size_step) || !right_size)?;
@@ -280,7 +325,7 @@ impl Paper {
     // The measures of a coherent job; 7 for any other.
     pub fn coherent(&self, job: &Job) -> Result<Measures, u8> {
         let limits = &self.limits;
-        let measures = self.measures(job.kind, job.n, &job.wanted, job.size, job.room).map_err(|_| 7)?;
+        let measures = self.measures(job.kind, job.n, &job.wanted, job.groups, job.size, job.room).map_err(|_| 7)?;
         refuse(7, !self.right_phase(job.phase))?;
         for (j, (&passed, &waiting)) in (0..).zip(job.passed.iter().zip(&job.waiting)) {
             let (most_passed, most_waiting) = if j < measures.segments {
@@ -290,7 +335,7 @@ impl Paper {
             };
             refuse(7, u64::from(passed) > most_passed || u64::from(waiting) > most_waiting)?;
         }
-        refuse(7, job.counts.iter().any(|&count| count > limits.most_count))?;
+        refuse(7, job.counts[..limits.counts].iter().any(|&count| count > limits.most_count))?;
         Ok(measures)
     }
 
@@ -382,9 +427,9 @@ impl Paper {
         Ok(turned(kind, stack, k))
     }
 
-    fn try_begin(&self, kind: u8, n: u8, wanted: Stack, size: u32, room: u32) -> Result<Job, u8> {
-        self.measures(kind, n, &wanted, size, room)?;
-        Ok(Job { kind, n, wanted, size, room, ..NO_JOB })
+    fn try_begin(&self, kind: u8, n: u8, wanted: Stack, groups: Groups, size: u32, room: u32) -> Result<Job, u8> {
+        self.measures(kind, n, &wanted, groups, size, room)?;
+        Ok(Job { kind, n, wanted, groups, size, room, ..NO_JOB })
     }
 
     fn try_blank(&self, job: &Job, j: u32, segment: &mut [u8]) -> Result<Job, u8> {
@@ -420,7 +465,7 @@ impl Paper {
         let mut after = *job;
         for i in u64::from(job.passed[j as usize])..stacks {
             // (d - 1) mod 3, also where a moved limit lets d be 0.
-            if entry_at(segment, i) == (d + 2) % 3 {
+            if u16::from(entry_at(segment, i)) == (u16::from(d) + 2) % 3 {
                 let children = children(job, here * u64::from(job.size) + i);
                 let full = (0..measures.segments).find(|&t| {
                     let falling = children.iter().filter(|child| child.segment == t).count() as u64;
@@ -479,7 +524,7 @@ impl Paper {
             let all_passed = u64::from(job.passed[j as usize]) == measures.stacks_of(j);
             refuse(13, !all_passed || job.waiting[j as usize] != 0)?;
         }
-        let last = self.limits.last_level;
+        let last = self.limits.level_of_14;
         refuse(14, job.phase == Phase::Level(last) && job.counts[last as usize] != 0)?;
 
         let mut after = *job;
@@ -503,21 +548,25 @@ impl Paper {
         Ok(entry_at(table, u64::from(index)))
     }
 
+    #[allow(clippy::too_many_arguments)]
     fn try_plan(
         &self,
         kind: u8,
         n: u8,
         wanted: &Stack,
         given: &Stack,
+        groups: Groups,
         table: &[u8],
         list: &mut [u8],
     ) -> Result<u32, u8> {
         self.right_kind_and_n(kind, n)?;
         refuse(3, !is_stack(kind, n, wanted))?;
         refuse(3, !is_stack(kind, n, given))?;
-        refuse(10, table.len() != bytes_of(count_of_stacks(kind, n)) || list.len() < self.limits.least_list)?;
+        self.right_groups(kind, n, groups)?;
+        refuse(10, table.len() != bytes_of(count_of_stacks(kind, n)))?;
+        refuse(10, list.len() < self.limits.least_list)?;
         let entry_of = |stack: &Stack| entry_at(table, u64::from(index(kind, n, stack)));
-        refuse(15, entry_of(given) == UNSEEN)?;
+        refuse(20, entry_of(given) == UNSEEN)?;
         refuse(15, entry_of(wanted) != 0)?;
 
         let mut at = *given;
@@ -525,7 +574,7 @@ impl Paper {
         while at != *wanted {
             refuse(15, plan.len() == self.limits.most_turns)?;
             let nearer = (entry_of(&at) + 2) % 3;
-            let k = turns(kind, n).find(|&k| entry_of(&turned(kind, &at, k)) == nearer).ok_or(15)?;
+            let k = sizes_of(groups).find(|&k| entry_of(&turned(kind, &at, k)) == nearer).ok_or(15)?;
             plan.push(k);
             at = turned(kind, &at, k);
         }
@@ -548,12 +597,13 @@ impl Paper {
         n: u8,
         wanted: Stack,
         given: Stack,
+        groups: Groups,
         table: &[u8],
         list: &mut [u8],
         tariff: &Tariff,
     ) -> Priced {
         let mut planned_list = list.to_vec();
-        let Planned { refusal, turns } = system.plan(kind, n, wanted, given, table, &mut planned_list);
+        let Planned { refusal, turns } = system.plan(kind, n, wanted, given, groups, table, &mut planned_list);
         let plan = &planned_list[..turns as usize];
         match refuse(refusal, refusal != 0).and_then(|()| self.try_price(n, plan, tariff)) {
             Ok(pennies) => {
@@ -571,10 +621,10 @@ pub struct Child {
     pub offset: u64,
 }
 
-// The children of the stack at an index, by rising turn.
+// The children of the stack at an index by the turns of the job's set, rising.
 pub fn children(job: &Job, parent: u64) -> Vec<Child> {
     let stack = stack_at(job.kind, job.n, parent as u32);
-    turns(job.kind, job.n)
+    sizes_of(job.groups)
         .map(|k| {
             let child = u64::from(index(job.kind, job.n, &turned(job.kind, &stack, k)));
             Child { segment: child / u64::from(job.size), offset: child % u64::from(job.size) }
@@ -612,8 +662,8 @@ impl System for Paper {
         stacked(self.try_turn(kind, n, &stack, k))
     }
 
-    fn begin(&self, kind: u8, n: u8, wanted: Stack, size: u32, room: u32) -> Answer {
-        answer(self.try_begin(kind, n, wanted, size, room), &NO_JOB)
+    fn begin(&self, kind: u8, n: u8, wanted: Stack, groups: Groups, size: u32, room: u32) -> Answer {
+        answer(self.try_begin(kind, n, wanted, groups, size, room), &NO_JOB)
     }
 
     fn blank(&self, job: &Job, j: u32, segment: &mut [u8]) -> Answer {
@@ -649,8 +699,17 @@ impl System for Paper {
         }
     }
 
-    fn plan(&self, kind: u8, n: u8, wanted: Stack, given: Stack, table: &[u8], list: &mut [u8]) -> Planned {
-        match self.try_plan(kind, n, &wanted, &given, table, list) {
+    fn plan(
+        &self,
+        kind: u8,
+        n: u8,
+        wanted: Stack,
+        given: Stack,
+        groups: Groups,
+        table: &[u8],
+        list: &mut [u8],
+    ) -> Planned {
+        match self.try_plan(kind, n, &wanted, &given, groups, table, list) {
             Ok(turns) => Planned { refusal: 0, turns },
             Err(refusal) => Planned { refusal, turns: 0 },
         }
@@ -662,10 +721,11 @@ impl System for Paper {
         n: u8,
         wanted: Stack,
         given: Stack,
+        groups: Groups,
         table: &[u8],
         list: &mut [u8],
         tariff: &Tariff,
     ) -> Priced {
-        self.price_by(self, kind, n, wanted, given, table, list, tariff)
+        self.price_by(self, kind, n, wanted, given, groups, table, list, tariff)
     }
 }

@@ -3,11 +3,11 @@
 use std::io::Write;
 use std::process::{Command, Stdio};
 
-use crate::build::size_for;
+use crate::build::{size_for, Fields};
 use crate::cases::right_stack;
 use crate::paper::{self, COATED, PAPER, PLAIN};
 use crate::rng::Rng;
-use crate::search::{self, Distances};
+use crate::search::Distances;
 use crate::system::*;
 
 const ROOM: u32 = 16;
@@ -61,7 +61,7 @@ struct Started {
 fn first(line: &[u8], limits: &Limits) -> Result<Started, u8> {
     let bytes = frame(line, limits.characters)?;
     let &[kind, n, ref rest @ ..] = bytes.as_slice() else { return Err(16) };
-    if let Err(refusal @ (1 | 2)) = PAPER.measures(kind, n, &NO_STACK, 4, ROOM) {
+    if let Err(refusal @ (1 | 2)) = PAPER.measures(kind, n, &NO_STACK, 0, 4, ROOM) {
         return Err(refusal);
     }
     if rest.len() != n as usize + 4 || paper::count_of_stacks(kind, n) > limits.stacks {
@@ -70,9 +70,10 @@ fn first(line: &[u8], limits: &Limits) -> Result<Started, u8> {
     let (panes, size) = rest.split_at(n as usize);
     let wanted = stack_of(kind, panes)?;
     let size = size.iter().fold(0, |size, &byte| size << 8 | u32::from(byte));
-    PAPER.measures(kind, n, &wanted, size, ROOM)?;
-    let distances = search::search(kind == COATED, &wanted[..n as usize]);
-    Ok(Started { kind, n, wanted, distances })
+    // The report uses every size.
+    let fields = Fields { kind, n, wanted, groups: paper::full_set(kind, n), size, room: ROOM };
+    fields.measures()?;
+    Ok(Started { kind, n, wanted, distances: fields.distances() })
 }
 
 impl Started {
@@ -83,7 +84,7 @@ impl Started {
             return Err(16);
         }
         let mut stack = stack_of(self.kind, &bytes)?;
-        let away = |stack: &Stack| self.distances.of(&stack[..self.n as usize]);
+        let away = |stack: &Stack| self.distances.of(&stack[..self.n as usize]).expect("every stack has a road");
         let mut list = Vec::new();
         while stack != self.wanted {
             let nearer = |&k: &u8| away(&paper::turned(self.kind, &stack, k)) + 1 == away(&stack);

@@ -1,13 +1,11 @@
-// A plain breadth-first search on one byte a stack with a queue; nothing of it is shared with paper.rs.
+// A plain breadth-first search on one byte a stack, none where there is no road, with a queue; nothing of it is shared with paper.rs.
 
 use std::collections::VecDeque;
 
-const UNKNOWN: u8 = u8::MAX;
-
-// The fewest turns of every stack, by index, and how many stacks there are at each number of turns.
+// The fewest turns of every stack that has a road, by index, and how many stacks there are at each number of turns.
 pub struct Distances {
     pub coated: bool,
-    pub turns: Vec<u8>,
+    pub turns: Vec<Option<u8>>,
     pub counts: Vec<u64>,
 }
 
@@ -16,7 +14,7 @@ impl Distances {
         self.counts.len() - 1
     }
 
-    pub fn of(&self, panes: &[i8]) -> u8 {
+    pub fn of(&self, panes: &[i8]) -> Option<u8> {
         self.turns[rank(self.coated, panes)]
     }
 }
@@ -44,27 +42,26 @@ pub fn flip(coated: bool, panes: &mut [i8], k: usize) {
     }
 }
 
-// All distances to the wanted stack. A turn undoes itself, so distances from it are the same.
-pub fn search(coated: bool, wanted: &[i8]) -> Distances {
-    let n = wanted.len();
-    let stacks: usize = (1..=n).map(|pane| if coated { 2 * pane } else { pane }).product();
-    let smallest_turn = if coated { 1 } else { 2 };
+// All distances to the wanted stack by turns of a set; bit 0 is size 1. A turn undoes itself, so distances from it are the same.
+pub fn search(coated: bool, wanted: &[i8], groups: u32) -> Distances {
+    let stacks: usize = (1..=wanted.len()).map(|pane| if coated { 2 * pane } else { pane }).product();
+    let lifted: Vec<usize> = (0..32).filter(|bit| groups & 1 << bit != 0).map(|bit| bit + 1).collect();
 
-    let mut turns = vec![UNKNOWN; stacks];
+    let mut turns = vec![None; stacks];
     let mut counts = vec![1];
-    let mut queue = VecDeque::from([wanted.to_vec()]);
-    turns[rank(coated, wanted)] = 0;
-    while let Some(stack) = queue.pop_front() {
-        let further = turns[rank(coated, &stack)] + 1;
-        for k in smallest_turn..=n {
+    let mut queue = VecDeque::from([(wanted.to_vec(), 0_u8)]);
+    turns[rank(coated, wanted)] = Some(0);
+    while let Some((stack, away)) = queue.pop_front() {
+        for &k in &lifted {
             let mut child = stack.clone();
             flip(coated, &mut child, k);
             let known = &mut turns[rank(coated, &child)];
-            if *known == UNKNOWN {
-                *known = further;
+            if known.is_none() {
+                let further = away + 1;
+                *known = Some(further);
                 counts.resize(counts.len().max(further as usize + 1), 0);
                 counts[further as usize] += 1;
-                queue.push_back(child);
+                queue.push_back((child, further));
             }
         }
     }

@@ -8,6 +8,9 @@ pub type Stack = [i8; 12];
 
 pub const NO_STACK: Stack = [0; 12];
 
+// A set of group sizes: size k is the bit of weight 2^(k-1), and any bits may come.
+pub type Groups = u32;
+
 #[derive(Clone, Copy, PartialEq, Eq, Debug)]
 pub enum Phase {
     Blanking,
@@ -38,18 +41,19 @@ impl Phase {
     }
 }
 
-// A build: size is document 01's S, room its C.
+// A build: groups are the sizes that the frame lifts, size is document 01's S, room its C.
 #[derive(Clone, Copy, PartialEq, Eq, Debug)]
 pub struct Job {
     pub kind: u8,
     pub n: u8,
     pub wanted: Stack,
+    pub groups: Groups,
     pub size: u32,
     pub room: u32,
     pub phase: Phase,
     pub passed: [u32; 64],
     pub waiting: [u32; 64],
-    pub counts: [u64; 32],
+    pub counts: [u64; 256],
 }
 
 // What stands beside a refusal of Begin and of Build the whole table.
@@ -57,12 +61,13 @@ pub const NO_JOB: Job = Job {
     kind: 0,
     n: 0,
     wanted: NO_STACK,
+    groups: 0,
     size: 0,
     room: 0,
     phase: Phase::Blanking,
     passed: [0; 64],
     waiting: [0; 64],
-    counts: [0; 32],
+    counts: [0; 256],
 };
 
 // A line of a tariff: a turn of a group of first to last panes costs price, in thousandths of a penny.
@@ -154,14 +159,24 @@ pub trait System {
     fn index_of_stack(&self, kind: u8, n: u8, stack: Stack) -> Indexed;
     fn stack_at_index(&self, kind: u8, n: u8, index: u32) -> Stacked;
     fn turn(&self, kind: u8, n: u8, stack: Stack, k: u8) -> Stacked;
-    fn begin(&self, kind: u8, n: u8, wanted: Stack, size: u32, room: u32) -> Answer;
+    fn begin(&self, kind: u8, n: u8, wanted: Stack, groups: Groups, size: u32, room: u32) -> Answer;
     fn blank(&self, job: &Job, j: u32, segment: &mut [u8]) -> Answer;
     fn expand(&self, job: &Job, j: u32, segment: &mut [u8], logs: &mut [u32]) -> Expanded;
     fn settle(&self, job: &Job, j: u32, segment: &mut [u8], logs: &[u32]) -> Answer;
     fn look(&self, job: &Job, j: u32, logs: &[u32]) -> Looked;
     fn close(&self, job: &Job) -> Answer;
     fn read_entry(&self, kind: u8, n: u8, table: &[u8], index: u32) -> Entry;
-    fn plan(&self, kind: u8, n: u8, wanted: Stack, given: Stack, table: &[u8], list: &mut [u8]) -> Planned;
+    #[allow(clippy::too_many_arguments)]
+    fn plan(
+        &self,
+        kind: u8,
+        n: u8,
+        wanted: Stack,
+        given: Stack,
+        groups: Groups,
+        table: &[u8],
+        list: &mut [u8],
+    ) -> Planned;
 
     // Price. Unless a system has a call for it, the paper prices the plan that the system makes.
     #[allow(clippy::too_many_arguments)]
@@ -171,11 +186,12 @@ pub trait System {
         n: u8,
         wanted: Stack,
         given: Stack,
+        groups: Groups,
         table: &[u8],
         list: &mut [u8],
         tariff: &Tariff,
     ) -> Priced {
-        PAPER.price_by(self, kind, n, wanted, given, table, list, tariff)
+        PAPER.price_by(self, kind, n, wanted, given, groups, table, list, tariff)
     }
 
     // Build the whole table. Unless a system has a call for it, it makes its own calls, in rising order; the order shows in the log area alone.
@@ -185,11 +201,12 @@ pub trait System {
         kind: u8,
         n: u8,
         wanted: Stack,
+        groups: Groups,
         size: u32,
         room: u32,
         table: &mut [u8],
         logs: &mut [u32],
     ) -> Answer {
-        build::whole_table(self, &Fields { kind, n, wanted, size, room }, table, logs)
+        build::whole_table(self, &Fields { kind, n, wanted, groups, size, room }, table, logs)
     }
 }

@@ -1,4 +1,4 @@
-// Single arguments, right and wrong: kinds and n, stacks, sizes, rooms, segment numbers, lengths.
+// Single arguments, right and wrong: kinds and n, stacks, sets, sizes, rooms, segment numbers, lengths.
 
 use crate::build::{ordered, size_for, Fields};
 use crate::paper::{self, COATED, PLAIN};
@@ -75,6 +75,56 @@ pub fn any_stack(rng: &mut Rng, kind: u8, n: u8) -> Stack {
     }
 }
 
+// So many sizes of a set, or all of it where it has no more.
+fn some_of(rng: &mut Rng, groups: Groups, many: usize) -> Groups {
+    let mut sizes: Vec<u8> = paper::sizes_of(groups).collect();
+    rng.shuffle(&mut sizes);
+    sizes.truncate(many);
+    paper::set_of(sizes)
+}
+
+// A set that Begin accepts: the full one, one size short of it, a few sizes, any.
+pub fn right_groups(rng: &mut Rng, kind: u8, n: u8) -> Groups {
+    let full = paper::full_set(kind, n);
+    let some = match rng.below(10) {
+        0..=3 => full,
+        4 => some_of(rng, full, (full.count_ones() as usize).saturating_sub(1)),
+        5 => some_of(rng, full, 1),
+        6 => some_of(rng, full, 2),
+        7 | 8 => some_of(rng, full, 3),
+        _ => full & rng.word() as u32,
+    };
+    if some == 0 {
+        full
+    } else {
+        some
+    }
+}
+
+// A set with something changed; it may be right still.
+pub fn damaged_groups(rng: &mut Rng, kind: u8, n: u8) -> Groups {
+    let (kind, n) = (kind & 1, n.clamp(1, 12));
+    let right = right_groups(rng, kind, n);
+    match rng.below(10) {
+        0 | 1 => 0,
+        2 | 3 => right | 1,
+        4 => right | 1 << n,
+        5 => right | 1 << rng.between(u64::from(n), 31),
+        6 => right | 1 << 31,
+        7 => rng.pick(&[right << 1, right >> 1, right << 8, right << 16]),
+        8 => rng.pick(&[1, 1 << n, 1 << 31, u32::MAX]),
+        _ => rng.word() as u32,
+    }
+}
+
+pub fn any_groups(rng: &mut Rng, kind: u8, n: u8) -> Groups {
+    if rng.chance(80) {
+        right_groups(rng, kind & 1, n.clamp(1, 12))
+    } else {
+        damaged_groups(rng, kind, n)
+    }
+}
+
 const MOST_SIZE: u32 = 67_108_864;
 
 pub fn right_size(rng: &mut Rng, stacks: u64) -> u32 {
@@ -115,7 +165,7 @@ pub fn right_fields(rng: &mut Rng, most: u64) -> Fields {
         4 => rng.between(16, 40) as u32,
         _ => rng.between(16, 300) as u32,
     };
-    Fields { kind, n, wanted: right_stack(rng, kind, n), size, room }
+    Fields { kind, n, wanted: right_stack(rng, kind, n), groups: right_groups(rng, kind, n), size, room }
 }
 
 pub fn any_j(rng: &mut Rng, segments: u64) -> u32 {

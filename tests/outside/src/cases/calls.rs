@@ -3,7 +3,7 @@
 use super::arguments::*;
 use super::lists::{take, useful_call};
 use super::Check;
-use crate::build::{Build, Fields};
+use crate::build::Build;
 use crate::call::Call;
 use crate::paper::PAPER;
 use crate::rng::Rng;
@@ -38,12 +38,12 @@ fn forged(rng: &mut Rng) -> Build {
     let measures = fields.measures().expect("right fields are accepted");
     let phase = match rng.below(10) {
         0 => Phase::Blanking,
-        1 => Phase::Finished(rng.pick(&[0, 1, 15, 29, 30])),
-        2 | 3 => Phase::Level(rng.pick(&[1, 2, 30, 31, 31, 31])),
-        _ => Phase::Level(rng.between(1, 31) as u8),
+        1 => Phase::Finished(rng.pick(&[0, 1, 30, 31, 32, 253, 254])),
+        2 | 3 => Phase::Level(rng.pick(&[1, 2, 30, 31, 32, 253, 254, 255, 255, 255])),
+        4 | 5 => Phase::Level(rng.between(1, 31) as u8),
+        _ => Phase::Level(rng.between(1, 255) as u8),
     };
-    let Fields { kind, n, wanted, size, room } = fields;
-    let mut job = Job { kind, n, wanted, size, room, phase, ..NO_JOB };
+    let (room, mut job) = (fields.room, fields.job(phase));
 
     let passed_style = rng.below(4);
     let waiting_style = rng.below(4);
@@ -63,7 +63,10 @@ fn forged(rng: &mut Rng) -> Build {
         };
     }
     if rng.chance(20) {
-        // Ready to close, or one thing short of it.
+        // Ready to close, or one thing short of it, mostly at a level that is known to come close.
+        if rng.chance(60) {
+            job.phase = Phase::Level(rng.pick(&[1, 30, 31, 31, 32, 253, 254, 254, 255, 255]));
+        }
         let short = rng.below(4);
         let one = rng.below(measures.segments);
         for j in 0..measures.segments {
@@ -81,7 +84,7 @@ fn forged(rng: &mut Rng) -> Build {
         };
     }
 
-    let nearer = match phase {
+    let nearer = match job.phase {
         Phase::Level(d) => (d - 1) % 3,
         _ => 0,
     };
@@ -150,7 +153,7 @@ fn damage(rng: &mut Rng, job: &mut Job, build: &Build) {
     let segments = build.measures.segments;
     let here = rng.below(segments) as usize;
     let beyond = rng.between(segments.min(63), 63) as usize;
-    match rng.below(17) {
+    match rng.below(19) {
         0 => job.kind = rng.pick(&[0, 1, 2, 255]),
         1 => job.n = rng.pick(&[0, job.n.wrapping_sub(1), job.n + 1, 11, 13, 255]),
         2 => job.wanted = damaged_stack(rng, job.kind, job.n),
@@ -158,22 +161,34 @@ fn damage(rng: &mut Rng, job: &mut Job, build: &Build) {
         4 => job.size = right_size(rng, build.measures.stacks),
         5 => job.room = wrong_room(rng),
         6 => job.room = job.room.wrapping_add(rng.pick(&[1, u32::MAX])),
-        7 => job.phase = Phase::Level(rng.pick(&[0, 1, 31, 32, 33, 64, 255])),
-        8 => job.phase = Phase::Finished(rng.pick(&[0, 30, 31, 32, 255])),
+        7 => job.phase = Phase::Level(rng.pick(&[0, 0, 1, 30, 31, 32, 253, 254, 255])),
+        8 => job.phase = Phase::Finished(rng.pick(&[0, 30, 31, 32, 253, 254, 255, 255])),
         9 => job.phase = Phase::Blanking,
         10 => job.passed[here] = build.measures.stacks_of(here as u64) as u32 + rng.pick(&[0, 1, 4]),
         11 => job.passed[beyond] = rng.pick(&[0, 1, u32::MAX]),
         12 => job.waiting[here] = job.room.wrapping_add(rng.pick(&[0, 1])),
         13 => job.waiting[beyond] = rng.pick(&[0, 1, u32::MAX]),
-        14 => job.counts[rng.below(32) as usize] = rng.pick(&[0, 1 << 60, (1 << 60) + 1, 1 << 61, u64::MAX]),
+        14 => job.counts[any_level(rng)] = rng.pick(&[0, 1 << 60, (1 << 60) + 1, 1 << 61, u64::MAX]),
         15 => job.phase = no_phase(rng),
+        16 => job.groups = damaged_groups(rng, job.kind, job.n),
+        17 => job.groups = right_groups(rng, job.kind & 1, job.n.clamp(1, 12)),
         _ => job.wanted = right_stack(rng, job.kind, job.n.clamp(1, 12)),
+    }
+}
+
+// A level whose count is looked at: those that are known to come close, and the others.
+fn any_level(rng: &mut Rng) -> usize {
+    let close = [0, 30, 31, 32, 253, 254, 255];
+    if rng.chance(50) {
+        rng.pick(&close)
+    } else {
+        rng.below(256) as usize
     }
 }
 
 // A phase number and a level of C's mirror that are no phase.
 fn no_phase(rng: &mut Rng) -> Phase {
-    let level = rng.pick(&[1, 2, 30, 31, 32, 255]);
+    let level = rng.pick(&[1, 2, 30, 31, 32, 254, 255]);
     match rng.pick(&[0, 3, 4, 128, 255]) {
         0 => Phase::NoPhase(0, level),
         number => Phase::NoPhase(number, rng.pick(&[0, level])),
@@ -188,12 +203,13 @@ fn wild(rng: &mut Rng) -> Job {
         kind: number(2) as u8,
         n: number(13) as u8,
         wanted: std::array::from_fn(|_| number(12) as i8),
+        groups: number(4095) as u32,
         size: number(64) as u32,
         room: number(64) as u32,
         phase: match number(2) % 3 {
             0 => Phase::Blanking,
-            1 => Phase::Level(number(33) as u8),
-            _ => Phase::Finished(number(32) as u8),
+            1 => Phase::Level(number(255) as u8),
+            _ => Phase::Finished(number(255) as u8),
         },
         passed: std::array::from_fn(|_| number(4) as u32),
         waiting: std::array::from_fn(|_| number(4) as u32),

@@ -18,7 +18,7 @@ pub fn case(rng: &mut Rng, check: &mut Check) -> Result<(), String> {
     let size = right_size(rng, stacks);
     let segments = paper::count_of_segments(stacks, size);
     let room = rng.pick(&[16, 17, 1000, if segments <= 2 { 1_048_576 } else { 4096 }]);
-    let fields = Fields { kind, n, wanted: right_stack(rng, kind, n), size, room };
+    let fields = Fields { kind, n, wanted: right_stack(rng, kind, n), groups: right_groups(rng, kind, n), size, room };
     if rng.chance(30) {
         // Zeros are not touched until they are read, so the largest table costs nothing.
         let fill = if stacks > 1 << 30 { 0 } else { rng.pick(&[0xff, 0xff, 0]) };
@@ -26,9 +26,8 @@ pub fn case(rng: &mut Rng, check: &mut Check) -> Result<(), String> {
         return table_calls(rng, check, &fields, Rc::new(table), Some(end), 8);
     }
     let measures = fields.measures().expect("right fields are accepted");
-    let wanted = fields.wanted;
-    let phase = if rng.chance(20) { Phase::Blanking } else { Phase::Level(rng.between(1, 31) as u8) };
-    let mut job = Job { kind, n, wanted, size, room, phase, ..NO_JOB };
+    let phase = if rng.chance(20) { Phase::Blanking } else { Phase::Level(rng.between(1, 255) as u8) };
+    let mut job = fields.job(phase);
 
     // The last stacks of a segment, mostly of the last one; entries before them are left unseen.
     let j = if rng.chance(60) { segments - 1 } else { rng.below(segments) };

@@ -7,9 +7,8 @@ use super::tables::plan_is_shortest;
 use super::Check;
 use crate::build::{Build, Fields};
 use crate::call::{Call, Outcome};
-use crate::paper::{COATED, PAPER};
+use crate::paper::PAPER;
 use crate::rng::Rng;
-use crate::search;
 use crate::system::*;
 
 // A call that carries the build on, or would but for a full log; Finished, any call.
@@ -79,8 +78,8 @@ const MOST_CALLS: u64 = 1_000_000;
 pub fn case(rng: &mut Rng, check: &mut Check) -> Result<(), String> {
     let most = rng.pick(&[6, 48, 120, 120, 120, 384, 384, 720, 720, 5040]);
     let fields = right_fields(rng, most);
-    let Fields { kind, n, wanted, size, room } = fields;
-    let begun = check(Call::Begin { kind, n, wanted, size, room })?;
+    let Fields { kind, n, wanted, groups, size, room } = fields;
+    let begun = check(Call::Begin { kind, n, wanted, groups, size, room })?;
     let mut build = Build::begin(&PAPER, &fields, rng).expect("right fields are accepted");
     build.job = *begun.answer.job().expect("Begin answers a job");
 
@@ -101,7 +100,7 @@ pub fn case(rng: &mut Rng, check: &mut Check) -> Result<(), String> {
         take(&mut build, &call, outcome);
     }
 
-    let distances = search::search(kind == COATED, &wanted[..n as usize]);
+    let distances = fields.distances();
     build.agrees_with(&distances).map_err(|wrong| format!("{wrong}: {fields:?}"))?;
     let table = Rc::new(build.table());
     for _ in 0..10 {

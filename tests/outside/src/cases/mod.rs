@@ -42,7 +42,7 @@ impl Family {
             Family::Stacks => calls / 16,
             Family::Calls => calls / 36,
             Family::Tables => calls / 150,
-            Family::Lists => calls / 2_000,
+            Family::Lists => calls / 1_300,
             Family::Large => calls / 4_000,
             Family::Whole => calls / 300,
         }

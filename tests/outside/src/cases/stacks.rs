@@ -28,6 +28,7 @@ pub fn case(rng: &mut Rng, check: &mut Check) -> Result<(), String> {
     let stacks = paper::count_of_stacks(kind & 1, n.clamp(1, if kind & 1 == 0 { 12 } else { 10 }));
     let size = if rng.chance(75) { right_size(rng, stacks) } else { wrong_size(rng, stacks) };
     let room = if rng.chance(75) { rng.pick(&[16, 17, 1000, 1_048_575, 1_048_576]) } else { wrong_room(rng) };
-    check(Call::Begin { kind, n, wanted: stack, size, room })?;
+    let groups = any_groups(rng, kind, n);
+    check(Call::Begin { kind, n, wanted: stack, groups, size, room })?;
     Ok(())
 }

@@ -1,5 +1,6 @@
 // Read, Plan and Price on right tables, spoilt ones, random bytes, and tables with one long road.
 
+use std::collections::HashSet;
 use std::rc::Rc;
 
 use super::arguments::*;
@@ -7,21 +8,21 @@ use super::tariffs::*;
 use super::Check;
 use crate::build::Fields;
 use crate::call::{Answered, Call};
-use crate::paper::{self, COATED};
+use crate::paper;
 use crate::rng::Rng;
-use crate::search::{self, Distances};
+use crate::search::Distances;
 use crate::system::*;
 
 pub fn case(rng: &mut Rng, check: &mut Check) -> Result<(), String> {
-    let most = rng.pick(&[2, 6, 48, 120, 720, 5040]);
+    let most = rng.pick(&[2, 6, 48, 120, 720, 5040, 5040]);
     let fields = right_fields(rng, most);
-    let Fields { kind, n, wanted, .. } = fields;
+    let Fields { kind, n, .. } = fields;
     let stacks = paper::count_of_stacks(kind, n);
     let len = paper::bytes_of(stacks);
     let mut given = None;
     let table = match rng.below(6) {
         0 | 1 => {
-            let distances = search::search(kind == COATED, &wanted[..n as usize]);
+            let distances = fields.distances();
             let right = Rc::new(table_of(&distances));
             for _ in 0..10 {
                 let given = right_stack(rng, kind, n);
@@ -45,7 +46,8 @@ pub fn case(rng: &mut Rng, check: &mut Check) -> Result<(), String> {
     table_calls(rng, check, &fields, Rc::new(table), given, 12)
 }
 
-// A plan over a finished table has the fewest turns, priced or not, and its price does not go by the order of the lines.
+// A plan over a finished table has the fewest turns, priced or not, and its price does not go by the order of the lines; a stack without a road
+// is refused 20.
 pub fn plan_is_shortest(
     rng: &mut Rng,
     check: &mut Check,
@@ -54,58 +56,65 @@ pub fn plan_is_shortest(
     table: &Rc<Vec<u8>>,
     distances: &Distances,
 ) -> Result<(), String> {
-    let len = rng.between(30, 40) as usize;
-    let Fields { kind, n, wanted, .. } = *fields;
+    let len = rng.between(254, 264) as usize;
+    let Fields { kind, n, wanted, groups, .. } = *fields;
     let list = rng.bytes(len);
-    let planned = check(Call::Plan { kind, n, wanted, given, table: table.clone(), list: list.clone() })?;
+    let plan = Call::Plan { kind, n, wanted, given, groups, table: table.clone(), list };
+    let planned = check(plan.clone())?;
     let tariff = right_tariff(rng, n);
-    let mut price =
-        |tariff| check(Call::Price { kind, n, wanted, given, table: table.clone(), list: list.clone(), tariff });
-    let (priced, again) = (price(tariff)?, price(rearranged(rng, &tariff))?);
-    let fewest = u32::from(distances.of(&given[..n as usize]));
-    let shortest = |answer: &Answered| match answer {
-        Answered::Planned(Planned { refusal: 0, turns }) => *turns == fewest,
-        Answered::Priced(Priced { refusal: 0, turns, .. }) => *turns == fewest,
+    let (priced, again) = (check(plan.priced(tariff))?, check(plan.priced(rearranged(rng, &tariff)))?);
+    let fewest = distances.of(&given[..n as usize]);
+    let right = (fewest.map_or(20, |_| 0), fewest.map_or(0, u32::from));
+    let shortest = |answer: &Answered| match *answer {
+        Answered::Planned(Planned { refusal, turns }) => (refusal, turns) == right,
+        Answered::Priced(Priced { refusal, turns, .. }) => (refusal, turns) == right,
         _ => false,
     };
     if shortest(&planned.answer) && shortest(&priced.answer) && priced.list == planned.list && again == priced {
         return Ok(());
     }
-    Err(format!("{planned}, {priced}, again {again} for {fewest} turns: {fields:?} given {given:?} {tariff:?}"))
+    Err(format!("{planned}, {priced}, again {again} for {fewest:?} turns: {fields:?} given {given:?} {tariff:?}"))
 }
 
 // The two-bit table of these distances.
 fn table_of(distances: &Distances) -> Vec<u8> {
     let mut table = vec![0xff; distances.turns.len().div_ceil(4)];
     for (i, turns) in distances.turns.iter().enumerate() {
-        paper::set_entry(&mut table, i as u64, turns % 3);
+        if let Some(turns) = turns {
+            paper::set_entry(&mut table, i as u64, turns % 3);
+        }
     }
     table
 }
 
-// Marks a random road from the wanted stack in a table, up to 34 turns long, and gives its end.
+// Marks a random road from the wanted stack in a table, up to 258 turns long, and gives its end.
 pub fn road(rng: &mut Rng, fields: &Fields, mut table: Vec<u8>) -> (Vec<u8>, Stack) {
-    let short = rng.below(30);
-    let long = rng.pick(&[short, 28, 29, 30, 30, 31, 31, 32, 34]);
-    let stacks = walked(rng, fields, long, &mut table);
+    let any = rng.below(250);
+    let long = rng.pick(&[any, 30, 31, 253, 254, 254, 254, 254, 255, 255, 255, 256, 258]);
+    let lone = rng.chance(75);
+    let stacks = walked(rng, fields, long, lone, &mut table);
     (table, stacks[stacks.len() - 1])
 }
 
-// Marks a random road of so many turns, or fewer where it finds no way on, and gives its stacks from the wanted one on.
-pub fn walked(rng: &mut Rng, fields: &Fields, long: u64, table: &mut [u8]) -> Vec<Stack> {
-    let Fields { kind, n, wanted, .. } = *fields;
-    let turns: Vec<u8> = paper::turns(kind, n).collect();
-    let mut at = wanted;
-    let mut seen = vec![at];
-    paper::set_entry(table, u64::from(paper::index(kind, n, &at)), 0);
+// Marks a random road of so many turns of the set, or fewer where it finds no way on, and gives its stacks from the wanted one on. No turn of
+// the set leads from a lone road back to it, but for those of the road itself.
+pub fn walked(rng: &mut Rng, fields: &Fields, long: u64, lone: bool, table: &mut [u8]) -> Vec<Stack> {
+    let Fields { kind, n, wanted, groups, .. } = *fields;
+    let turns: Vec<u8> = paper::sizes_of(groups).collect();
+    let mut road = vec![wanted];
+    let mut met = HashSet::from([wanted]);
+    paper::set_entry(table, u64::from(paper::index(kind, n, &wanted)), 0);
     for turn in 1..=long {
+        let at = road[road.len() - 1];
+        let beside = |next: &Stack| turns.iter().filter(|&&k| met.contains(&paper::turned(kind, next, k))).count();
         let fresh = (0..20).filter(|_| !turns.is_empty()).map(|_| paper::turned(kind, &at, rng.pick(&turns)));
-        let Some(next) = fresh.into_iter().find(|next| !seen.contains(next)) else { break };
-        at = next;
-        seen.push(at);
-        paper::set_entry(table, u64::from(paper::index(kind, n, &at)), (turn % 3) as u8);
+        let goes_on = |next: &Stack| !met.contains(next) && (!lone || beside(next) == 1);
+        let Some(next) = fresh.into_iter().find(goes_on) else { break };
+        road.push(next);
+        met.insert(next);
+        paper::set_entry(table, u64::from(paper::index(kind, n, &next)), (turn % 3) as u8);
     }
-    seen
+    road
 }
 
 // Read, Plan and Price on one table, with each argument hostile now and then.
@@ -119,12 +128,18 @@ pub fn table_calls(
 ) -> Result<(), String> {
     let stacks = paper::count_of_stacks(fields.kind, fields.n);
     for _ in 0..calls {
-        let Fields { mut kind, mut n, mut wanted, .. } = *fields;
+        let Fields { mut kind, mut n, mut wanted, mut groups, .. } = *fields;
         if rng.chance(6) {
             (kind, n) = any_kind_and_n(rng);
         }
         if rng.chance(6) {
             wanted = any_stack(rng, kind, n);
+        }
+        if rng.chance(6) {
+            groups = right_groups(rng, kind & 1, n.clamp(1, 12));
+        }
+        if rng.chance(6) {
+            groups = damaged_groups(rng, kind, n);
         }
         let table = if rng.chance(6) && table.len() < 1 << 20 {
             let mut other = table.to_vec();
@@ -145,12 +160,14 @@ pub fn table_calls(
                 _ if rng.chance(5) => wanted,
                 _ => any_stack(rng, kind, n),
             };
-            let len = if rng.chance(90) { rng.between(30, 33) } else { rng.pick(&[0, 1, 29, 29, 29, 300]) };
+            let len =
+                if rng.chance(90) { rng.between(254, 257) } else { rng.pick(&[0, 1, 30, 31, 253, 253, 253, 300]) };
             let list = rng.bytes(len as usize);
+            let plan = Call::Plan { kind, n, wanted, given, groups, table, list };
             if rng.chance(50) {
-                check(Call::Plan { kind, n, wanted, given, table, list })?;
+                check(plan)?;
             } else {
-                check(Call::Price { kind, n, wanted, given, table, list, tariff: any_tariff(rng, n) })?;
+                check(plan.priced(any_tariff(rng, n)))?;
             }
         }
     }

@@ -19,7 +19,7 @@ pub fn case(rng: &mut Rng, check: &mut Check) -> Result<(), String> {
     if rng.chance(10) {
         wrong_length(rng, &mut logs);
     }
-    let Fields { mut kind, mut n, mut wanted, mut size, mut room } = fields;
+    let Fields { mut kind, mut n, mut wanted, mut groups, mut size, mut room } = fields;
     if rng.chance(8) {
         (kind, n) = any_kind_and_n(rng);
     }
@@ -27,11 +27,14 @@ pub fn case(rng: &mut Rng, check: &mut Check) -> Result<(), String> {
         wanted = any_stack(rng, kind, n);
     }
     if rng.chance(8) {
+        groups = damaged_groups(rng, kind, n);
+    }
+    if rng.chance(8) {
         size = wrong_size(rng, measures.stacks);
     }
     if rng.chance(8) {
         room = wrong_room(rng);
     }
-    check(Call::Build { kind, n, wanted, size, room, table, logs })?;
+    check(Call::Build { kind, n, wanted, groups, size, room, table, logs })?;
     Ok(())
 }

@@ -22,13 +22,13 @@ returns : tie.Need-returns
 returns c =
     let a = c .before .before .args in
     let f = c .before .begin-refusal in
-    begin-refuses (a .kind) (a .n) (a .wanted) (a .size) (a .room) (a .bytes) (a .words) (f .result) (f .ensures) (c .if1 .taken)
+    begin-refuses (a .kind) (a .n) (a .wanted) (a .groups) (a .size) (a .room) (a .bytes) (a .words) (f .result) (f .ensures) (c .if1 .taken)
 
 -- what Begin's row lets by
-given : (c : tie.Else1) → let a = c .before .before .args in Given (termsWith (a .kind) (a .n) (a .wanted) (a .size) (a .room))
+given : (c : tie.Else1) → let a = c .before .before .args in Given (termsWith (a .kind) (a .n) (a .wanted) (a .groups) (a .size) (a .room))
 given c =
     let a = c .before .before .args in
-    begin-given (a .kind) (a .n) (a .wanted) (a .size) (a .room) (sym (c .before .begin-refusal .ensures) ∙ c .if1 .left)
+    begin-given (a .kind) (a .n) (a .wanted) (a .groups) (a .size) (a .room) (sym (c .before .begin-refusal .ensures) ∙ c .if1 .left)
 
 stack-count-requires : tie.Need-stack-count-requires
 stack-count-requires c κs = given c .in-range
@@ -55,7 +55,7 @@ returns-2 : tie.Need-returns-2
 returns-2 c =
     let a = c .before .before .before .before .before .args in
     let f = c .before .before .before .before .begin-refusal in
-    table-refused (a .kind) (a .n) (a .wanted) (a .size) (a .room) (a .bytes) (a .words) (f .result) (f .ensures) (c .before .before .before .if1 .left)
+    table-refused (a .kind) (a .n) (a .wanted) (a .groups) (a .size) (a .room) (a .bytes) (a .words) (f .result) (f .ensures) (c .before .before .before .if1 .left)
     (λ e. c .if2 .taken (e ∙ sym (bytes (c .before))))
 
 segment-count-requires : tie.Need-segment-count-requires
@@ -83,7 +83,7 @@ returns-3 : tie.Need-returns-3
 returns-3 c =
     let a = c .before .before .before .before .before .before .before .args in
     let f = c .before .before .before .before .before .before .begin-refusal in
-    log-refused (a .kind) (a .n) (a .wanted) (a .size) (a .room) (a .bytes) (a .words) (f .result) (f .ensures) (c .before .before .before .before .before .if1 .left)
+    log-refused (a .kind) (a .n) (a .wanted) (a .groups) (a .size) (a .room) (a .bytes) (a .words) (f .result) (f .ensures) (c .before .before .before .before .before .if1 .left)
     (c .before .before .if2 .left ∙ bytes (c .before .before .before))
     (λ e. c .if3 .taken (e ∙ sym (words (c .before))))
 
@@ -91,7 +91,7 @@ returns-4 : tie.Need-returns-4
 returns-4 c =
     let a = c .before .before .before .before .before .before .before .args in
     let f = c .before .before .before .before .before .before .begin-refusal in
-    none-refused (a .kind) (a .n) (a .wanted) (a .size) (a .room) (a .bytes) (a .words) (f .result) (f .ensures) (c .before .before .before .before .before .if1 .left)
+    none-refused (a .kind) (a .n) (a .wanted) (a .groups) (a .size) (a .room) (a .bytes) (a .words) (f .result) (f .ensures) (c .before .before .before .before .before .if1 .left)
     (c .before .before .if2 .left ∙ bytes (c .before .before .before))
     (c .if3 .left ∙ words (c .before))
 

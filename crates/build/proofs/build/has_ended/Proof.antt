@@ -13,16 +13,17 @@ is-finished-requires c κs = search needs
 returns : tie.Need-returns
 returns c =
     let f = c .before .is-finished in
-    sym (finished-ended (c .before .before .args .job) (sym (f .ensures) ∙ c .if1 .taken))
+    sym (finished-ended (c .before .before .args .t1) (sym (f .ensures) ∙ c .if1 .taken))
 
 close-refusal-requires : tie.Need-close-refusal-requires
 close-refusal-requires c κs = search needs
 
 returns-2 : tie.Need-returns-2
 returns-2 c =
-    let f = c .before .before .is-finished in
+    let e = c .before .before .before .before .before .before in
+    let f = e .before .is-finished in
     ap (λ (r : ℕ). eqb r 14) (c .close-refusal .ensures)
-    ∙ unfinished-ended (c .before .before .before .args .job) (sym (f .ensures) ∙ c .before .if1 .left)
+    ∙ unfinished-ended (e .before .before .args .t1) (sym (f .ensures) ∙ e .if1 .left)
 
 pub has-ended-spec : {M : Type 1} → statement M
 has-ended-spec = tie.close (tie.spec is-finished-requires returns close-refusal-requires returns-2)

@@ -7,10 +7,10 @@ use Rattle.bytewise.proofs.breadth.level.Statement.{statement}
 use Rattle.bytewise.proofs.breadth.level.Tie as tie
 
 abbrev Inv-loop : tie.InvT-loop
-Inv-loop kind n bytes₀ d found₀ i₀ bytes found i = (i ≤ length bytes₀) × (length bytes ≡ length bytes₀) × (found ≤ 12 * i)
+Inv-loop kind n groups bytes₀ d found₀ i₀ bytes found i = (i ≤ length bytes₀) × (length bytes ≡ length bytes₀) × (found ≤ 12 * i)
 
 abbrev μ-loop : tie.MeasureT-loop
-μ-loop kind n bytes₀ d found₀ i₀ bytes found i = length bytes₀ - i
+μ-loop kind n groups bytes₀ d found₀ i₀ bytes found i = length bytes₀ - i
 
 loop-holds : tie.Need-loop-holds Inv-loop μ-loop
 loop-holds c = search needs

@@ -8,10 +8,10 @@ use Rattle.bytewise.proofs.breadth.search.Statement.{statement}
 use Rattle.bytewise.proofs.breadth.search.Tie as tie
 
 abbrev Inv-loop : tie.InvT-loop
-Inv-loop kind n bytes₀ goal counts₀ d₀ bytes counts d = (d ≤ lastLevel) × (length counts ≡ countPlaces) × (length bytes ≡ length bytes₀)
+Inv-loop kind n groups bytes₀ goal counts₀ d₀ bytes counts d = (d ≤ lastLevel) × (length counts ≡ countPlaces) × (length bytes ≡ length bytes₀)
 
 abbrev μ-loop : tie.MeasureT-loop
-μ-loop kind n bytes₀ goal counts₀ d₀ bytes counts d = lastLevel - d
+μ-loop kind n groups bytes₀ goal counts₀ d₀ bytes counts d = lastLevel - d
 
 clear-requires : tie.Need-clear-requires Inv-loop μ-loop
 clear-requires c κs = search needs
@@ -31,6 +31,12 @@ cast-level c = search needs
 level-requires : tie.Need-level-requires Inv-loop μ-loop
 level-requires c κs = search needs
 
+same-length : tie.Need-same-length Inv-loop μ-loop
+same-length c = search needs
+
+returns : tie.Need-returns Inv-loop μ-loop
+returns c = search needs
+
 add-d : tie.Need-add-d Inv-loop μ-loop
 add-d c = search needs
 
@@ -46,11 +52,11 @@ loop-less c = search needs
 loop-again : tie.Need-loop-again Inv-loop μ-loop
 loop-again c = search needs
 
-same-length : tie.Need-same-length Inv-loop μ-loop
-same-length c = search needs
+same-length-2 : tie.Need-same-length-2 Inv-loop μ-loop
+same-length-2 c = search needs
 
-returns : tie.Need-returns Inv-loop μ-loop
-returns c = search needs
+returns-2 : tie.Need-returns-2 Inv-loop μ-loop
+returns-2 c = search needs
 
 pub search-spec : {M : Type 1} → statement M
 search-spec =
@@ -64,10 +70,12 @@ search-spec =
     loop-holds
     cast-level
     level-requires
+    same-length
+    returns
     add-d
     mul-counts
     array-write-counts-2
     loop-less
     loop-again
-    same-length
-    returns)
+    same-length-2
+    returns-2)

@@ -7,28 +7,19 @@ use Rattle.bytewise.proofs.breadth.spread.Statement.{statement}
 use Rattle.bytewise.proofs.breadth.spread.Tie as tie
 
 abbrev Inv-loop : tie.InvT-loop
-Inv-loop kind n bytes₀ i mark parent found₀ least k₀ bytes found k = (length bytes ≡ length bytes₀) × (k ≤ n) × (found ≤ n - k)
+Inv-loop kind n groups bytes₀ i mark parent found₀ k₀ bytes found k = (length bytes ≡ length bytes₀) × (k ≤ n) × (found ≤ n - k)
 
 abbrev μ-loop : tie.MeasureT-loop
-μ-loop kind n bytes₀ i mark parent found₀ least k₀ bytes found k = k
+μ-loop kind n groups bytes₀ i mark parent found₀ k₀ bytes found k = k
 
 unrank-requires : tie.Need-unrank-requires Inv-loop μ-loop
 unrank-requires c κs = search needs
 
-no-turn-requires : tie.Need-no-turn-requires Inv-loop μ-loop
-no-turn-requires c κs = search needs
-
 loop-holds : tie.Need-loop-holds Inv-loop μ-loop
 loop-holds c = search needs
 
-turned-requires : tie.Need-turned-requires Inv-loop μ-loop
-turned-requires c κs = search needs
-
-rank-requires : tie.Need-rank-requires Inv-loop μ-loop
-rank-requires c κs = search needs
-
-reach-requires : tie.Need-reach-requires Inv-loop μ-loop
-reach-requires c κs = search needs
+reach-by-requires : tie.Need-reach-by-requires Inv-loop μ-loop
+reach-by-requires c κs = search needs
 
 add-found : tie.Need-add-found Inv-loop μ-loop
 add-found c = search needs
@@ -55,11 +46,8 @@ spread-spec =
     Inv-loop
     μ-loop
     unrank-requires
-    no-turn-requires
     loop-holds
-    turned-requires
-    rank-requires
-    reach-requires
+    reach-by-requires
     add-found
     sub-k
     loop-less

@@ -1,15 +1,15 @@
--- `bytewise::compare::plans` is safe and ends: the index grows up to the length.
-use Prim.Native.Nat.{_≤_, _-_}
+-- `bytewise::compare::plans` is safe and ends: the index grows past the length by less than a step.
+use Prim.Native.Nat.{_+_, _-_, _≤_}
 use lib.ListN.{length}
 use borrow.Author.Needs.{needs}
 use Rattle.bytewise.proofs.compare.plans.Statement.{statement}
 use Rattle.bytewise.proofs.compare.plans.Tie as tie
 
 abbrev Inv-loop : tie.InvT-loop
-Inv-loop kind n goal table bytes differ₀ i₀ differ i = (i ≤ length bytes) × (differ ≤ i)
+Inv-loop kind n groups goal table bytes step differ₀ i₀ differ i = (i ≤ length bytes + step) × (differ ≤ i)
 
 abbrev μ-loop : tie.MeasureT-loop
-μ-loop kind n goal table bytes differ₀ i₀ differ i = length bytes - i
+μ-loop kind n groups goal table bytes step differ₀ i₀ differ i = (length bytes + step) - i
 
 loop-holds : tie.Need-loop-holds Inv-loop μ-loop
 loop-holds c = search needs

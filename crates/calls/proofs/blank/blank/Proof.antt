@@ -23,31 +23,40 @@ module _ (job : Job) (j : ℕ) (segment : List ℕ) (r : ℕ) (e : r ≡ blankRe
       → _≡_ {A = List ℕ × Answer} (after, record { refusal = 0; job = next }) (blankOf job j segment)
   accepted after next h k n = rw (k, n) (sym (blank-accepted job j segment (sym e ∙ h)))
 
+standing-of-requires : tie.Need-standing-of-requires
+standing-of-requires c κs = search needs
+
 blank-refusal-requires : tie.Need-blank-refusal-requires
-blank-refusal-requires c κs = search needs
+blank-refusal-requires c κs =
+    record { job = c .before .before .before .before .before .before .before .args .t1; is = c .standing-of .ensures }
+
+-- what the row has answered
+answered : (c : tie.After-blank-refusal) → let a = c .before .before .before .before .before .before .before .before .args in
+    c .blank-refusal .result ≡ blankRefusal (a .t1) (a .j) (length (a .segment .now))
+answered c = c .blank-refusal .ensures (c .before .before .before .before .before .before .before .before .args .t1) (c .before .standing-of .ensures)
 
 returns : tie.Need-returns
 returns c =
-    let a = c .before .before .before .args in
-    let f = c .before .blank-refusal in
-    refused (a .job) (a .j) (a .segment .now) (f .result) (f .ensures) (c .if1 .taken)
+    let f = c .before in
+    let a = f .before .before .before .before .before .before .before .before .args in
+    refused (a .t1) (a .j) (a .segment .now) (f .blank-refusal .result) (answered f) (c .if1 .taken)
 
 -- what was given where nothing is refused
-facts : (c : tie.Else1) → let a = c .before .before .before .args in BlankFacts (a .job) (a .j) (length (a .segment .now))
+facts : (c : tie.Else1) → let a = c .before .before .before .before .before .before .before .before .before .args in BlankFacts (a .t1) (a .j) (length (a .segment .now))
 facts c =
-    let a = c .before .before .before .args in
-    blank-facts (a .job) (a .j) (length (a .segment .now)) (sym (c .before .blank-refusal .ensures) ∙ c .if1 .left)
+    let a = c .before .before .before .before .before .before .before .before .before .args in
+    blank-facts (a .t1) (a .j) (length (a .segment .now)) (sym (answered (c .before)) ∙ c .if1 .left)
 
 blank-entries-requires : tie.Need-blank-entries-requires
 unfolding stackCountAt stackCountOf
 blank-entries-requires c κs =
-    let e = c .before .before in
+    let e = c .before in
     let f = facts e in
-    let b = coherent-bounds (e .before .before .before .args .job) (f .called .coherent) in
+    let b = coherent-bounds (e .before .before .before .before .before .before .before .before .before .args .t1) (f .called .coherent) in
     record { in-range = b .is-pane-count; goal = b .is-stack; some = b .some; long = f .long }
 
 pass-all-requires : tie.Need-pass-all-requires
-pass-all-requires c κs = let f = facts (c .before .before .before .before .before) in (f .called .coherent, f .called .inside)
+pass-all-requires c κs = let f = facts (c .before .before .before .before) in (f .called .coherent, f .called .inside)
 
 same-length : tie.Need-same-length
 same-length c = search needs
@@ -56,16 +65,19 @@ returns-2 : tie.Need-returns-2
 unfolding blanked goalOf stackCountAt stackCountOf
 returns-2 c =
     let n = c .before .before .before in
-    let e = n .before .before .before in
-    let a = e .before .before .before .args in
-    let f = e .before .blank-refusal in
-    accepted (a .job) (a .j) (a .segment .now) (f .result) (f .ensures) (n .blank-entries .last .1 .1 .1 .1 .1 .0) (c .pass-all .result) (e .if1 .left)
-    (n .blank-entries .ensures) (c .pass-all .ensures)
+    let e = n .before .before in
+    let f = e .before in
+    let a = f .before .before .before .before .before .before .before .before .args in
+    accepted (a .t1) (a .j) (a .segment .now) (f .blank-refusal .result) (answered f) (n .blank-entries .last .1 .1 .1 .1 .1 .0) (c .pass-all .result)
+    (e .if1 .left)
+    (n .blank-entries .ensures)
+    (c .pass-all .ensures)
 
 pub blank-spec : {M : Type 1} → statement M
 blank-spec =
     tie.close
     (tie.spec
+    standing-of-requires
     blank-refusal-requires
     returns
     blank-entries-requires

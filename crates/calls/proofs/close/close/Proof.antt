@@ -13,21 +13,22 @@ close-refusal-requires c κs = search needs
 returns : tie.Need-returns
 unfolding closeOf
 returns c =
-    let job = c .before .before .args .job in
-    let f = c .before .close-refusal in
-    answer-no (closeRefusal job) (f .result) (f .ensures) (closed job) job job (c .if1 .taken) refl
+    let f = c .before in
+    let job = f .before .before .before .before .before .before .args .t1 in
+    answer-no (closeRefusal job) (f .close-refusal .result) (f .close-refusal .ensures) (closed job) job job (c .if1 .taken) refl
 
 closed-job-requires : tie.Need-closed-job-requires
 closed-job-requires c κs =
-    let f = close-facts (c .before .before .args .job) (sym (c .before .close-refusal .ensures) ∙ c .if1 .left) in (f .coherent, f .fits)
+    let f = close-facts (c .before .before .before .before .before .before .before .args .t1) (sym (c .before .close-refusal .ensures) ∙ c .if1 .left) in (f .coherent, f .fits)
 
 returns-2 : tie.Need-returns-2
 unfolding closeOf
 returns-2 c =
     let e = c .before in
-    let job = e .before .before .args .job in
-    let f = e .before .close-refusal in
-    answer-yes (closeRefusal job) (f .result) (f .ensures) (closed job) job (c .closed-job .result) (e .if1 .left) (c .closed-job .ensures)
+    let f = e .before in
+    let job = f .before .before .before .before .before .before .args .t1 in
+    answer-yes (closeRefusal job) (f .close-refusal .result) (f .close-refusal .ensures) (closed job) job (c .closed-job .result) (e .if1 .left)
+    (c .closed-job .ensures)
 
 pub close-spec : {M : Type 1} → statement M
 close-spec = tie.close (tie.spec close-refusal-requires returns closed-job-requires returns-2)

@@ -57,8 +57,8 @@ cast-is-done c = omega arith
 mul-is-done : tie.Need-mul-is-done Inv-loop μ-loop
 mul-is-done c = omega arith
 
-array-read-is-done : tie.Need-array-read-is-done Inv-loop μ-loop
-array-read-is-done c = omega arith
+element-copy-out-is-done : tie.Need-element-copy-out-is-done Inv-loop μ-loop
+element-copy-out-is-done c = omega arith
 
 cast-is-done-2 : tie.Need-cast-is-done-2 Inv-loop μ-loop
 cast-is-done-2 c = omega arith
@@ -66,24 +66,24 @@ cast-is-done-2 c = omega arith
 mul-is-done-2 : tie.Need-mul-is-done-2 Inv-loop μ-loop
 mul-is-done-2 c = omega arith
 
-array-read-is-done-2 : tie.Need-array-read-is-done-2 Inv-loop μ-loop
-array-read-is-done-2 c = omega arith
+element-copy-out-is-done-2 : tie.Need-element-copy-out-is-done-2 Inv-loop μ-loop
+element-copy-out-is-done-2 c = omega arith
 
 is-done-requires : tie.Need-is-done-requires Inv-loop μ-loop
 is-done-requires c κs = search needs
 
 returns : tie.Need-returns Inv-loop μ-loop
 returns c =
-    let l = c .before .before .before in
+    let l = c .before .before .before .before .before in
     let g = l .before in
     let a = g .before .before .args in
     let N = g .before .stack-count in
     let G = g .segment-count in
-    let t = done (N .result) (a .size) (a .t4) (a .t5) in
+    let t = done (N .result) (a .size) (a .passed .now) (a .waiting .now) in
     let f = c .before .is-done in
     upto-fails t (G .result) (l .loop .j) (all t (from 0 (G .result))) (omega arith) (l .loop .inv .2)
     (sym (f .ensures) ∙ not-true (f .result) (c .if1 .taken))
-    ∙ ready-is (a .kind) (a .n) (a .size) (a .t4) (a .t5) (N .result) (G .result) (N .ensures) (G .ensures)
+    ∙ ready-is (a .kind) (a .n) (a .size) (a .passed .now) (a .waiting .now) (N .result) (G .result) (N .ensures) (G .ensures)
 
 add-j : tie.Need-add-j Inv-loop μ-loop
 add-j c = omega arith
@@ -93,10 +93,10 @@ loop-less c = omega arith
 
 loop-again : tie.Need-loop-again Inv-loop μ-loop
 loop-again c =
-    let l = c .before .before .before in
+    let l = c .before .before .before .before .before in
     let g = l .before in
     let a = g .before .before .args in
-    let t = done (g .before .stack-count .result) (a .size) (a .t4) (a .t5) in
+    let t = done (g .before .stack-count .result) (a .size) (a .passed .now) (a .waiting .now) in
     let G = g .segment-count .result in
     let f = c .before .is-done in (
       l .loop .inv .0,
@@ -112,9 +112,9 @@ returns-2 c =
     let a = g .before .before .args in
     let N = g .before .stack-count in
     let G = g .segment-count in
-    let t = done (N .result) (a .size) (a .t4) (a .t5) in
+    let t = done (N .result) (a .size) (a .passed .now) (a .waiting .now) in
     upto-end t (G .result) (l .loop .j) (all t (from 0 (G .result))) (omega arith) (l .loop .inv .2)
-    ∙ ready-is (a .kind) (a .n) (a .size) (a .t4) (a .t5) (N .result) (G .result) (N .ensures) (G .ensures)
+    ∙ ready-is (a .kind) (a .n) (a .size) (a .passed .now) (a .waiting .now) (N .result) (G .result) (N .ensures) (G .ensures)
 
 pub is-ready-spec : {M : Type 1} → statement M
 is-ready-spec =
@@ -127,10 +127,10 @@ is-ready-spec =
     loop-holds
     cast-is-done
     mul-is-done
-    array-read-is-done
+    element-copy-out-is-done
     cast-is-done-2
     mul-is-done-2
-    array-read-is-done-2
+    element-copy-out-is-done-2
     is-done-requires
     returns
     add-j

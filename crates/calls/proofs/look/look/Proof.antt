@@ -6,12 +6,14 @@ use Prim.Native.Nat.{ℕ}
 use borrow.Author.Needs.{needs}
 use borrow.Author.Tests.{ne-eqb}
 use lib.ListN.{length}
-use Rattle.search.specs.JobState.{logLength, waitingOf}
+use Rattle.search.specs.JobState.{logLength}
 use Rattle.search.specs.Look.{lookRefusal, lookOf}
 use Rattle.search.specs.Logs.{pending}
 use Rattle.search.specs.declared.Job.{Job}
 use Rattle.search.proofs.Accepted.{CallFacts, look-facts}
-use Rattle.job.proofs.Bounds.{area-small, segment-below, part-within}
+use Rattle.job.specs.Standing.{standingOf}
+use Rattle.job.proofs.Bounds.{area-small, part-within}
+use Rattle.job.proofs.Standings.{part-is}
 use Rattle.calls.proofs.look.look.Statement.{statement}
 use Rattle.calls.proofs.look.look.Tie as tie
 
@@ -24,58 +26,57 @@ module _ (job : Job) (j : ℕ) (log : List ℕ) (r : ℕ) (e : r ≡ lookRefusal
   unfolding lookOf
   accepted part h k = rw (← e, h, k)
 
+standing-of-requires : tie.Need-standing-of-requires
+standing-of-requires c κs = search needs
+
 look-refusal-requires : tie.Need-look-refusal-requires
-look-refusal-requires c κs = search needs
+look-refusal-requires c κs =
+    record { job = c .before .before .before .before .before .before .before .args .t1; is = c .standing-of .ensures }
+
+-- what the row has answered
+answered : (c : tie.After-look-refusal) → let a = c .before .before .before .before .before .before .before .before .args in c .look-refusal .result ≡ lookRefusal (a .t1) (a .j) (length (a .log .now))
+answered c = c .look-refusal .ensures (c .before .before .before .before .before .before .before .before .args .t1) (c .before .standing-of .ensures)
 
 slice-aggregate-result : tie.Need-slice-aggregate-result
 slice-aggregate-result c = search needs
 
 returns : tie.Need-returns
 returns c =
-    let a = c .before .before .before .before .args in
-    let f = c .before .before .look-refusal in
-    refused (a .job) (a .j) (a .log .now) (f .result) (f .ensures) (c .before .if1 .taken)
+    let f = c .before .before in
+    let a = f .before .before .before .before .before .before .before .before .args in
+    refused (a .t1) (a .j) (a .log .now) (f .look-refusal .result) (answered f) (c .before .if1 .taken)
 
 -- what was given where nothing is refused
-facts : (c : tie.Else1) → let a = c .before .before .before .args in CallFacts true (a .job) (a .j) × (length (a .log .now) ≡ logLength (a .job))
+facts : (c : tie.Else1) → let a = c .before .before .before .before .before .before .before .before .before .args in CallFacts true (a .t1) (a .j) × (length (a .log .now) ≡ logLength (a .t1))
 facts c =
-    let a = c .before .before .before .args in
-    look-facts (a .job) (a .j) (length (a .log .now)) (sym (c .before .look-refusal .ensures) ∙ c .if1 .left)
-
-mul-waiting-part : tie.Need-mul-waiting-part
-mul-waiting-part c = search needs
-
-array-read-waiting-part : tie.Need-array-read-waiting-part
-array-read-waiting-part c =
-    let e = c .before in
-    let a = e .before .before .before .args in
-    let f = facts e .0 in
-    segment-below (a .job) (f .coherent) (a .j) (f .inside)
+    let a = c .before .before .before .before .before .before .before .before .before .args in
+    look-facts (a .t1) (a .j) (length (a .log .now)) (sym (answered (c .before)) ∙ c .if1 .left)
 
 waiting-part-requires : tie.Need-waiting-part-requires
-unfolding waitingOf
+unfolding standingOf
 waiting-part-requires c κs =
-    let e = c .before in
-    let a = e .before .before .before .args in
-    let f = facts e in
-    (rw (f .1) (part-within (a .job) (f .0 .coherent) (a .j) (f .0 .inside)), rw (f .1) (area-small (a .job) (f .0 .coherent)))
+    let a = c .before .before .before .before .before .before .before .before .before .args in
+    let f = facts c in (
+      rw (c .before .before .standing-of .ensures, f .1) (part-within (a .t1) (f .0 .coherent) (a .j) (f .0 .inside)),
+      rw (f .1) (area-small (a .t1) (f .0 .coherent)),
+    )
 
 returns-2 : tie.Need-returns-2
-unfolding pending waitingOf
 returns-2 c =
-    let e = c .before .before in
-    let a = e .before .before .before .args in
-    let f = e .before .look-refusal in
-    accepted (a .job) (a .j) (a .log .now) (f .result) (f .ensures) (c .waiting-part .result .now) (e .if1 .left) (c .waiting-part .ensures)
+    let e = c .before in
+    let f = e .before in
+    let s = f .before .standing-of in
+    let a = f .before .before .before .before .before .before .before .before .args in
+    accepted (a .t1) (a .j) (a .log .now) (f .look-refusal .result) (answered f) (c .waiting-part .result .now) (e .if1 .left)
+    (c .waiting-part .ensures ∙ part-is (s .result) (a .j) (a .t1) (s .ensures) (a .log .now))
 
 pub look-spec : {M : Type 1} → statement M
 look-spec =
     tie.close
     (tie.spec
+    standing-of-requires
     look-refusal-requires
     slice-aggregate-result
     returns
-    mul-waiting-part
-    array-read-waiting-part
     waiting-part-requires
     returns-2)

@@ -5,32 +5,41 @@ use Prim.Native.Nat.{ℕ}
 use native.Mathlib.Omega.{arith}
 use borrow.Author.Needs.{needs}
 use lib.ListN.{length}
-use Rattle.job.proofs.Bounds.{coherent-sizes, segment-below, level-least, level-most}
+use Rattle.job.proofs.Bounds.{coherent-sizes, level-least, level-most}
+use Rattle.job.proofs.Standings.{passed-is}
 use Rattle.search.specs.Expand.{expandRefusal}
 use Rattle.search.proofs.Accepted.{LevelFacts, expand-refused}
 use Rattle.expand.proofs.Expanding.{call-facts, run-given, answer-is}
 use Rattle.expand.proofs.expand.expand.Statement.{statement}
 use Rattle.expand.proofs.expand.expand.Tie as tie
 
-accepted : (c : tie.Else1)
-    → let a = c .before .before .before .before .args in expandRefusal (a .job) (a .j) (length (a .segment .now)) (length (a .log .now)) ≡ 0
-accepted c = sym (c .before .expand-refusal .ensures) ∙ c .if1 .left
-
--- what an accepted call was given
-given : (c : tie.Else1) → let a = c .before .before .before .before .args in LevelFacts (a .job) (a .j) (length (a .segment .now)) (length (a .log .now))
-given c =
-    let a = c .before .before .before .before .args in
-    call-facts (a .job) (a .j) (a .segment .now) (a .log .now) (accepted c)
+standing-of-requires : tie.Need-standing-of-requires
+standing-of-requires c κs = search needs
 
 expand-refusal-requires : tie.Need-expand-refusal-requires
-expand-refusal-requires c κs = search needs
+expand-refusal-requires c κs =
+    record { job = c .before .before .before .before .before .before .before .before .args .t1; is = c .standing-of .ensures }
+
+-- what the row has answered
+answered : (c : tie.After-expand-refusal) → let a = c .before .before .before .before .before .before .before .before .before .args in
+    c .expand-refusal .result ≡ expandRefusal (a .t1) (a .j) (length (a .segment .now)) (length (a .log .now))
+answered c = c .expand-refusal .ensures (c .before .before .before .before .before .before .before .before .before .args .t1) (c .before .standing-of .ensures)
+
+accepted : (c : tie.Else1) → let a = c .before .before .before .before .before .before .before .before .before .before .args in expandRefusal (a .t1) (a .j) (length (a .segment .now)) (length (a .log .now)) ≡ 0
+accepted c = sym (answered (c .before)) ∙ c .if1 .left
+
+-- what an accepted call was given
+given : (c : tie.Else1) → let a = c .before .before .before .before .before .before .before .before .before .before .args in LevelFacts (a .t1) (a .j) (length (a .segment .now)) (length (a .log .now))
+given c =
+    let a = c .before .before .before .before .before .before .before .before .before .before .args in
+    call-facts (a .t1) (a .j) (a .segment .now) (a .log .now) (accepted c)
 
 returns : tie.Need-returns
 returns c =
-    let a = c .before .before .before .before .args in
-    let r = c .before .expand-refusal in
-    ap (λ (n : ℕ). (a .segment .now, a .log .now, record { refusal = n; waits = false; on = 0; job = a .job })) (r .ensures)
-    ∙ sym (expand-refused (a .job) (a .j) (a .segment .now) (a .log .now) (λ e. c .if1 .taken (r .ensures ∙ e)))
+    let f = c .before in
+    let a = f .before .before .before .before .before .before .before .before .before .args in
+    ap (λ (n : ℕ). (a .segment .now, a .log .now, record { refusal = n; waits = false; on = 0; job = a .t1 })) (answered f)
+    ∙ sym (expand-refused (a .t1) (a .j) (a .segment .now) (a .log .now) (λ e. c .if1 .taken (answered f ∙ e)))
 
 level-of-requires : tie.Need-level-of-requires
 level-of-requires c κs = search needs
@@ -38,14 +47,14 @@ level-of-requires c κs = search needs
 scan-of-requires : tie.Need-scan-of-requires
 scan-of-requires c κs =
     let ok = c .before in
-    let job = ok .before .before .before .before .args .job in
+    let job = ok .before .before .before .before .before .before .before .before .before .before .args .t1 in
     let g = given ok .called in
     let sizes = coherent-sizes job (g .coherent) in (sizes .0, sizes .1, rw (c .level-of .ensures) (level-least job (g .coherent) (g .in-phase)))
 
 stack-count-at-requires : tie.Need-stack-count-at-requires
 stack-count-at-requires c κs =
     let ok = c .before .before in
-    coherent-sizes (ok .before .before .before .before .args .job) (given ok .called .coherent) .0
+    coherent-sizes (ok .before .before .before .before .before .before .before .before .before .before .args .t1) (given ok .called .coherent) .0
 
 cast-count : tie.Need-cast-count
 cast-count c = search needs
@@ -53,37 +62,28 @@ cast-count c = search needs
 mul-count : tie.Need-mul-count
 mul-count c = search needs
 
-array-read-count : tie.Need-array-read-count
-array-read-count c =
-    let leveled = c .before .before .before .before in
+element-copy-out-count : tie.Need-element-copy-out-count
+element-copy-out-count c =
+    let leveled = c .before .before in
     let ok = leveled .before in
-    omega (arith, leveled .level-of .ensures, level-most (ok .before .before .before .before .args .job) (given ok .called .coherent))
-
-mul-expand-run : tie.Need-mul-expand-run
-mul-expand-run c = search needs
-
-array-read-expand-run : tie.Need-array-read-expand-run
-array-read-expand-run c =
-    let ok = c .before .before .before .before .before .before in
-    let a = ok .before .before .before .before .args in
-    segment-below (a .job) (given ok .called .coherent) (a .j) (given ok .called .inside)
+    omega (arith, leveled .level-of .ensures, level-most (ok .before .before .before .before .before .before .before .before .before .before .args .t1) (given ok .called .coherent))
 
 expand-run-requires : tie.Need-expand-run-requires
 expand-run-requires c κs =
-    let counted = c .before .before .before .before .before .before in
+    let counted = c .before .before .before .before .before in
     let scanned = counted .before in
     let leveled = scanned .before in
     let ok = leveled .before in
-    let s = ok .before .before .before .before in
+    let stood = ok .before .before .standing-of in
+    let s = ok .before .before .before .before .before .before .before .before .before .before in
     let a = s .args in
-    run-given (a .job) (a .j) (a .segment .now) (a .log .now) (accepted ok) (leveled .level-of .ensures) (scanned .scan-of .ensures)
+    run-given (a .t1) (a .j) (a .segment .now) (a .log .now) (accepted ok) (leveled .level-of .ensures) (scanned .scan-of .ensures)
     (counted .stack-count-at .ensures)
-    (search (needs, s .good .0 .1 .1 .1 .1 .1 .1 .1 .1 .1 .0))
+    (passed-is (stood .result) (a .j) (a .t1) (stood .ensures))
+    (search (needs, s .good .0 .1 .1 .1 .1 .1 .1 .1 .1 .1 .1 .0))
 
 expanded-job-requires : tie.Need-expanded-job-requires
-expanded-job-requires c κs =
-    let f = given (c .before .before .before .before .before .before .before .before .before .before .before .before .before .before) .called in
-    (f .coherent, f .inside)
+expanded-job-requires c κs = let f = given (c .before .before .before .before .before .before .before .before .before .before .before .before .before) .called in (f .coherent, f .inside)
 
 same-length : tie.Need-same-length
 same-length c = search needs
@@ -94,13 +94,15 @@ same-length-2 c = search needs
 returns-2 : tie.Need-returns-2
 returns-2 c =
     let ran = c .before .before .before .before .before in
-    let counted = ran .before .before .before .before .before .before .before in
+    let counted = ran .before .before .before .before .before .before in
     let scanned = counted .before in
     let leveled = scanned .before in
     let ok = leveled .before in
-    let a = ok .before .before .before .before .args in
-    answer-is (a .job) (a .j) (a .segment .now) (a .log .now) (accepted ok) (leveled .level-of .ensures) (scanned .scan-of .ensures)
+    let stood = ok .before .before .standing-of in
+    let a = ok .before .before .before .before .before .before .before .before .before .before .args in
+    answer-is (a .t1) (a .j) (a .segment .now) (a .log .now) (accepted ok) (leveled .level-of .ensures) (scanned .scan-of .ensures)
     (counted .stack-count-at .ensures)
+    (passed-is (stood .result) (a .j) (a .t1) (stood .ensures))
     (ran .expand-run .result)
     (ran .expand-run .ensures)
     (c .expanded-job .ensures)
@@ -109,6 +111,7 @@ pub expand-spec : {M : Type 1} → statement M
 expand-spec =
     tie.close
     (tie.spec
+    standing-of-requires
     expand-refusal-requires
     returns
     level-of-requires
@@ -116,9 +119,7 @@ expand-spec =
     stack-count-at-requires
     cast-count
     mul-count
-    array-read-count
-    mul-expand-run
-    array-read-expand-run
+    element-copy-out-count
     expand-run-requires
     expanded-job-requires
     same-length

@@ -7,7 +7,7 @@ use borrow.Author.Needs.{needs}
 use lib.ListN.{length, take}
 use Rattle.base.specs.Words.{tally}
 use Rattle.search.specs.Logs.{fallingIn}
-use Rattle.expand.specs.Scan.{mostMoves}
+use Rattle.perm.specs.Moves.{mostMoves}
 use Rattle.expand.proofs.Lowest.{falling-hit, falling-miss}
 use Rattle.expand.proofs.logs.falling_in.Statement.{statement}
 use Rattle.expand.proofs.logs.falling_in.Tie as tie

@@ -37,7 +37,8 @@ add-children-of c =
 children-of-requires : tie.Need-children-of-requires Inv-loop μ-loop
 children-of-requires c κs =
     let l = c .before .before .before .before in
-    let r = l .before .loop .inv in (r .given .fit .is-pane-count, run-inside r (l .loop-test .taken))
+    let r = l .before .loop .inv in
+    (r .given .fit .is-pane-count, run-inside r (l .loop-test .taken), r .given .fit .set-fits)
 
 full-segment-requires : tie.Need-full-segment-requires Inv-loop μ-loop
 full-segment-requires c κs =

@@ -19,8 +19,8 @@ unfolding beginOf
 returns c =
     let a = c .before .before .before .args in
     let f = c .before .before .begin-refusal in
-    answer-no (beginRefusal (a .kind) (a .n) (a .wanted) (a .size) (a .room)) (f .result) (f .ensures)
-    (begun (a .kind) (a .n) (a .wanted) (a .size) (a .room)) (begun 0 0 (replicate 12 (pos 0)) 0 0) (c .new-job .result)
+    answer-no (beginRefusal (a .kind) (a .n) (a .wanted) (a .groups) (a .size) (a .room)) (f .result) (f .ensures)
+    (begun (a .kind) (a .n) (a .wanted) (a .groups) (a .size) (a .room)) (begun 0 0 (replicate 12 (pos 0)) 0 0 0) (c .new-job .result)
     (c .before .if1 .taken) (c .new-job .ensures)
 
 new-job-requires-2 : tie.Need-new-job-requires-2
@@ -31,8 +31,8 @@ unfolding beginOf
 returns-2 c =
     let a = c .before .before .before .args in
     let f = c .before .before .begin-refusal in
-    answer-yes (beginRefusal (a .kind) (a .n) (a .wanted) (a .size) (a .room)) (f .result) (f .ensures)
-    (begun (a .kind) (a .n) (a .wanted) (a .size) (a .room)) (begun 0 0 (replicate 12 (pos 0)) 0 0) (c .new-job2 .result)
+    answer-yes (beginRefusal (a .kind) (a .n) (a .wanted) (a .groups) (a .size) (a .room)) (f .result) (f .ensures)
+    (begun (a .kind) (a .n) (a .wanted) (a .groups) (a .size) (a .room)) (begun 0 0 (replicate 12 (pos 0)) 0 0 0) (c .new-job2 .result)
     (c .before .if1 .left) (c .new-job2 .ensures)
 
 pub begin-spec : {M : Type 1} → statement M

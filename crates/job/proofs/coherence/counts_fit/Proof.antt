@@ -1,71 +1,19 @@
--- `job::coherence::counts_fit` meets its contract: what is left to test from level d on says it for all.
-use mathlib.Core.Path.{_≡_, refl}
-use Prim.Native.Nat.{_-_, _≤_}
-use native.Mathlib.Omega.{arith}
-use borrow.Author.Needs.{needs}
-use borrow.Author.Tests.{le-leb, lt-leb}
-use lib.ListN.{length, getD, drop}
-use Rattle.base.specs.Words.{all}
-use Rattle.perm.proofs.Places.{scan-on, scan-fails, scan-end}
-use Rattle.search.specs.JobState.{countPlaces, countLimit, countFits}
+-- `job::coherence::counts_fit` meets its contract.
+use mathlib.Core.Path.{sym}
 use Rattle.job.proofs.coherence.counts_fit.Statement.{statement}
 use Rattle.job.proofs.coherence.counts_fit.Tie as tie
 
-abbrev Inv-loop : tie.InvT-loop
-Inv-loop counts d₀ d = (length counts ≡ countPlaces) × (d ≤ countPlaces) × (all countFits counts ≡ all countFits (drop d counts))
+limits-in-all-requires : tie.Need-limits-in-all-requires
+limits-in-all-requires c κs = c .pre
 
-abbrev μ-loop : tie.MeasureT-loop
-μ-loop counts d₀ d = countPlaces - d
+returns : tie.Need-returns
+returns c = sym (c .before .limits-in-all .ensures (c .if1 .taken))
 
-loop-holds : tie.Need-loop-holds Inv-loop μ-loop
-loop-holds c = (search needs, search needs, refl)
+each-count-fits-requires : tie.Need-each-count-fits-requires
+each-count-fits-requires c κs = c .before .before .pre
 
-mul-if1 : tie.Need-mul-if1 Inv-loop μ-loop
-mul-if1 c = omega arith
-
-array-read-if1 : tie.Need-array-read-if1 Inv-loop μ-loop
-array-read-if1 c = omega arith
-
-returns : tie.Need-returns Inv-loop μ-loop
-unfolding countFits countLimit
-returns c =
-    let s = c .before .before .before .args .t1 in
-    let a = c .before .before .loop in
-    scan-fails countFits s (a .d) (all countFits s) 0 (omega arith) (a .inv .2) (lt-leb (getD s (a .d) 0) countLimit (omega arith))
-
-add-d : tie.Need-add-d Inv-loop μ-loop
-add-d c = omega arith
-
-loop-less : tie.Need-loop-less Inv-loop μ-loop
-loop-less c = omega arith
-
-loop-again : tie.Need-loop-again Inv-loop μ-loop
-unfolding countFits countLimit
-loop-again c =
-    let s = c .before .before .before .args .t1 in
-    let a = c .before .before .loop in (
-      a .inv .0,
-      omega arith,
-      scan-on countFits s (a .d) (all countFits s) 0 (omega arith) (a .inv .2)
-          (le-leb (getD s (a .d) 0) countLimit (omega arith)),
-    )
-
-returns-2 : tie.Need-returns-2 Inv-loop μ-loop
-returns-2 c =
-    let s = c .before .before .args .t1 in
-    scan-end countFits s (c .before .loop .d) (all countFits s) (omega arith) (c .before .loop .inv .2)
+returns-2 : tie.Need-returns-2
+returns-2 c = c .each-count-fits .ensures
 
 pub counts-fit-spec : {M : Type 1} → statement M
-counts-fit-spec =
-    tie.close
-    (tie.spec
-    Inv-loop
-    μ-loop
-    loop-holds
-    mul-if1
-    array-read-if1
-    returns
-    add-d
-    loop-less
-    loop-again
-    returns-2)
+counts-fit-spec = tie.close (tie.spec limits-in-all-requires returns each-count-fits-requires returns-2)

@@ -53,29 +53,29 @@ cast-segment-fits c = omega arith
 mul-segment-fits : tie.Need-mul-segment-fits Inv-loop μ-loop
 mul-segment-fits c = omega arith
 
-array-read-segment-fits : tie.Need-array-read-segment-fits Inv-loop μ-loop
-array-read-segment-fits c = omega arith
+element-copy-out-segment-fits : tie.Need-element-copy-out-segment-fits Inv-loop μ-loop
+element-copy-out-segment-fits c = omega arith
 
 mul-segment-fits-2 : tie.Need-mul-segment-fits-2 Inv-loop μ-loop
 mul-segment-fits-2 c = omega arith
 
-array-read-segment-fits-2 : tie.Need-array-read-segment-fits-2 Inv-loop μ-loop
-array-read-segment-fits-2 c = omega arith
+element-copy-out-segment-fits-2 : tie.Need-element-copy-out-segment-fits-2 Inv-loop μ-loop
+element-copy-out-segment-fits-2 c = omega arith
 
 segment-fits-requires : tie.Need-segment-fits-requires Inv-loop μ-loop
 segment-fits-requires c κs = search needs
 
 returns : tie.Need-returns Inv-loop μ-loop
 returns c =
-    let l = c .before .before .before in
+    let l = c .before .before .before .before .before in
     let g = l .before in
     let a = g .before .before .args in
     let N = g .before .stack-count in
     let G = g .segment-count in
-    let t = fits (N .result) (a .size) (a .room) (G .result) (a .t5) (a .t6) in
+    let t = fits (N .result) (a .size) (a .room) (G .result) (a .passed .now) (a .waiting .now) in
     let f = c .before .segment-fits in
     upto-fails t segmentLimit (l .loop .j) (all t (from 0 segmentLimit)) (omega arith) (l .loop .inv .1) (sym (f .ensures) ∙ not-true (f .result) (c .if1 .taken))
-    ∙ fits-is (a .kind) (a .n) (a .size) (a .room) (a .t5) (a .t6) (N .result) (G .result) (N .ensures) (G .ensures)
+    ∙ fits-is (a .kind) (a .n) (a .size) (a .room) (a .passed .now) (a .waiting .now) (N .result) (G .result) (N .ensures) (G .ensures)
 
 add-j : tie.Need-add-j Inv-loop μ-loop
 add-j c = omega arith
@@ -85,10 +85,10 @@ loop-less c = omega arith
 
 loop-again : tie.Need-loop-again Inv-loop μ-loop
 loop-again c =
-    let l = c .before .before .before in
+    let l = c .before .before .before .before .before in
     let g = l .before in
     let a = g .before .before .args in
-    let t = fits (g .before .stack-count .result) (a .size) (a .room) (g .segment-count .result) (a .t5) (a .t6) in
+    let t = fits (g .before .stack-count .result) (a .size) (a .room) (g .segment-count .result) (a .passed .now) (a .waiting .now) in
     let f = c .before .segment-fits in (
       omega arith,
       upto-on t segmentLimit (l .loop .j) (all t (from 0 segmentLimit)) (omega arith) (l .loop .inv .1) (sym (f .ensures) ∙ not-false (f .result) (c .if1 .left)),
@@ -101,9 +101,9 @@ returns-2 c =
     let a = g .before .before .args in
     let N = g .before .stack-count in
     let G = g .segment-count in
-    let t = fits (N .result) (a .size) (a .room) (G .result) (a .t5) (a .t6) in
+    let t = fits (N .result) (a .size) (a .room) (G .result) (a .passed .now) (a .waiting .now) in
     upto-end t segmentLimit (l .loop .j) (all t (from 0 segmentLimit)) (omega arith) (l .loop .inv .1)
-    ∙ fits-is (a .kind) (a .n) (a .size) (a .room) (a .t5) (a .t6) (N .result) (G .result) (N .ensures) (G .ensures)
+    ∙ fits-is (a .kind) (a .n) (a .size) (a .room) (a .passed .now) (a .waiting .now) (N .result) (G .result) (N .ensures) (G .ensures)
 
 pub segments-fit-spec : {M : Type 1} → statement M
 segments-fit-spec =
@@ -116,9 +116,9 @@ segments-fit-spec =
     loop-holds
     cast-segment-fits
     mul-segment-fits
-    array-read-segment-fits
+    element-copy-out-segment-fits
     mul-segment-fits-2
-    array-read-segment-fits-2
+    element-copy-out-segment-fits-2
     segment-fits-requires
     returns
     add-j

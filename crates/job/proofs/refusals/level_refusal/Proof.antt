@@ -1,17 +1,18 @@
 -- `job::refusals::level_refusal` meets its contract: the row above it, and then the log area's length.
 use mathlib.Core.Path.{_≡_, sym, ap, _∙_}
-use mathlib.Core.Bool.{Bool, true}
+use mathlib.Core.Bool.{Bool}
 use borrow.Author.Needs.{needs}
 use borrow.Author.Tests.{eq-eqb, ne-eqb}
 use Prim.Native.Nat.{ℕ}
 use lib.Dec.{eqb}
 use Rattle.base.specs.Words.{unless}
-use Rattle.search.specs.JobState.{isCoherent, isLevel, stackCountOf, segmentCountOf, logLength}
+use Rattle.search.specs.JobState.{isLevel, logLength}
 use Rattle.search.specs.Refusals.{segmentRefusal, levelRefusal}
 use Rattle.search.specs.declared.Job.{Job}
 use Rattle.search.proofs.Accepted.{segment-facts}
-use Rattle.job.proofs.Bounds.{coherent-bounds}
+use Rattle.job.specs.Standing.{standingOf}
 use Rattle.job.proofs.Rows.{segment-refuses, segment-on}
+use Rattle.job.proofs.Standings.{phase-is, area-is, stands-sizes}
 use Rattle.job.proofs.refusals.level_refusal.Statement.{statement}
 use Rattle.job.proofs.refusals.level_refusal.Tie as tie
 
@@ -23,52 +24,51 @@ is-level-requires : tie.Need-is-level-requires
 is-level-requires c κs = search needs
 
 segment-refusal-requires : tie.Need-segment-refusal-requires
-segment-refusal-requires c κs = search needs
+segment-refusal-requires c κs = c .before .pre
 
 -- what the row above has answered
-answered : (c : tie.After-segment-refusal) → let a = c .before .before .args in
-    c .segment-refusal .result ≡ segmentRefusal (isLevel (a .job .phase)) (a .job) (a .j) (a .bytes) 0
-answered c =
+answered : (c : tie.After-segment-refusal) (job : Job) → let a = c .before .before .args in
+    a .standing ≡ standingOf job (a .j) → c .segment-refusal .result ≡ segmentRefusal (isLevel (job .phase)) job (a .j) (a .bytes) 0
+answered c job e =
     let a = c .before .before .args in
-    c .segment-refusal .ensures ∙ ap (λ (p : Bool). segmentRefusal p (a .job) (a .j) (a .bytes) 0) (c .before .is-level .ensures)
+    c .segment-refusal .ensures job e
+    ∙ ap (λ (p : Bool). segmentRefusal p job (a .j) (a .bytes) 0) (c .before .is-level .ensures ∙ ap isLevel (phase-is (a .standing) (a .j) job e))
 
 returns : tie.Need-returns
 unfolding levelRefusal
-returns c =
+returns c job e =
     let s = c .before in
     let a = s .before .before .args in
-    segment-refuses (isLevel (a .job .phase)) (a .job) (a .j) (rest (a .job) (a .words)) (s .segment-refusal .result) (a .bytes) (answered s) (c .if1 .taken)
-
-coherent : (c : tie.Else1) → isCoherent (c .before .before .before .args .job) ≡ true
-coherent c =
-    let s = c .before in
-    let a = s .before .before .args in
-    segment-facts (isLevel (a .job .phase)) (a .job) (a .j) (a .bytes) 0 (sym (answered s) ∙ c .if1 .left) .0 .coherent
+    segment-refuses (isLevel (job .phase)) job (a .j) (rest job (a .words)) (s .segment-refusal .result) (a .bytes) (answered s job e) (c .if1 .taken)
 
 log-length-requires : tie.Need-log-length-requires
 log-length-requires c κs =
-    let b = coherent-bounds (c .before .before .before .args .job) (coherent c) in (b .is-pane-count, b .is-size, b .is-room)
+    let s = c .before .before .before in
+    let a = s .args in
+    let of = s .pre in
+    let f = segment-facts (isLevel (of .job .phase)) (of .job) (a .j) (a .bytes) 0 (sym (answered (c .before) (of .job) (of .is)) ∙ c .if1 .left) .0 in
+    let b = stands-sizes (a .standing) (a .j) of (f .coherent) in (b .is-pane-count, b .is-size, b .is-room)
 
 -- the row goes on, and the test of the length decides
-decides : (c : tie.After-log-length) → let a = c .before .before .before .before .args in
-    unless (eqb (a .words) (c .log-length .result)) 10 0 ≡ levelRefusal (a .job) (a .j) (a .bytes) (a .words) 0
-unfolding levelRefusal logLength segmentCountOf stackCountOf
-decides c =
-    let e = c .before in
-    let s = e .before in
+decides : (c : tie.After-log-length) (job : Job) → let a = c .before .before .before .before .args in
+    a .standing ≡ standingOf job (a .j) → unless (eqb (a .words) (c .log-length .result)) 10 0 ≡ levelRefusal job (a .j) (a .bytes) (a .words) 0
+unfolding levelRefusal
+decides c job e =
+    let ok = c .before in
+    let s = ok .before in
     let a = s .before .before .args in
-    ap (λ (m : ℕ). unless (eqb (a .words) m) 10 0) (c .log-length .ensures)
-    ∙ segment-on (isLevel (a .job .phase)) (a .job) (a .j) (rest (a .job) (a .words)) (s .segment-refusal .result) (a .bytes) (answered s) (e .if1 .left)
+    ap (λ (m : ℕ). unless (eqb (a .words) m) 10 0) (c .log-length .ensures ∙ area-is (a .standing) (a .j) job e)
+    ∙ segment-on (isLevel (job .phase)) job (a .j) (rest job (a .words)) (s .segment-refusal .result) (a .bytes) (answered s job e) (ok .if1 .left)
 
 returns-2 : tie.Need-returns-2
-returns-2 c =
+returns-2 c job e =
     let l = c .before in
-    ap (λ (t : Bool). unless t 10 0) (sym (ne-eqb (l .before .before .before .before .args .words) (l .log-length .result) (c .if2 .taken))) ∙ decides l
+    ap (λ (t : Bool). unless t 10 0) (sym (ne-eqb (l .before .before .before .before .args .words) (l .log-length .result) (c .if2 .taken))) ∙ decides l job e
 
 returns-3 : tie.Need-returns-3
-returns-3 c =
+returns-3 c job e =
     let l = c .before in
-    ap (λ (t : Bool). unless t 10 0) (sym (eq-eqb (l .before .before .before .before .args .words) (l .log-length .result) (c .if2 .left))) ∙ decides l
+    ap (λ (t : Bool). unless t 10 0) (sym (eq-eqb (l .before .before .before .before .args .words) (l .log-length .result) (c .if2 .left))) ∙ decides l job e
 
 pub level-refusal-spec : {M : Type 1} → statement M
 level-refusal-spec =

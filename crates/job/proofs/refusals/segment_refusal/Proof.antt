@@ -7,12 +7,13 @@ use Prim.Native.Nat.{ℕ}
 use lib.Dec.{eqb}
 use Rattle.base.specs.Words.{unless}
 use Rattle.search.specs.Entries.{bytesFor}
-use Rattle.search.specs.JobState.{stackCountOf, stackCountAt}
+use Rattle.search.specs.JobState.{stackCountAt}
 use Rattle.search.specs.Refusals.{segmentRefusal}
 use Rattle.search.specs.declared.Job.{Job}
 use Rattle.search.proofs.Accepted.{call-facts}
-use Rattle.job.proofs.Bounds.{coherent-bounds}
+use Rattle.job.specs.Standing.{standingOf}
 use Rattle.job.proofs.Rows.{call-refuses, call-on}
+use Rattle.job.proofs.Standings.{stacks-are, stands-sizes}
 use Rattle.job.proofs.refusals.segment_refusal.Statement.{statement}
 use Rattle.job.proofs.refusals.segment_refusal.Tie as tie
 
@@ -21,20 +22,22 @@ abbrev rest : Job → ℕ → ℕ → ℕ
 rest job j bytes = unless (eqb bytes (bytesFor (stackCountAt job j))) 10 0
 
 call-refusal-requires : tie.Need-call-refusal-requires
-call-refusal-requires c κs = search needs
+call-refusal-requires c κs = c .pre
 
 returns : tie.Need-returns
 unfolding segmentRefusal
-returns c =
+returns c job e =
     let a = c .before .before .args in
     let f = c .before .call-refusal in
-    call-refuses (a .in-phase) (a .job) (a .j) (rest (a .job) (a .j) (a .bytes)) (f .result) (f .ensures) (c .if1 .taken)
+    call-refuses (a .in-phase) job (a .j) (rest job (a .j) (a .bytes)) (f .result) (f .ensures job e) (c .if1 .taken)
 
 stack-count-at-requires : tie.Need-stack-count-at-requires
 stack-count-at-requires c κs =
-    let a = c .before .before .args in
-    let f = c .before .call-refusal in
-    coherent-bounds (a .job) (call-facts (a .in-phase) (a .job) (a .j) 0 (sym (f .ensures) ∙ c .if1 .left) .0 .coherent) .is-pane-count
+    let s = c .before .before in
+    let a = s .args in
+    let of = s .pre in
+    let f = call-facts (a .in-phase) (of .job) (a .j) 0 (sym (c .before .call-refusal .ensures (of .job) (of .is)) ∙ c .if1 .left) .0 in
+    stands-sizes (a .standing) (a .j) of (f .coherent) .is-pane-count
 
 bytes-for-requires : tie.Need-bytes-for-requires
 bytes-for-requires c κs = search needs
@@ -43,25 +46,27 @@ cast-length : tie.Need-cast-length
 cast-length c = search needs
 
 -- the row goes on, and the test of the length decides
-decides : (c : tie.After-bytes-for) → let a = c .before .before .before .before .args in
-    unless (eqb (a .bytes) (c .bytes-for .result)) 10 0 ≡ segmentRefusal (a .in-phase) (a .job) (a .j) (a .bytes) 0
-unfolding segmentRefusal stackCountAt stackCountOf
-decides c =
-    let e = c .before .before in
-    let a = e .before .before .args in
-    let f = e .before .call-refusal in
-    ap (λ (m : ℕ). unless (eqb (a .bytes) m) 10 0) (c .bytes-for .ensures ∙ ap bytesFor (c .before .stack-count-at .ensures))
-    ∙ call-on (a .in-phase) (a .job) (a .j) (rest (a .job) (a .j) (a .bytes)) (f .result) (f .ensures) (e .if1 .left)
+decides : (c : tie.After-bytes-for) (job : Job) → let a = c .before .before .before .before .args in
+    a .standing ≡ standingOf job (a .j)
+    → unless (eqb (a .bytes) (c .bytes-for .result)) 10 0 ≡ segmentRefusal (a .in-phase) job (a .j) (a .bytes) 0
+unfolding segmentRefusal
+decides c job e =
+    let ok = c .before .before in
+    let a = ok .before .before .args in
+    let f = ok .before .call-refusal in
+    ap (λ (m : ℕ). unless (eqb (a .bytes) m) 10 0)
+    (c .bytes-for .ensures ∙ ap bytesFor (c .before .stack-count-at .ensures ∙ stacks-are (a .standing) (a .j) job e))
+    ∙ call-on (a .in-phase) job (a .j) (rest job (a .j) (a .bytes)) (f .result) (f .ensures job e) (ok .if1 .left)
 
 returns-2 : tie.Need-returns-2
-returns-2 c =
+returns-2 c job e =
     let b = c .before in
-    ap (λ (t : Bool). unless t 10 0) (sym (ne-eqb (b .before .before .before .before .args .bytes) (b .bytes-for .result) (c .if2 .taken))) ∙ decides b
+    ap (λ (t : Bool). unless t 10 0) (sym (ne-eqb (b .before .before .before .before .args .bytes) (b .bytes-for .result) (c .if2 .taken))) ∙ decides b job e
 
 returns-3 : tie.Need-returns-3
-returns-3 c =
+returns-3 c job e =
     let b = c .before in
-    ap (λ (t : Bool). unless t 10 0) (sym (eq-eqb (b .before .before .before .before .args .bytes) (b .bytes-for .result) (c .if2 .left))) ∙ decides b
+    ap (λ (t : Bool). unless t 10 0) (sym (eq-eqb (b .before .before .before .before .args .bytes) (b .bytes-for .result) (c .if2 .left))) ∙ decides b job e
 
 pub segment-refusal-spec : {M : Type 1} → statement M
 segment-refusal-spec =

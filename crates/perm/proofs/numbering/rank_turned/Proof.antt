@@ -9,6 +9,7 @@ use mir.Syntax.{w8}
 use mir.Val.{toZ, ofZ}
 use Rattle.stacks.specs.Turn.{turnOf}
 use Rattle.stacks.proofs.KindLaws.{panes-twelve}
+use Rattle.stacks.proofs.Panes.{stack-facts}
 use Rattle.stacks.proofs.TurnLaws.{turn-stack}
 use Rattle.perm.specs.declared.numbering.Ranking.{Ranking}
 use Rattle.perm.proofs.Sets.{shifted}
@@ -19,16 +20,16 @@ use Rattle.perm.proofs.numbering.rank_turned.Statement.{statement}
 use Rattle.perm.proofs.numbering.rank_turned.Tie as tie
 
 abbrev Inv-loop : tie.InvT-loop
-Inv-loop kind n index k stack top group above₀ p₀ above p =
+Inv-loop kind n stack index k top group above₀ p₀ above p =
     (length stack ≡ 12) × (n ≤ 12) × (k ≤ n) × (p ≤ k) × Ranked n (turnOf kind k stack) above p
 
 abbrev μ-loop : tie.MeasureT-loop
-μ-loop kind n index k stack top group above₀ p₀ above p = k - p
+μ-loop kind n stack index k top group above₀ p₀ above p = k - p
 
 loop-holds : tie.Need-loop-holds Inv-loop μ-loop
 loop-holds c =
     let a = c .args in
-    (search needs, panes-twelve (a .kind) (a .n) (c .pre .0), c .pre .3, omega arith, ranked-start (a .n) (turnOf (a .kind) (a .k) (a .t3)))
+    (stack-facts (a .kind) (a .n) (a .stack .now) (c .pre .1) .twelve, panes-twelve (a .kind) (a .n) (c .pre .0), c .pre .3, omega arith, ranked-start (a .n) (turnOf (a .kind) (a .k) (a .stack .now)))
 
 sub-flipped : tie.Need-sub-flipped Inv-loop μ-loop
 sub-flipped c = omega arith
@@ -39,13 +40,13 @@ sub-flipped-2 c = omega arith
 cast-flipped : tie.Need-cast-flipped Inv-loop μ-loop
 cast-flipped c = search needs
 
-array-copy-out-flipped : tie.Need-array-copy-out-flipped Inv-loop μ-loop
-array-copy-out-flipped c = omega arith
+element-copy-out-flipped : tie.Need-element-copy-out-flipped Inv-loop μ-loop
+element-copy-out-flipped c = omega arith
 
 flipped-requires : tie.Need-flipped-requires Inv-loop μ-loop
 flipped-requires c κs =
     let a = c .before .before in
-    pane-read (a .before .args .kind) (a .before .args .n) (a .before .args .t3) (a .before .pre .1) (a .loop .inv .1) _ (omega arith)
+    pane-read (a .before .args .kind) (a .before .args .n) (a .before .args .stack .now) (a .before .pre .1) (a .loop .inv .1) _ (omega arith)
 
 sub-rank-place : tie.Need-sub-rank-place Inv-loop μ-loop
 sub-rank-place c = omega arith
@@ -53,12 +54,12 @@ sub-rank-place c = omega arith
 -- the pane that is ranked is the turned stack's
 pane-is : (c : tie.After-flipped Inv-loop μ-loop)
     → let a = c .before .before .before in
-    toZ w8 (ofZ w8 (c .flipped .result)) ≡ getD (turnOf (a .before .args .kind) (a .before .args .k) (a .before .args .t3)) (a .loop .p) (pos 0)
+    toZ w8 (ofZ w8 (c .flipped .result)) ≡ getD (turnOf (a .before .args .kind) (a .before .args .k) (a .before .args .stack .now)) (a .loop .p) (pos 0)
 pane-is c =
     let a = c .before .before .before in
     let kind = a .before .args .kind in
     let k = a .before .args .k in
-    let s = a .before .args .t3 in
+    let s = a .before .args .stack .now in
     let inv = a .loop .inv in
     let here = c .before .before .loop-test .taken in
     pane-flipped kind (a .before .args .n) s (a .before .pre .1) (inv .1) (k - 1 - a .loop .p) (omega arith) (c .flipped .result) (c .flipped .ensures)
@@ -70,7 +71,7 @@ rank-place-requires c κs =
     let kind = a .before .args .kind in
     let n = a .before .args .n in
     let k = a .before .args .k in
-    let s = a .before .args .t3 in
+    let s = a .before .args .stack .now in
     ranked-fits kind n (turnOf kind k s) (a .before .pre .0) (turn-stack kind n (a .before .pre .0) k s (a .before .pre .3) (a .before .pre .1))
     (a .loop .above) (a .loop .p) (a .loop .inv .4) (omega arith) (toZ w8 (ofZ w8 (c .flipped .result))) (pane-is c)
 
@@ -86,7 +87,7 @@ loop-again c =
     let kind = a .before .args .kind in
     let n = a .before .args .n in
     let k = a .before .args .k in
-    let s = a .before .args .t3 in (
+    let s = a .before .args .stack .now in (
       a .loop .inv .0,
       a .loop .inv .1,
       a .loop .inv .2,
@@ -109,16 +110,16 @@ factorial-requires c κs = omega arith
 turned : (c : tie.After-factorial Inv-loop μ-loop)
     → let a = c .before .before .before in
     let g = a .before .args in
-    TurnedIndex (g .kind) (g .n) (turnOf (g .kind) (g .k) (g .t3)) (a .loop .above) (g .index) (c .before .coatings-of .result) (c .factorial .result)
+    TurnedIndex (g .kind) (g .n) (turnOf (g .kind) (g .k) (g .stack .now)) (a .loop .above) (g .index) (c .before .coatings-of .result) (c .factorial .result)
     (1 * 2 ^ (g .n - g .k) % 4294967296)
 turned c =
     let a = c .before .before .before in
     let g = a .before .args in
     let f = a .before .pre in
     let done : a .loop .p ≡ g .k = omega arith in
-    let r : Ranked (g .n) (turnOf (g .kind) (g .k) (g .t3)) (a .loop .above) (g .k) =
-    subst (λ (q : ℕ). Ranked (g .n) (turnOf (g .kind) (g .k) (g .t3)) (a .loop .above) q) done (a .loop .inv .4) in
-    turned-index (g .kind) (g .n) (g .t3) (f .0) (f .1) (g .k) (f .3) (a .loop .above) r (g .index) (c .before .coatings-of .result) (c .factorial .result)
+    let r : Ranked (g .n) (turnOf (g .kind) (g .k) (g .stack .now)) (a .loop .above) (g .k) =
+    subst (λ (q : ℕ). Ranked (g .n) (turnOf (g .kind) (g .k) (g .stack .now)) (a .loop .above) q) done (a .loop .inv .4) in
+    turned-index (g .kind) (g .n) (g .stack .now) (f .0) (f .1) (g .k) (f .3) (a .loop .above) r (g .index) (c .before .coatings-of .result) (c .factorial .result)
     (1 * 2 ^ (g .n - g .k) % 4294967296) (f .2) (c .before .coatings-of .ensures) (c .factorial .ensures) (shifted (g .n - g .k) (omega arith))
 
 mul-order : tie.Need-mul-order Inv-loop μ-loop
@@ -167,7 +168,7 @@ rank-turned-spec =
     sub-flipped
     sub-flipped-2
     cast-flipped
-    array-copy-out-flipped
+    element-copy-out-flipped
     flipped-requires
     sub-rank-place
     rank-place-requires

@@ -2,14 +2,14 @@
 use mathlib.Core.Path.{_≡_, sym, ap, _∙_, subst}
 use Prim.Native.Nat.{_≤_}
 use lib.ListN.{length}
-use Rattle.stacks.specs.Turn.{turnsOf}
+use Rattle.stacks.specs.Turn.{turnsIn}
 use Rattle.search.specs.Plan.{planLimit, Route, routeFrom}
 use Rattle.search.proofs.PlanLaws.{RowFacts, row-facts}
-use Rattle.search.proofs.Turning.{all-turns}
+use Rattle.search.proofs.Turning.{set-turns}
 use Rattle.plan.specs.Drafts.{Drafts}
 use Rattle.plan.specs.Routes.{routeOf}
 use Rattle.plan.proofs.Routes.{route-stack, route-taken}
-use Rattle.plan.proofs.Answers.{no-plan-unseen, no-plan-root, no-plan-route, a-plan, row-refused, draft-refused, draft-accepted}
+use Rattle.plan.proofs.Answers.{no-plan-root, no-plan-route, a-plan, row-refused, draft-unseen, draft-refused, draft-accepted}
 use borrow.Author.Needs.{needs}
 use Rattle.plan.proofs.plan.draft_plan.Statement.{statement}
 use Rattle.plan.proofs.plan.draft_plan.Tie as tie
@@ -24,14 +24,14 @@ returns : tie.Need-returns
 returns c =
     let r = c .before .before in
     let a = r .before .before .args in
-    subst (Drafts (a .kind) (a .n) (a .wanted) (a .given) (a .table .now) (a .slots)) (sym (c .no-draft .ensures))
-    (row-refused (a .kind) (a .n) (a .wanted) (a .given) (a .table .now) (a .slots) (r .plan-refusal .result) (r .plan-refusal .ensures) (c .before .if1 .taken))
+    subst (Drafts (a .kind) (a .n) (a .wanted) (a .given) (a .groups) (a .table .now) (a .slots)) (sym (c .no-draft .ensures))
+    (row-refused (a .kind) (a .n) (a .wanted) (a .given) (a .groups) (a .table .now) (a .slots) (r .plan-refusal .result) (r .plan-refusal .ensures) (c .before .if1 .taken))
 
--- the row up to 15 refuses nothing
-facts : (c : tie.Else1) → let a = c .before .before .before .args in RowFacts (a .kind) (a .n) (a .wanted) (a .given) (length (a .table .now)) (a .slots)
+-- the row up to 20 refuses nothing
+facts : (c : tie.Else1) → let a = c .before .before .before .args in RowFacts (a .kind) (a .n) (a .wanted) (a .given) (a .groups) (length (a .table .now)) (a .slots)
 facts c =
     let a = c .before .before .before .args in
-    row-facts (a .kind) (a .n) (a .wanted) (a .given) (length (a .table .now)) (a .slots) 0 (sym (c .before .plan-refusal .ensures) ∙ c .if1 .left) .0
+    row-facts (a .kind) (a .n) (a .wanted) (a .given) (a .groups) (length (a .table .now)) (a .slots) 0 (sym (c .before .plan-refusal .ensures) ∙ c .if1 .left) .0
 
 entry-of-requires : tie.Need-entry-of-requires
 entry-of-requires c κs = (facts c .of-panes, facts c .start, facts c .long)
@@ -44,9 +44,8 @@ returns-2 c =
     let r = c .before .before in
     let e = r .before in
     let a = e .before .before .before .args in
-    subst (Drafts (a .kind) (a .n) (a .wanted) (a .given) (a .table .now) (a .slots)) (sym (c .no-draft2 .ensures))
-    (draft-refused (a .kind) (a .n) (a .wanted) (a .given) (a .table .now) (a .slots) (facts e)
-    (no-plan-unseen (a .kind) (a .n) (a .table .now) (a .wanted) (turnsOf (a .kind) (a .n)) (a .given) (r .entry-of .result) (r .entry-of .ensures) (c .before .if2 .taken)))
+    subst (Drafts (a .kind) (a .n) (a .wanted) (a .given) (a .groups) (a .table .now) (a .slots)) (sym (c .no-draft2 .ensures))
+    (draft-unseen (a .kind) (a .n) (a .wanted) (a .given) (a .groups) (a .table .now) (a .slots) (facts e) (r .entry-of .result) (r .entry-of .ensures) (c .before .if2 .taken))
 
 entry-of-requires-2 : tie.Need-entry-of-requires-2
 entry-of-requires-2 c κs =
@@ -62,9 +61,9 @@ returns-3 c =
     let r = w .before .before in
     let e = r .before in
     let a = e .before .before .before .args in
-    subst (Drafts (a .kind) (a .n) (a .wanted) (a .given) (a .table .now) (a .slots)) (sym (c .no-draft3 .ensures))
-    (draft-refused (a .kind) (a .n) (a .wanted) (a .given) (a .table .now) (a .slots) (facts e)
-    (no-plan-root (a .kind) (a .n) (a .table .now) (a .wanted) (turnsOf (a .kind) (a .n)) (a .given) (r .entry-of .result) (r .entry-of .ensures) (w .entry-of2 .result) (w .entry-of2 .ensures) (c .before .if3 .taken)))
+    subst (Drafts (a .kind) (a .n) (a .wanted) (a .given) (a .groups) (a .table .now) (a .slots)) (sym (c .no-draft3 .ensures))
+    (draft-refused (a .kind) (a .n) (a .wanted) (a .given) (a .groups) (a .table .now) (a .slots) (facts e) (r .entry-of .result) (r .entry-of .ensures) (w .before .if2 .left)
+    (no-plan-root (a .kind) (a .n) (a .table .now) (a .wanted) (turnsIn (a .kind) (a .n) (a .groups)) (a .given) (w .entry-of2 .result) (w .entry-of2 .ensures) (c .before .if3 .taken)))
 
 route-from-requires : tie.Need-route-from-requires
 route-from-requires c κs =
@@ -73,7 +72,7 @@ route-from-requires c κs =
 
 -- the stack that the route has come to
 stack-is : (c : tie.After-route-from)
-    → let a = c .before .before .before .before .before .before .before .before .args in c .route-from .result .stack ≡ routeFrom (a .kind) (a .n) (a .table .now) (a .wanted) (turnsOf (a .kind) (a .n)) (a .given) .stack
+    → let a = c .before .before .before .before .before .before .before .before .args in c .route-from .result .stack ≡ routeFrom (a .kind) (a .n) (a .table .now) (a .wanted) (turnsIn (a .kind) (a .n) (a .groups)) (a .given) .stack
 stack-is c = ap (λ (r : Route). r .stack) (c .route-from .ensures .0)
 
 rank-requires : tie.Need-rank-requires
@@ -81,7 +80,7 @@ rank-requires c κs =
     let w = c .before .before in
     let e = w .before .before .before .before .before in
     let a = e .before .before .before .args in
-    (facts e .of-panes, rw (stack-is w) (route-stack (a .kind) (a .n) (a .table .now) (a .wanted) (a .given) (facts e .of-panes) (all-turns (a .kind) (a .n) (facts e .of-panes)) (facts e .start)))
+    (facts e .of-panes, rw (stack-is w) (route-stack (a .kind) (a .n) (a .table .now) (a .wanted) (a .given) (facts e .of-panes) (set-turns (a .kind) (a .n) (facts e .of-panes) (a .groups)) (facts e .start)))
 
 rank-requires-2 : tie.Need-rank-requires-2
 rank-requires-2 c κs =
@@ -99,16 +98,16 @@ returns-4 c =
     let r = g .before .before in
     let e = r .before in
     let a = e .before .before .before .args in
-    subst (Drafts (a .kind) (a .n) (a .wanted) (a .given) (a .table .now) (a .slots)) (sym (c .no-draft4 .ensures))
-    (draft-refused (a .kind) (a .n) (a .wanted) (a .given) (a .table .now) (a .slots) (facts e)
-    (no-plan-route (a .kind) (a .n) (a .table .now) (a .wanted) (turnsOf (a .kind) (a .n)) (a .given) (r .entry-of .result) (r .entry-of .ensures) (g .entry-of2 .result) (g .entry-of2 .ensures)
+    subst (Drafts (a .kind) (a .n) (a .wanted) (a .given) (a .groups) (a .table .now) (a .slots)) (sym (c .no-draft4 .ensures))
+    (draft-refused (a .kind) (a .n) (a .wanted) (a .given) (a .groups) (a .table .now) (a .slots) (facts e) (r .entry-of .result) (r .entry-of .ensures) (g .before .if2 .left)
+    (no-plan-route (a .kind) (a .n) (a .table .now) (a .wanted) (turnsIn (a .kind) (a .n) (a .groups)) (a .given) (g .entry-of2 .result) (g .entry-of2 .ensures)
     (w .route-from .result .stack) (stack-is w) (k .before .rank .result) (k .rank2 .result) (k .before .rank .ensures) (k .rank2 .ensures) (c .before .if4 .taken)))
 
 -- the route is within the limit
 few : (c : tie.After-route-from) → c .route-from .result .taken ≤ planLimit
 few c =
     let a = c .before .before .before .before .before .before .before .before .args in
-    route-taken (a .kind) (a .n) (a .table .now) (a .wanted) (turnsOf (a .kind) (a .n)) (a .given) (routeOf (c .route-from .result)) (c .route-from .result .taken) (c .route-from .ensures .0) (c .route-from .ensures .1)
+    route-taken (a .kind) (a .n) (a .table .now) (a .wanted) (turnsIn (a .kind) (a .n) (a .groups)) (a .given) (routeOf (c .route-from .result)) (c .route-from .result .taken) (c .route-from .ensures .0) (c .route-from .ensures .1)
 
 returns-5 : tie.Need-returns-5
 returns-5 c =
@@ -118,9 +117,9 @@ returns-5 c =
     let r = g .before .before in
     let e = r .before in
     let a = e .before .before .before .args in
-    draft-accepted (a .kind) (a .n) (a .wanted) (a .given) (a .table .now) (a .slots) (facts e)
-    (a-plan (a .kind) (a .n) (a .table .now) (a .wanted) (turnsOf (a .kind) (a .n)) (a .given) (r .entry-of .result) (r .entry-of .ensures) (g .entry-of2 .result) (g .entry-of2 .ensures)
-    (w .route-from .result .stack) (stack-is w) (k .before .rank .result) (k .rank2 .result) (k .before .rank .ensures) (k .rank2 .ensures) (g .before .if2 .left) (w .before .if3 .left) (c .if4 .left))
+    draft-accepted (a .kind) (a .n) (a .wanted) (a .given) (a .groups) (a .table .now) (a .slots) (facts e) (r .entry-of .result) (r .entry-of .ensures) (g .before .if2 .left)
+    (a-plan (a .kind) (a .n) (a .table .now) (a .wanted) (turnsIn (a .kind) (a .n) (a .groups)) (a .given) (g .entry-of2 .result) (g .entry-of2 .ensures)
+    (w .route-from .result .stack) (stack-is w) (k .before .rank .result) (k .rank2 .result) (k .before .rank .ensures) (k .rank2 .ensures) (w .before .if3 .left) (c .if4 .left))
     (w .route-from .result .stack) (w .route-from .result .turns) (w .route-from .result .taken) (w .route-from .ensures .0) (w .route-from .ensures .1) (few w)
 
 pub draft-plan-spec : {M : Type 1} → statement M

@@ -11,14 +11,14 @@ returns : tie.Need-returns
 returns c =
     let d = c .before .before in
     let a = d .before .before .before .args in
-    plan-refused (a .kind) (a .n) (a .wanted) (a .given) (a .table .now) (a .list .now) (d .draft-plan .result) (d .draft-plan .ensures) (c .if1 .taken)
+    plan-refused (a .kind) (a .n) (a .wanted) (a .given) (a .groups) (a .table .now) (a .list .now) (d .draft-plan .result) (d .draft-plan .ensures) (c .if1 .taken)
 
 copy-turns-requires : tie.Need-copy-turns-requires
 copy-turns-requires c κs =
     let e = c .before .before in
     let d = e .before .before in
     let a = d .before .before .before .args in
-    draft-fits (a .kind) (a .n) (a .wanted) (a .given) (a .table .now) (a .list .now) (d .draft-plan .result) (d .draft-plan .ensures) (e .if1 .left)
+    draft-fits (a .kind) (a .n) (a .wanted) (a .given) (a .groups) (a .table .now) (a .list .now) (d .draft-plan .result) (d .draft-plan .ensures) (e .if1 .left)
 
 cast-count : tie.Need-cast-count
 cast-count c = search needs
@@ -32,7 +32,7 @@ returns-2 c =
     let e = k .before .before .before in
     let d = e .before .before in
     let a = d .before .before .before .args in
-    plan-accepted (a .kind) (a .n) (a .wanted) (a .given) (a .table .now) (a .list .now) (d .draft-plan .result) (d .draft-plan .ensures) (e .if1 .left)
+    plan-accepted (a .kind) (a .n) (a .wanted) (a .given) (a .groups) (a .table .now) (a .list .now) (d .draft-plan .result) (d .draft-plan .ensures) (e .if1 .left)
     (k .copy-turns .last .0) (k .copy-turns .ensures)
 
 pub plan-spec : {M : Type 1} → statement M

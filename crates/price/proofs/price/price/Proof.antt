@@ -16,7 +16,7 @@ returns : tie.Need-returns
 returns c =
     let d = c .before .before in
     let a = d .before .before .before .args in
-    draft-refuses (a .kind) (a .n) (a .wanted) (a .given) (a .table .now) (a .list .now) (a .tariff) (d .draft-plan .result) (d .draft-plan .ensures) (c .if1 .taken)
+    draft-refuses (a .kind) (a .n) (a .wanted) (a .given) (a .groups) (a .table .now) (a .list .now) (a .tariff) (d .draft-plan .result) (d .draft-plan .ensures) (c .if1 .taken)
 
 last-turn-requires : tie.Need-last-turn-requires
 last-turn-requires c κs = search needs
@@ -35,7 +35,7 @@ returns-2 c =
     let e = t .before .before in
     let d = e .before .before in
     let a = d .before .before .before .args in
-    tariff-refuses (a .kind) (a .n) (a .wanted) (a .given) (a .table .now) (a .list .now) (a .tariff) (d .draft-plan .result) (d .draft-plan .ensures) (e .if1 .left)
+    tariff-refuses (a .kind) (a .n) (a .wanted) (a .given) (a .groups) (a .table .now) (a .list .now) (a .tariff) (d .draft-plan .result) (d .draft-plan .ensures) (e .if1 .left)
     (t .tariff-refusal .result) (refusal-is t) (c .if2 .taken)
 
 -- neither refuses
@@ -60,7 +60,7 @@ copy-turns-requires c κs =
     let n = c .before .before .before .before .before .before .before in
     let d = n .before .before in
     let a = d .before .before .before .args in
-    draft-fits (a .kind) (a .n) (a .wanted) (a .given) (a .table .now) (a .list .now) (d .draft-plan .result) (d .draft-plan .ensures) (n .if1 .left)
+    draft-fits (a .kind) (a .n) (a .wanted) (a .given) (a .groups) (a .table .now) (a .list .now) (d .draft-plan .result) (d .draft-plan .ensures) (n .if1 .left)
 
 cast-count : tie.Need-cast-count
 cast-count c = search needs
@@ -77,7 +77,7 @@ returns-3 c =
     let n = e .before .before .before in
     let d = n .before .before in
     let a = d .before .before .before .args in
-    priced (a .kind) (a .n) (a .wanted) (a .given) (a .table .now) (a .list .now) (a .tariff) (d .draft-plan .result) (d .draft-plan .ensures) (n .if1 .left)
+    priced (a .kind) (a .n) (a .wanted) (a .given) (a .groups) (a .table .now) (a .list .now) (a .tariff) (d .draft-plan .result) (d .draft-plan .ensures) (n .if1 .left)
     (accepted e) (k .copy-turns .last .0) (k .copy-turns .ensures) (s .sum-of .result) (r .rounded .result) (s .sum-of .ensures) (r .rounded .ensures)
 
 pub price-spec : {M : Type 1} → statement M

@@ -1,0 +1,76 @@
+// What the rows of refusals need of a job, made once a call, so that no row takes the job itself.
+ghost use mathlib.Core.Path.{_≡_};
+ghost use lib.ListN.{length, getD};
+ghost use Rattle.job.specs.Standing.{jobWith, standingOf};
+ghost use Rattle.search.specs.JobState.{countPlaces};
+ghost use Rattle.search.specs.Segments.{segmentLimit};
+use crate::coherence;
+use search::COUNT_PLACES;
+use search::Phase;
+use search::SEGMENT_LIMIT;
+use stacks::PLACES;
+
+// Of a call on segment j: whether the job is coherent, its small fields, and what is passed and waiting in that segment.
+pub struct Standing {
+    pub coherent: bool,
+    pub kind: u8,
+    pub n: u8,
+    pub size: u32,
+    pub room: u32,
+    pub phase: Phase,
+    pub passed: u32,
+    pub waiting: u32,
+}
+
+// The number of segment j, 0 where no array has a place for it.
+fn number_at(numbers: &[u32; SEGMENT_LIMIT], j: u32) -> u32
+    requires { ⌜ length (now numbers) ≡ segmentLimit ⌝ }
+    ensures { λ r. ⌜ r ≡ getD (now (numbers .entry)) j 0 ⌝ }
+{
+    let at = j as usize;
+    if SEGMENT_LIMIT <= at {
+        return 0;
+    }
+    numbers[at]
+}
+
+// The standing of the job with these fields. Its arrays are lent, so that the job is not copied.
+pub fn standing_of<'a>(
+    kind: u8,
+    n: u8,
+    wanted: [i8; PLACES],
+    groups: u32,
+    size: u32,
+    room: u32,
+    phase: Phase,
+    passed: &'a [u32; SEGMENT_LIMIT],
+    waiting: &'a [u32; SEGMENT_LIMIT],
+    counts: &'a [u64; COUNT_PLACES],
+    j: u32,
+) -> Standing
+    requires { ⌜ (length (now passed) ≡ segmentLimit) × (length (now waiting) ≡ segmentLimit) × (length (now counts) ≡ countPlaces) ⌝ }
+    ensures { λ r. ⌜ r ≡ standingOf (jobWith kind n wanted groups size room phase (now (passed .entry)) (now (waiting .entry)) (now (counts .entry))) j ⌝ }
+{
+    let coherent = coherence::is_coherent(
+        kind,
+        n,
+        wanted,
+        groups,
+        size,
+        room,
+        phase,
+        passed,
+        waiting,
+        counts,
+    );
+    Standing {
+        coherent,
+        kind,
+        n,
+        size,
+        room,
+        phase,
+        passed: number_at(passed, j),
+        waiting: number_at(waiting, j),
+    }
+}

@@ -1,0 +1,116 @@
+// Sets of group sizes, those that a frame lifts: size k is the bit of weight 2^(k - 1).
+ghost use mathlib.Core.Bool.{true, not, _||_};
+ghost use mathlib.Core.List.{[], _∷_, _++_};
+ghost use mathlib.Core.Path.{_≡_};
+ghost use Prim.Native.Nat.{_+_, _≤_, _<_};
+ghost use lib.Dec.{eqb};
+ghost use lib.ListN.{length};
+ghost use Rattle.base.specs.Words.{all, filter, from};
+ghost use Rattle.stacks.specs.Stack.{isPaneCount};
+ghost use Rattle.stacks.specs.Turn.{isTurn, turnsOf, lifts, groupPlaces, isGroupSet, turnsIn, allGroups};
+ghost use Rattle.perm.specs.Moves.{mostMoves, listOf};
+use crate::kind;
+use stacks::PLACES;
+
+const GROUP_PLACES: u8 = 32;
+
+// As many moves as a search can have: no more than a stack has places.
+pub const MOST_MOVES: usize = PLACES;
+
+// The moves of a search, rising: the first count numbers.
+pub struct Moves {
+    pub turns: [u8; MOST_MOVES],
+    pub count: u32,
+}
+
+fn lifts(groups: u32, k: u8) -> bool
+    requires { ⌜ (1 ≤ k) × (k ≤ groupPlaces) ⌝ }
+    ensures { λ r. ⌜ r ≡ lifts groups k ⌝ }
+{
+    (groups >> ((k as u32) - 1)) % 2 == 1
+}
+
+fn size_fits(kind: u8, n: u8, groups: u32, k: u8) -> bool
+    requires { ⌜ (1 ≤ k) × (k ≤ groupPlaces) ⌝ }
+    ensures { λ r. ⌜ r ≡ (not (lifts groups k) || isTurn kind n k) ⌝ }
+{
+    if !lifts(groups, k) {
+        return true;
+    }
+    kind::is_turn(kind, n, k)
+}
+
+// Each size that the set names is a turn.
+fn names_turns(kind: u8, n: u8, groups: u32) -> bool
+    ensures { λ r. ⌜ r ≡ all (λ k. not (lifts groups k) || isTurn kind n k) (from 1 groupPlaces) ⌝ }
+{
+    let mut k: u8 = 1;
+    while k <= GROUP_PLACES {
+        if !size_fits(kind, n, groups, k) {
+            return false;
+        }
+        k += 1;
+    }
+    true
+}
+
+fn has_turns(kind: u8, n: u8) -> bool
+    ensures { λ r. ⌜ r ≡ not (eqb (length (turnsOf kind n)) 0) ⌝ }
+{
+    kind::first_turn(kind) <= kind::last_turn(kind, n)
+}
+
+// Those, and at least one if there is one.
+pub fn is_group_set(kind: u8, n: u8, groups: u32) -> bool
+    ensures { λ r. ⌜ r ≡ isGroupSet kind n groups ⌝ }
+{
+    if !names_turns(kind, n, groups) {
+        return false;
+    }
+    if groups != 0 {
+        return true;
+    }
+    !has_turns(kind, n)
+}
+
+// The full set. The bits from the first turn to the last are what two powers of two differ by.
+pub fn all_groups(kind: u8, n: u8) -> u32
+    requires { ⌜ isPaneCount kind n ≡ true ⌝ }
+    ensures { λ r. ⌜ r ≡ allGroups kind n ⌝ }
+{
+    let last = kind::last_turn(kind, n) as u32;
+    let first = kind::first_turn(kind) as u32;
+    (1 << last) - (1 << (first - 1))
+}
+
+// The moves, and turn k after them if the set names it.
+fn with_turn(moves: Moves, groups: u32, k: u8) -> Moves
+    requires { ⌜ (1 ≤ k) × (k ≤ groupPlaces) × (moves .count < mostMoves) ⌝ }
+    ensures { λ r. ⌜ (listOf r ≡ listOf moves ++ filter (lifts groups) (k ∷ [])) × (r .count ≤ moves .count + 1) ⌝ }
+{
+    if !lifts(groups, k) {
+        return moves;
+    }
+    let mut next = moves;
+    next.turns[moves.count as usize] = k;
+    next.count = moves.count + 1;
+    next
+}
+
+// The turns that a set names. The one place that reads a set for them.
+pub fn moves_in(kind: u8, n: u8, groups: u32) -> Moves
+    requires { ⌜ isPaneCount kind n ≡ true ⌝ }
+    ensures { λ r. ⌜ (listOf r ≡ turnsIn kind n groups) × (r .count ≤ mostMoves) ⌝ }
+{
+    let mut moves = Moves {
+        turns: [0u8; MOST_MOVES],
+        count: 0,
+    };
+    let last = kind::last_turn(kind, n);
+    let mut k = kind::first_turn(kind);
+    while k <= last {
+        moves = with_turn(moves, groups, k);
+        k += 1;
+    }
+    moves
+}
