@@ -12,6 +12,7 @@ use Rattle.search.specs.Entries.{bytesFor}
 use Rattle.search.specs.JobState.{isBlanking, isCoherent, segmentCountOf, stackCountOf}
 use Rattle.search.specs.Promise.{rightLengths}
 use Rattle.search.specs.declared.Answer.{Answer}
+use Rattle.search.specs.declared.Expanded.{Expanded}
 use Rattle.search.specs.declared.Job.{Job}
 use Rattle.search.proofs.CutLaws.{joined-cut}
 use Rattle.search.proofs.Driving.{next-blank, next-level, next-settle, next-expand, next-close}
@@ -28,26 +29,25 @@ module _ (job : Job) (table log : List ℕ) where
   chosen call e = ap (λ (c : Calls). laid (outcome (held job table log) c .world)) (sym e)
 
   pub advance-blanks : (j : ℕ) → j ≡ firstOpen job → isBlanking (job .phase) ≡ true → firstOpen job < segmentCountOf job
-      → (out : List ℕ × Job) → out ≡ blankedIn job j table → (out .0, log, out .1) ≡ laid (advanced (held job table log))
+      → (out : List ℕ × Answer) → out ≡ blankedIn job j table → (out .0, log, out .1 .job) ≡ laid (advanced (held job table log))
   unfolding laid outcome lent kept held blankedIn partOf withPart
   advance-blanks j at blanking h out e =
-      ap (λ (o : List ℕ × Job). (o .0, log, o .1)) (e ∙ ap (λ (i : ℕ). blankedIn job i table) at)
+      ap (λ (o : List ℕ × Answer). (o .0, log, o .1 .job)) (e ∙ ap (λ (i : ℕ). blankedIn job i table) at)
       ∙ chosen (doBlank (firstOpen job) own) (next-blank job blanking h)
 
   module _ (blanked : isBlanking (job .phase) ≡ false) where
     pub advance-settles : (j : ℕ) → j ≡ firstPending job → firstPending job < segmentCountOf job
-        → (out : List ℕ × Job) → out ≡ settledIn job j table log → (out .0, log, out .1) ≡ laid (advanced (held job table log))
+        → (out : List ℕ × Answer) → out ≡ settledIn job j table log → (out .0, log, out .1 .job) ≡ laid (advanced (held job table log))
     unfolding laid outcome lent kept held settledIn partOf withPart
     advance-settles j at h out e =
-        ap (λ (o : List ℕ × Job). (o .0, log, o .1)) (e ∙ ap (λ (i : ℕ). settledIn job i table log) at)
+        ap (λ (o : List ℕ × Answer). (o .0, log, o .1 .job)) (e ∙ ap (λ (i : ℕ). settledIn job i table log) at)
         ∙ chosen (doSettle (firstPending job) own own) (next-settle job blanked h)
 
     pub advance-expands : (j : ℕ) → j ≡ firstOpen job → segmentCountOf job ≤ firstPending job → firstOpen job < segmentCountOf job
-        → (out : List ℕ × List ℕ × Job) → out ≡ expandedIn job j table log → out ≡ laid (advanced (held job table log))
+        → (out : List ℕ × List ℕ × Expanded) → out ≡ expandedIn job j table log → (out .0, out .1, out .2 .job) ≡ laid (advanced (held job table log))
     unfolding laid outcome lent kept held expandedIn partOf withPart
     advance-expands j at h l out e =
-        e
-        ∙ ap (λ (i : ℕ). expandedIn job i table log) at
+        ap (λ (o : List ℕ × List ℕ × Expanded). (o .0, o .1, o .2 .job)) (e ∙ ap (λ (i : ℕ). expandedIn job i table log) at)
         ∙ chosen (doExpand (firstOpen job) own own) (next-expand job blanked h l)
 
   module _ (coherent : isCoherent job ≡ true) (long : length table ≡ bytesFor (stackCountOf job)) (answer : Answer) (closes : answer ≡ closeOf job) where

@@ -63,16 +63,16 @@ module _ (job : Job) (j : ℕ) (coherent : isCoherent job ≡ true) (inside : j 
     -- Blank or Settle on the part
     pub answered-in : (call : List ℕ → List ℕ × Answer) (after : List ℕ) (answer : Answer)
         → (after, answer) ≡ call (midOf start (end - start) table)
-        → _≡_ {A = List ℕ × Job} (putMid start (end - start) table after, answer .job) (withPart job j table (call (partOf job j table) .0), call (partOf job j table) .1 .job)
+        → _≡_ {A = List ℕ × Answer} (putMid start (end - start) table after, answer) (withPart job j table (call (partOf job j table) .0), call (partOf job j table) .1)
     answered-in call after answer e =
-        ap (λ (o : List ℕ × Answer). (putMid start (end - start) table (o .0), o .1 .job)) (e ∙ ap call part-is)
-        ∙ ap (λ (l : List ℕ). (l, call (partOf job j table) .1 .job)) (put-is (call (partOf job j table) .0))
+        ap (λ (o : List ℕ × Answer). (putMid start (end - start) table (o .0), o .1)) (e ∙ ap call part-is)
+        ∙ ap (λ (l : List ℕ). (l, call (partOf job j table) .1)) (put-is (call (partOf job j table) .0))
 
     pub expanded-in : (log after log′ : List ℕ) (answer : Expanded) → (after, log′, answer) ≡ expandOf job j (midOf start (end - start) table) log
-        → (putMid start (end - start) table after, log′, answer .job) ≡ expandedIn job j table log
+        → (putMid start (end - start) table after, log′, answer) ≡ expandedIn job j table log
     unfolding expandedIn
     expanded-in log after log′ answer e =
         let out = expandOf job j (partOf job j table) log in
-        ap (λ (o : List ℕ × List ℕ × Expanded). (putMid start (end - start) table (o .0), o .1, o .2 .job))
+        ap (λ (o : List ℕ × List ℕ × Expanded). (putMid start (end - start) table (o .0), o .1, o .2))
         (e ∙ ap (λ (l : List ℕ). expandOf job j l log) part-is)
-        ∙ ap (λ (l : List ℕ). (l, out .1, out .2 .job)) (put-is (out .0))
+        ∙ ap (λ (l : List ℕ). (l, out .1, out .2)) (put-is (out .0))

@@ -8,6 +8,8 @@ use Rattle.search.specs.Expand.{expandOf}
 use Rattle.search.specs.JobState.{stackCountOf}
 use Rattle.search.specs.Segments.{joined}
 use Rattle.search.specs.Settle.{settleOf}
+use Rattle.search.specs.declared.Answer.{Answer}
+use Rattle.search.specs.declared.Expanded.{Expanded}
 use Rattle.search.specs.declared.Job.{Job}
 
 module _ (job : Job) (j : ℕ) (table : List ℕ) where
@@ -18,12 +20,12 @@ module _ (job : Job) (j : ℕ) (table : List ℕ) where
   unfoldable pub withPart : List ℕ → List ℕ
   withPart segment = joined (set (cut (stackCountOf job) (job .size) table) j segment)
 
-  -- the table and the job after the call; after Expand, the log area too
-  unfoldable pub blankedIn : List ℕ × Job
-  blankedIn = let out = blankOf job j partOf in (withPart (out .0), out .1 .job)
+  -- the table after the call, and its answer; after Expand, the log area too
+  unfoldable pub blankedIn : List ℕ × Answer
+  blankedIn = let out = blankOf job j partOf in (withPart (out .0), out .1)
 
-  unfoldable pub settledIn : List ℕ → List ℕ × Job
-  settledIn log = let out = settleOf job j partOf log in (withPart (out .0), out .1 .job)
+  unfoldable pub settledIn : List ℕ → List ℕ × Answer
+  settledIn log = let out = settleOf job j partOf log in (withPart (out .0), out .1)
 
-  unfoldable pub expandedIn : List ℕ → List ℕ × List ℕ × Job
-  expandedIn log = let out = expandOf job j partOf log in (withPart (out .0), out .1, out .2 .job)
+  unfoldable pub expandedIn : List ℕ → List ℕ × List ℕ × Expanded
+  expandedIn log = let out = expandOf job j partOf log in (withPart (out .0), out .1, out .2)

@@ -25,7 +25,8 @@ pub(crate) fn advance(job: Job, table: &mut [u8], log: &mut [u32]) -> Job
     let phase = job.phase;
     if phase::is_blanking(phase) {
         if first < segments {
-            return part::blank_part(job, first, table);
+            let blanked = part::blank_part(job, first, table);
+            return blanked.job;
         }
         let opened = close::close(job);
         return opened.job;
@@ -33,10 +34,12 @@ pub(crate) fn advance(job: Job, table: &mut [u8], log: &mut [u32]) -> Job
     let waiting = job.waiting;
     let pending = choose::first_pending(segments, waiting);
     if pending < segments {
-        return part::settle_part(job, pending, table, log);
+        let settled = part::settle_part(job, pending, table, log);
+        return settled.job;
     }
     if first < segments {
-        return part::expand_part(job, first, table, log);
+        let expanded = part::expand_part(job, first, table, log);
+        return expanded.job;
     }
     let closed = close::close(job);
     closed.job

@@ -10,6 +10,7 @@ use job::phase;
 use perm::kind;
 use search::Answer;
 use search::Job;
+use search::LAST_LEVEL;
 use stacks::PLACES;
 use twobit::segment;
 
@@ -48,13 +49,16 @@ fn begun_job(kind: u8, n: u8, wanted: [i8; PLACES], groups: u32, size: u32, room
     begun.job
 }
 
-// It has finished, or there is no level after the last.
+// It has finished, or there is no level after the last. Close is asked at the last level alone.
 fn has_ended(job: Job) -> bool
     ensures { λ r. ⌜ r ≡ hasEnded job ⌝ }
 {
     let phase = job.phase;
     if phase::is_finished(phase) {
         return true;
+    }
+    if phase::level_of(phase) != LAST_LEVEL {
+        return false;
     }
     let wanted = job.wanted;
     let refusal = close::close_refusal(

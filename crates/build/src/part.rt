@@ -11,6 +11,8 @@ ghost use Rattle.build.specs.Part.{blankedIn, settledIn, expandedIn};
 use calls::blank;
 use calls::settle;
 use job::geometry;
+use search::Answer;
+use search::Expanded;
 use search::Job;
 use twobit::segment;
 
@@ -32,32 +34,29 @@ fn part_end(kind: u8, n: u8, size: u32, j: u32) -> usize
     start + (segment::bytes_for(m) as usize)
 }
 
-pub(crate) fn blank_part(job: Job, j: u32, table: &mut [u8]) -> Job
+pub(crate) fn blank_part(job: Job, j: u32, table: &mut [u8]) -> Answer
     requires { ⌜ (isCoherent job ≡ true) × (j < segmentCountOf job) × (length (now table) ≡ bytesFor (stackCountOf job)) ⌝ }
     ensures { λ r. ⌜ (now (table .exit), r) ≡ blankedIn job j (now (table .entry)) ⌝ }
 {
     let start = part_start(job.size, j);
     let end = part_end(job.kind, job.n, job.size, j);
-    let answer = blank::blank(job, j, &mut table[start..end]);
-    answer.job
+    blank::blank(job, j, &mut table[start..end])
 }
 
-pub(crate) fn settle_part(job: Job, j: u32, table: &mut [u8], log: &[u32]) -> Job
+pub(crate) fn settle_part(job: Job, j: u32, table: &mut [u8], log: &[u32]) -> Answer
     requires { ⌜ (isCoherent job ≡ true) × (j < segmentCountOf job) × (length (now table) ≡ bytesFor (stackCountOf job)) ⌝ }
     ensures { λ r. ⌜ (now (table .exit), r) ≡ settledIn job j (now (table .entry)) (now (log .entry)) ⌝ }
 {
     let start = part_start(job.size, j);
     let end = part_end(job.kind, job.n, job.size, j);
-    let answer = settle::settle(job, j, &mut table[start..end], log);
-    answer.job
+    settle::settle(job, j, &mut table[start..end], log)
 }
 
-pub(crate) fn expand_part(job: Job, j: u32, table: &mut [u8], log: &mut [u32]) -> Job
+pub(crate) fn expand_part(job: Job, j: u32, table: &mut [u8], log: &mut [u32]) -> Expanded
     requires { ⌜ (isCoherent job ≡ true) × (j < segmentCountOf job) × (length (now table) ≡ bytesFor (stackCountOf job)) ⌝ }
     ensures { λ r. ⌜ (now (table .exit), now (log .exit), r) ≡ expandedIn job j (now (table .entry)) (now (log .entry)) ⌝ }
 {
     let start = part_start(job.size, j);
     let end = part_end(job.kind, job.n, job.size, j);
-    let expanded = expand::expand::expand(job, j, &mut table[start..end], log);
-    expanded.job
+    expand::expand::expand(job, j, &mut table[start..end], log)
 }

@@ -1,12 +1,8 @@
 // Blank a segment.
-ghost use mathlib.Core.Bool.{true};
 ghost use mathlib.Core.Path.{_≡_};
-ghost use Prim.Native.Nat.{_<_};
-ghost use lib.ListN.{set};
 ghost use Rattle.job.specs.Standing.{Stands, Tells};
 ghost use Rattle.calls.specs.Lent.{BlankFits, blankedBy};
 ghost use Rattle.search.specs.Blank.{blankRefusal, blankOf};
-ghost use Rattle.search.specs.JobState.{isCoherent, segmentCountOf, stackCountAt, progressed};
 use job::geometry;
 use job::phase;
 use job::refusals;
@@ -48,21 +44,11 @@ fn blank_entries(kind: u8, n: u8, wanted: [i8; PLACES], size: u32, j: u32, segme
     entry::set_entry(segment, goal % size, 0);
 }
 
-// The job with all stacks of segment j passed.
-fn pass_all(job: Job, j: u32) -> Job
-    requires { ⌜ (isCoherent job ≡ true) × (j < segmentCountOf job) ⌝ }
-    ensures { λ r. ⌜ r ≡ progressed job (job .phase) (set (job .passed) j (stackCountAt job j)) (job .waiting) (job .counts) ⌝ }
-{
-    let m = geometry::stack_count_at(job.kind, job.n, job.size, j);
-    let mut next = job;
-    next.passed[j as usize] = m;
-    next
-}
-
-// Blank.
+// Blank. next is the one copy of the job, changed in place.
 pub fn blank(job: Job, j: u32, segment: &mut [u8]) -> Answer
     ensures { λ r. ⌜ (now (segment .exit), r) ≡ blankOf job j (now (segment .entry)) ⌝ }
 {
+    let mut next = job;
     let wanted = job.wanted;
     let phase = job.phase;
     let standing = standing::standing_of(
@@ -73,17 +59,17 @@ pub fn blank(job: Job, j: u32, segment: &mut [u8]) -> Answer
         job.size,
         job.room,
         phase,
-        &job.passed,
-        &job.waiting,
-        &job.counts,
+        &next.passed,
+        &next.waiting,
+        &next.counts,
         j,
     );
     let refusal = blank_refusal(standing, j, segment.len());
     if refusal != 0 {
-        return Answer { refusal, job };
+        return Answer { refusal, job: next };
     }
     blank_entries(job.kind, job.n, wanted, job.size, j, segment);
-    let next = pass_all(job, j);
+    next.passed[j as usize] = geometry::stack_count_at(job.kind, job.n, job.size, j);
     Answer {
         refusal: 0,
         job: next,

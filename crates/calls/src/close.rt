@@ -3,13 +3,13 @@ ghost use mathlib.Core.Bool.{true, false, _&&_, cond};
 ghost use mathlib.Core.Path.{_≡_};
 ghost use Prim.Native.Nat.{_+_, _-_, _≤_};
 ghost use lib.Dec.{eqb};
-ghost use lib.ListN.{length, getD};
+ghost use lib.ListN.{length, getD, replicate};
 ghost use Rattle.job.specs.Standing.{jobWith};
 ghost use Rattle.calls.specs.Lent.{readyBy, pastLast};
 ghost use Rattle.stacks.specs.Stack.{isPaneCount, stackCount};
-ghost use Rattle.search.specs.Close.{isPastLast, closeRefusal, nextPhase, nextCounts, closed, closeOf};
-ghost use Rattle.search.specs.JobState.{countPlaces, lastLevel, levelOf, phaseFits, isCoherent};
-ghost use Rattle.search.specs.Segments.{stackCountIn, isSegmentSize};
+ghost use Rattle.search.specs.Close.{closeRefusal, nextPhase, nextCounts, closeOf};
+ghost use Rattle.search.specs.JobState.{countPlaces, lastLevel, levelOf, phaseFits, progressed};
+ghost use Rattle.search.specs.Segments.{segmentLimit, stackCountIn, isSegmentSize};
 ghost use Rattle.search.specs.declared.Phase.the-variants.{Level, Finished};
 use job::coherence;
 use job::phase;
@@ -119,9 +119,9 @@ fn after_level(d: u8, count: u64) -> Phase
     Phase::Level(d + 1)
 }
 
-fn next_phase(phase: Phase, counts: [u64; COUNT_PLACES]) -> Phase
-    requires { ⌜ (phaseFits phase ≡ true) × (pastLast (levelOf phase) (getD counts lastLevel 0) ≡ false) ⌝ }
-    ensures { λ r. ⌜ r ≡ nextPhase counts phase ⌝ }
+fn next_phase(phase: Phase, counts: &[u64; COUNT_PLACES]) -> Phase
+    requires { ⌜ (phaseFits phase ≡ true) × (pastLast (levelOf phase) (getD (now counts) lastLevel 0) ≡ false) ⌝ }
+    ensures { λ r. ⌜ r ≡ nextPhase (now (counts .entry)) phase ⌝ }
 {
     match phase {
         Phase::Blanking => Phase::Level(1),
@@ -131,27 +131,21 @@ fn next_phase(phase: Phase, counts: [u64; COUNT_PLACES]) -> Phase
 }
 
 // When Blanking closes, the wanted stack is counted.
-fn next_counts(phase: Phase, counts: [u64; COUNT_PLACES]) -> [u64; COUNT_PLACES]
-    ensures { λ r. ⌜ r ≡ nextCounts counts phase ⌝ }
+fn next_counts(phase: Phase, counts: &mut [u64; COUNT_PLACES])
+    ensures { λ _. ⌜ now (counts .exit) ≡ nextCounts (now (counts .entry)) phase ⌝ }
 {
-    let mut next = counts;
     if phase::is_blanking(phase) {
-        next[0] = 1;
-        return next;
+        counts[0] = 1;
     }
-    next
 }
 
-fn closed_job(job: Job) -> Job
-    requires { ⌜ (isCoherent job ≡ true) × (isPastLast job ≡ false) ⌝ }
-    ensures { λ r. ⌜ r ≡ closed job ⌝ }
+// The job in another phase, with nothing passed.
+fn with_phase(job: Job, phase: Phase) -> Job
+    ensures { λ r. ⌜ r ≡ progressed job phase (replicate segmentLimit 0) (job .waiting) (job .counts) ⌝ }
 {
     let wanted = job.wanted;
     let waiting = job.waiting;
-    let old = job.phase;
-    let counted = job.counts;
-    let phase = next_phase(old, counted);
-    let counts = next_counts(old, counted);
+    let counts = job.counts;
     Job {
         kind: job.kind,
         n: job.n,
@@ -166,10 +160,11 @@ fn closed_job(job: Job) -> Job
     }
 }
 
-// Close.
+// Close. next is the one copy of the job; a job in another phase is written anew.
 pub fn close(job: Job) -> Answer
     ensures { λ r. ⌜ r ≡ closeOf job ⌝ }
 {
+    let mut next = job;
     let wanted = job.wanted;
     let phase = job.phase;
     let refusal = close_refusal(
@@ -180,16 +175,18 @@ pub fn close(job: Job) -> Answer
         job.size,
         job.room,
         phase,
-        &job.passed,
-        &job.waiting,
-        &job.counts,
+        &next.passed,
+        &next.waiting,
+        &next.counts,
     );
     if refusal != 0 {
-        return Answer { refusal, job };
+        return Answer { refusal, job: next };
     }
-    let next = closed_job(job);
+    let after = next_phase(phase, &next.counts);
+    next_counts(phase, &mut next.counts);
+    let closed = with_phase(next, after);
     Answer {
         refusal: 0,
-        job: next,
+        job: closed,
     }
 }

@@ -1,16 +1,11 @@
 // Settle a segment: apply its log.
-ghost use mathlib.Core.Bool.{true};
-ghost use mathlib.Core.List.{[]};
 ghost use mathlib.Core.Path.{_≡_};
-ghost use Prim.Native.Nat.{_<_};
 ghost use lib.Dec.{ltb};
-ghost use lib.ListN.{set};
 ghost use Rattle.base.specs.Words.{all};
 ghost use Rattle.job.specs.Standing.{Stands, Tells};
 ghost use Rattle.calls.specs.Lent.{OffsetsFit};
-ghost use Rattle.search.specs.JobState.{isCoherent, segmentCountOf};
 ghost use Rattle.search.specs.Logs.{indexesOf};
-ghost use Rattle.search.specs.Marks.{markAll, markedJob};
+ghost use Rattle.search.specs.Marks.{markAll};
 ghost use Rattle.search.specs.Settle.{settleRefusal, settleOf};
 ghost use Rattle.twobit.specs.Mark.{marksOf};
 use crate::look;
@@ -79,23 +74,11 @@ fn mark_all(
     found
 }
 
-// The job with no entry waiting for segment j, and with what its level has found.
-fn emptied(job: Job, j: u32, found: Found) -> Job
-    requires { ⌜ (isCoherent job ≡ true) × (j < segmentCountOf job) ⌝ }
-    ensures { λ r. ⌜ r ≡ markedJob job (job .passed) (set (job .waiting) j 0) (marksOf [] found) ⌝ }
-{
-    let phase = job.phase;
-    let level = phase::level_of(phase);
-    let mut next = job;
-    next.waiting[j as usize] = 0;
-    next.counts[level as usize] = found.count;
-    next
-}
-
-// Settle.
+// Settle. next is the one copy of the job, changed in place.
 pub fn settle(job: Job, j: u32, segment: &mut [u8], log: &[u32]) -> Answer
     ensures { λ r. ⌜ (now (segment .exit), r) ≡ settleOf job j (now (segment .entry)) (now (log .entry)) ⌝ }
 {
+    let mut next = job;
     let wanted = job.wanted;
     let phase = job.phase;
     let standing = standing::standing_of(
@@ -106,22 +89,23 @@ pub fn settle(job: Job, j: u32, segment: &mut [u8], log: &[u32]) -> Answer
         job.size,
         job.room,
         phase,
-        &job.passed,
-        &job.waiting,
-        &job.counts,
+        &next.passed,
+        &next.waiting,
+        &next.counts,
         j,
     );
     let refusal = settle_refusal(standing, j, segment.len(), log);
     if refusal != 0 {
-        return Answer { refusal, job };
+        return Answer { refusal, job: next };
     }
     let level = phase::level_of(phase);
     let label = entry::next_entry((level - 1) % 3);
     let offsets = look::waiting_part(standing.room, j, standing.waiting, log);
-    let count = job.counts[level as usize];
+    let count = next.counts[level as usize];
     let found = Found { count };
     let marked = mark_all(segment, job.size, j, offsets, label, found);
-    let next = emptied(job, j, marked);
+    next.waiting[j as usize] = 0;
+    next.counts[level as usize] = marked.count;
     Answer {
         refusal: 0,
         job: next,

@@ -1,37 +1,19 @@
 -- The children of a stack as an array is filled with them, turn by turn of a set that is halved.
-use mathlib.Core.Path.{_≡_, refl, sym, ap, _∙_}
-use mathlib.Core.Logic.{_⊎_, inl, inr}
+use mathlib.Core.Path.{_≡_, sym, ap, _∙_}
 use mathlib.Core.Bool.{true, false}
-use mathlib.Core.List.{List, [], _∷_, _++_, map, append-nil}
-use Prim.Native.Nat.{ℕ, suc, _+_, _-_, _/_, _%_, _^_, _<_, _≤_}
-use native.Mathlib.Numerals.{add-one}
+use mathlib.Core.List.{List, [], _∷_, _++_, append-nil}
+use Prim.Native.Nat.{ℕ, suc, _+_, _-_, _/_, _^_, _<_, _≤_}
 use native.Mathlib.Omega.{arith}
-use lib.Dec.{eqb}
 use lib.IntN.{ℤ}
-use lib.ListN.{length, set, replicate, length-append, length-map}
+use lib.ListN.{length, set, replicate, length-append}
 use lib.Seq.{set-at, append-snoc}
-use Rattle.base.specs.Words.{filter}
 use Rattle.base.proofs.Lists.{map-append}
-use Rattle.base.proofs.Tests.{lt-or-ge}
 use Rattle.stacks.specs.Index.{rankOf, stackAt}
 use Rattle.stacks.specs.Turn.{firstTurn, lastTurn, lifts, turnsIn, turnOf}
 use Rattle.search.specs.Expand.{childrenOf}
 use Rattle.search.proofs.Children.{children-length}
 use Rattle.perm.specs.Moves.{mostMoves}
 use Rattle.perm.proofs.Sizes.{namedTo, named-none, named-more, filter-named, filter-unnamed, named-rest}
-
--- the next size is the lowest bit of what is left of a set
-pub lifts-is : (groups k rest : ℕ) → rest ≡ groups / 2 ^ (k - 1) → lifts groups k ≡ eqb (rest % 2) 1
-unfolding lifts
-lifts-is groups k rest e = ap (λ (x : ℕ). eqb (x % 2) 1) (sym e)
-
--- what is left of a set of turns is left of a turn
-pub still-turn : (groups last k rest : ℕ) → groups / 2 ^ last ≡ 0 → k ≤ last + 1 → rest ≡ groups / 2 ^ (k - 1) → (rest ≡ 0 → ⊥) → k ≤ last
-still-turn groups last k rest none l e some = go (lt-or-ge last k)
-  where
-    go : (last < k) ⊎ (k ≤ last) → k ≤ last
-    go (inl h) = absurd (some (e ∙ ap (λ (j : ℕ). groups / 2 ^ j) (let q : k - 1 ≡ last = omega arith in q) ∙ none))
-    go (inr h) = h
 
 module _ (kind n groups v : ℕ) where
   -- the turns below k that the set names, their children, and zeros after them

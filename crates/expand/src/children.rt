@@ -12,24 +12,24 @@ use perm::groups::MOST_MOVES;
 use perm::kind;
 use perm::numbering;
 
-// The indexes of the children of the stack at an index, by rising k, and zeros after them. The set is halved from turn to turn: a list of its
-// turns costs more for each pane of a child.
+// The indexes of the children of the stack at an index, by rising k, and zeros after them. The set is halved from turn to turn, and k is the
+// last size that was asked for: a list of its turns costs more for each pane of a child.
 pub(crate) fn children_of(kind: u8, n: u8, groups: u32, index: u32) -> [u32; MOST_MOVES]
     requires { ⌜ (isPaneCount kind n ≡ true) × (index < stackCount kind n) × (isGroupSet kind n groups ≡ true) ⌝ }
     ensures { λ r. ⌜ r ≡ childrenOf kind n (turnsIn kind n groups) index ++ replicate (mostMoves - length (turnsIn kind n groups)) 0 ⌝ }
 {
     let stack = numbering::unrank(kind, n, index);
     let mut children = [0u32; MOST_MOVES];
-    let mut k = kind::first_turn(kind);
-    let mut rest = groups >> ((k as u32) - 1);
+    let mut k = kind::first_turn(kind) - 1;
+    let mut rest = groups >> (k as u32);
     let mut i: usize = 0;
     while rest != 0 {
+        k += 1;
         if rest % 2 == 1 {
             children[i] = numbering::rank_turned(kind, n, &stack, index, k);
             i += 1;
         }
         rest = rest / 2;
-        k += 1;
     }
     children
 }

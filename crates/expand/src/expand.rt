@@ -1,17 +1,14 @@
-// Expand a segment. The job's fields are copied to a Scan and its waiting numbers to a local, so that no function that runs for a stack
-// or a child takes the job.
+// Expand a segment. The job's fields are copied to a Scan and its waiting numbers are lent, so that no function that runs for a stack or a
+// child takes the job.
 ghost use mathlib.Core.Bool.{true};
-ghost use mathlib.Core.List.{[]};
 ghost use mathlib.Core.Path.{_≡_};
-ghost use Prim.Native.Nat.{_<_, _≤_};
+ghost use Prim.Native.Nat.{_≤_};
 ghost use Rattle.job.specs.Standing.{Stands, Tells};
-ghost use Rattle.search.specs.Expand.{expandRefusal, expandedJob, expandOf};
-ghost use Rattle.search.specs.JobState.{isCoherent, segmentCountOf};
+ghost use Rattle.search.specs.Expand.{expandRefusal, expandOf};
 ghost use Rattle.search.specs.Segments.{isSegmentSize};
 ghost use Rattle.stacks.specs.Stack.{isPaneCount, stackCount};
-ghost use Rattle.expand.specs.Scan.{scanFor, reachedWith};
+ghost use Rattle.expand.specs.Scan.{scanFor};
 use crate::run;
-use crate::run::Reached;
 use crate::scan::Scan;
 use job::geometry;
 use job::phase;
@@ -21,7 +18,6 @@ use job::standing::Standing;
 use perm::groups;
 use search::Expanded;
 use search::Job;
-use search::SEGMENT_LIMIT;
 use twobit::entry;
 use twobit::marking::Found;
 
@@ -61,24 +57,11 @@ fn scan_of(kind: u8, n: u8, groups: u32, size: u32, room: u32, level: u8, j: u32
     }
 }
 
-// The job as a run over segment j leaves it; what the run left in the segment and the log area does not matter.
-fn expanded_job(job: Job, j: u32, reached: Reached, waiting: [u32; SEGMENT_LIMIT]) -> Job
-    requires { ⌜ (isCoherent job ≡ true) × (j < segmentCountOf job) ⌝ }
-    ensures { λ r. ⌜ r ≡ expandedJob job j (reachedWith reached [] [] waiting) ⌝ }
-{
-    let phase = job.phase;
-    let level = phase::level_of(phase);
-    let mut next = job;
-    next.waiting = waiting;
-    next.passed[j as usize] = reached.at;
-    next.counts[level as usize] = reached.found.count;
-    next
-}
-
-// Expand.
+// Expand. next is the one copy of the job, changed in place.
 pub fn expand(job: Job, j: u32, segment: &mut [u8], log: &mut [u32]) -> Expanded
     ensures { λ r. ⌜ (now (segment .exit), now (log .exit), r) ≡ expandOf job j (now (segment .entry)) (now (log .entry)) ⌝ }
 {
+    let mut next = job;
     let wanted = job.wanted;
     let phase = job.phase;
     let standing = standing::standing_of(
@@ -89,9 +72,9 @@ pub fn expand(job: Job, j: u32, segment: &mut [u8], log: &mut [u32]) -> Expanded
         job.size,
         job.room,
         phase,
-        &job.passed,
-        &job.waiting,
-        &job.counts,
+        &next.passed,
+        &next.waiting,
+        &next.counts,
         j,
     );
     let refusal = expand_refusal(standing, j, segment.len(), log.len());
@@ -100,15 +83,14 @@ pub fn expand(job: Job, j: u32, segment: &mut [u8], log: &mut [u32]) -> Expanded
             refusal,
             waits: false,
             on: 0,
-            job,
+            job: next,
         };
     }
     let level = phase::level_of(phase);
     let scan = scan_of(job.kind, job.n, job.groups, job.size, job.room, level, j);
     let stacks = geometry::stack_count_at(job.kind, job.n, job.size, j);
-    let count = job.counts[level as usize];
+    let count = next.counts[level as usize];
     let found = Found { count };
-    let mut waiting = job.waiting;
     let reached = run::expand_run(
         scan,
         standing.passed,
@@ -116,9 +98,10 @@ pub fn expand(job: Job, j: u32, segment: &mut [u8], log: &mut [u32]) -> Expanded
         found,
         segment,
         log,
-        &mut waiting,
+        &mut next.waiting,
     );
-    let next = expanded_job(job, j, reached, waiting);
+    next.passed[j as usize] = reached.at;
+    next.counts[level as usize] = reached.found.count;
     Expanded {
         refusal: 0,
         waits: reached.waits,

@@ -4,9 +4,9 @@ use mathlib.Core.Bool.{Bool, true, cond}
 use Prim.Native.Nat.{ℕ, _+_, _*_, _≤_, _<_}
 use native.Mathlib.Nat.{suc-mul, mul-le-mul, mul-le-mul-right}
 use native.Mathlib.Omega.{arith}
-use borrow.Author.Tests.{lt-ltb, ltb-true, leb-true}
+use borrow.Author.Tests.{lt-ltb, leb-true}
 use lib.Dec.{leb}
-use Rattle.base.proofs.Tests.{and-left, and-right, never}
+use Rattle.base.proofs.Tests.{and-left, never}
 use Rattle.stacks.specs.Stack.{isPaneCount, isStack, stackCount}
 use Rattle.search.specs.JobState.{lastLevel, beginRefusal, isLevel, levelOf, phaseFits, stackCountOf, segmentCountOf, logLength, waitingOf, isCoherent}
 use Rattle.search.specs.Segments.{segmentLimit, mostSize, mostRoom, isSegmentSize, isLogRoom}
@@ -53,12 +53,6 @@ module _ (job : Job) where
 
 -- ---- the level
 
-level-le : (p : Phase) → phaseFits p ≡ true → levelOf p ≤ lastLevel
-unfolding phaseFits levelOf
-level-le Blanking h = omega arith
-level-le (Level d) h = leb-true d lastLevel (and-right (leb 1 d) (leb d lastLevel) h)
-level-le (Finished d) h = omega (arith, ltb-true d lastLevel h)
-
 level-pos : (p : Phase) → phaseFits p ≡ true → isLevel p ≡ true → 1 ≤ levelOf p
 unfolding phaseFits levelOf isLevel
 level-pos Blanking h k = never k refl
@@ -66,9 +60,6 @@ level-pos (Level d) h k = leb-true 1 d (and-left (leb 1 d) (leb d lastLevel) h)
 level-pos (Finished d) h k = never k refl
 
 module _ (job : Job) (coherent : isCoherent job ≡ true) where
-  pub level-most : levelOf (job .phase) ≤ lastLevel
-  level-most = level-le (job .phase) (coherent-facts job coherent .phase-fits)
-
   pub level-least : isLevel (job .phase) ≡ true → 1 ≤ levelOf (job .phase)
   level-least = level-pos (job .phase) (coherent-facts job coherent .phase-fits)
 

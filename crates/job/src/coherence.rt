@@ -1,13 +1,13 @@
 // Whether a job is coherent, decided by Begin's own refusals and by its numbers.
 ghost use mathlib.Core.Bool.{true, _&&_, cond};
 ghost use mathlib.Core.Path.{_≡_};
-ghost use Prim.Native.Nat.{_/_, _≤_};
+ghost use Prim.Native.Nat.{_/_, _≤_, _<_};
 ghost use lib.Dec.{leb, ltb};
 ghost use lib.ListN.{length};
 ghost use Rattle.base.specs.Words.{all, from};
 ghost use Rattle.stacks.specs.Stack.{isPaneCount, stackCount};
 ghost use Rattle.search.specs.JobState.{beginRefusal, countPlaces, countLimit, countFits, isCoherent};
-ghost use Rattle.search.specs.Segments.{segmentLimit, stackCountIn, isSegmentSize};
+ghost use Rattle.search.specs.Segments.{segmentLimit, segmentCount, stackCountIn, isSegmentSize};
 ghost use Rattle.job.specs.Numbers.{numbersFit};
 ghost use Rattle.job.specs.Standing.{jobWith};
 use crate::phase;
@@ -66,6 +66,7 @@ fn segments_fit<'a>(
     true
 }
 
+// A segment from G up has no stacks. It is asked for first, as most of the 64 are such.
 fn segment_fits(
     count: u32,
     size: u32,
@@ -75,16 +76,19 @@ fn segment_fits(
     passed: u32,
     waiting: u32,
 ) -> bool
+    requires { ⌜ (0 < size) × (segments ≡ segmentCount count size) ⌝ }
     ensures { λ r. ⌜ r ≡ (leb passed (stackCountIn count size j) && leb waiting (cond (ltb j segments) room 0)) ⌝ }
 {
+    if segments <= j {
+        if passed != 0 {
+            return false;
+        }
+        return waiting == 0;
+    }
     if segment::stack_count_in(count, size, j) < passed {
         return false;
     }
-    if j < segments {
-        waiting <= room
-    } else {
-        waiting == 0
-    }
+    waiting <= room
 }
 
 // How often the limit goes into a count.

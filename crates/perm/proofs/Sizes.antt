@@ -34,10 +34,6 @@ module _ (t : ℕ → Bool) (k : ℕ) (q : Bool) where
   pub sizes-fail : k ≤ groupPlaces → q ≡ all t (from k (groupPlaces + 1 - k)) → t k ≡ false → false ≡ q
   sizes-fail h e y = sym (e ∙ sizes-next h ∙ ap (λ (b : Bool). b && all t (from (k + 1) (groupPlaces + 1 - (k + 1)))) y)
 
-  pub sizes-end : groupPlaces < k → q ≡ all t (from k (groupPlaces + 1 - k)) → true ≡ q
-  unfolding all from
-  sizes-end h e = sym (e ∙ ap (λ (m : ℕ). all t (from k m)) (let z : groupPlaces + 1 - k ≡ 0 = omega arith in z))
-
 -- a set that names turns alone is one where it names some, or there is none to name
 module _ (kind n groups : ℕ) where
   abbrev named : Bool
@@ -126,14 +122,39 @@ half-left groups k h =
     let e : k + 1 - 1 ≡ suc (k - 1) = omega arith in
     div-div-eq-div-mul groups (2 ^ (k - 1)) 2 ∙ ap (λ (x : ℕ). groups / x) (sym (ap (λ (j : ℕ). 2 ^ j) e ∙ pow-suc 2 (k - 1)))
 
--- where nothing is left, no size from k on is named
+-- the next size is the lowest bit of what is left of a set
+pub lifts-is : (groups k rest : ℕ) → rest ≡ groups / 2 ^ (k - 1) → lifts groups k ≡ eqb (rest % 2) 1
+unfolding lifts
+lifts-is groups k rest e = ap (λ (x : ℕ). eqb (x % 2) 1) (sym e)
+
+-- what is left of a set is left of a size up to the last that it may name
+pub still-turn : (groups last k rest : ℕ) → groups / 2 ^ last ≡ 0 → k ≤ last + 1 → rest ≡ groups / 2 ^ (k - 1) → (rest ≡ 0 → ⊥) → k ≤ last
+still-turn groups last k rest none l e some = go (lt-or-ge last k)
+  where
+    go : (last < k) ⊎ (k ≤ last) → k ≤ last
+    go (inl h) = absurd (some (e ∙ ap (λ (j : ℕ). groups / 2 ^ j) (let q : k - 1 ≡ last = omega arith in q) ∙ none))
+    go (inr h) = h
+
+-- where nothing is left, nothing is left at the next size
+none-left : (groups k : ℕ) → 1 ≤ k → groups / 2 ^ (k - 1) ≡ 0 → groups / 2 ^ (suc k - 1) ≡ 0
+none-left groups k some none =
+    ap (λ (j : ℕ). groups / 2 ^ (j - 1)) (sym (add-one k)) ∙ sym (half-left groups k some) ∙ ap (λ (x : ℕ). x / 2) none
+
+-- so each size from k on that is named is a turn, as none is
+pub fits-past : (kind n groups k m : ℕ) → 1 ≤ k → groups / 2 ^ (k - 1) ≡ 0 → all (λ j. not (lifts groups j) || isTurn kind n j) (from k m) ≡ true
+unfolding all from lifts
+fits-past kind n groups k zero some none = refl
+fits-past kind n groups k (suc m) some none =
+    ap (λ (x : ℕ). (not (eqb (x % 2) 1) || isTurn kind n k) && all (λ j. not (lifts groups j) || isTurn kind n j) (from (suc k) m)) none
+    ∙ fits-past kind n groups (suc k) m (omega arith) (none-left groups k some none)
+
+-- and no size from k on is named
 named-past : (groups k m : ℕ) → 1 ≤ k → groups / 2 ^ (k - 1) ≡ 0 → filter (lifts groups) (from k m) ≡ []
 unfolding filter from lifts
 named-past groups k zero some none = refl
 named-past groups k (suc m) some none =
     ap (λ (x : ℕ). cond (eqb (x % 2) 1) (k ∷ filter (lifts groups) (from (suc k) m)) (filter (lifts groups) (from (suc k) m))) none
-    ∙ named-past groups (suc k) m (omega arith)
-    (ap (λ (j : ℕ). groups / 2 ^ (j - 1)) (sym (add-one k)) ∙ sym (half-left groups k some) ∙ ap (λ (x : ℕ). x / 2) none)
+    ∙ named-past groups (suc k) m (omega arith) (none-left groups k some none)
 
 pub named-rest : (kind n groups k : ℕ) → firstTurn kind ≤ k → k ≤ lastTurn kind n + 1 → 1 ≤ k → groups / 2 ^ (k - 1) ≡ 0
     → namedTo groups (firstTurn kind) k ≡ turnsIn kind n groups

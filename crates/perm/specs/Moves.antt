@@ -3,7 +3,7 @@ use mathlib.Core.Path.{_≡_}
 use mathlib.Core.Bool.{true}
 use mathlib.Core.List.{List}
 use Prim.Native.Nat.{ℕ, _≤_}
-use lib.ListN.{length, take}
+use lib.ListN.{take}
 use Rattle.base.specs.Words.{all}
 use Rattle.stacks.specs.Stack.{stackPlaces}
 use Rattle.stacks.specs.Turn.{isTurn}

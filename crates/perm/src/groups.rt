@@ -2,7 +2,7 @@
 ghost use mathlib.Core.Bool.{true, not, _||_};
 ghost use mathlib.Core.List.{[], _∷_, _++_};
 ghost use mathlib.Core.Path.{_≡_};
-ghost use Prim.Native.Nat.{_+_, _≤_, _<_};
+ghost use Prim.Native.Nat.{_+_, _%_, _≤_, _<_};
 ghost use lib.Dec.{eqb};
 ghost use lib.ListN.{length};
 ghost use Rattle.base.specs.Words.{all, filter, from};
@@ -11,8 +11,6 @@ ghost use Rattle.stacks.specs.Turn.{isTurn, turnsOf, lifts, groupPlaces, isGrou
 ghost use Rattle.perm.specs.Moves.{mostMoves, listOf};
 use crate::kind;
 use stacks::PLACES;
-
-const GROUP_PLACES: u8 = 32;
 
 // As many moves as a search can have: no more than a stack has places.
 pub const MOST_MOVES: usize = PLACES;
@@ -30,25 +28,27 @@ fn lifts(groups: u32, k: u8) -> bool
     (groups >> ((k as u32) - 1)) % 2 == 1
 }
 
-fn size_fits(kind: u8, n: u8, groups: u32, k: u8) -> bool
-    requires { ⌜ (1 ≤ k) × (k ≤ groupPlaces) ⌝ }
-    ensures { λ r. ⌜ r ≡ (not (lifts groups k) || isTurn kind n k) ⌝ }
+// Size k is a turn, if it is named: what is left of a set from it on names it by its lowest bit.
+fn size_fits(kind: u8, n: u8, rest: u32, k: u8) -> bool
+    ensures { λ r. ⌜ r ≡ (not (eqb (rest % 2) 1) || isTurn kind n k) ⌝ }
 {
-    if !lifts(groups, k) {
+    if rest % 2 != 1 {
         return true;
     }
     kind::is_turn(kind, n, k)
 }
 
-// Each size that the set names is a turn.
+// Each size that the set names is a turn. The set is halved from size to size until nothing is left of it.
 fn names_turns(kind: u8, n: u8, groups: u32) -> bool
     ensures { λ r. ⌜ r ≡ all (λ k. not (lifts groups k) || isTurn kind n k) (from 1 groupPlaces) ⌝ }
 {
     let mut k: u8 = 1;
-    while k <= GROUP_PLACES {
-        if !size_fits(kind, n, groups, k) {
+    let mut rest = groups;
+    while rest != 0 {
+        if !size_fits(kind, n, rest, k) {
             return false;
         }
+        rest = rest / 2;
         k += 1;
     }
     true

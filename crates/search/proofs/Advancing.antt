@@ -1,7 +1,7 @@
 -- Where a build has not finished, some call carries it on and leaves less to do.
 use mathlib.Core.Path.{_≡_, refl, sym, ap, _∙_, subst}
 use mathlib.Core.Logic.{_⊎_, inl, inr}
-use mathlib.Core.Bool.{Bool, true, false, _||_, cond}
+use mathlib.Core.Bool.{Bool, true, false, not, _||_, cond}
 use mathlib.Core.List.{List, []}
 use Prim.Native.Nat.{ℕ, suc, _+_, _-_, _*_, _≤_, _<_}
 use native.Mathlib.Nat.{suc-mul, mul-le-mul-right}
@@ -9,10 +9,10 @@ use native.Mathlib.Omega.{arith}
 use lib.Dec.{ltb, eqb}
 use lib.ListN.{length, getD, set}
 use lib.Seq.{getD-set-same, getD-set-other}
-use borrow.Author.Tests.{eqb-true, ltb-true, ltb-false, lt-ltb, eq-eqb}
+use borrow.Author.Tests.{eqb-true, ltb-true, ltb-false, lt-ltb, eq-eqb, ne-eqb}
 use Rattle.base.specs.Words.{all, tally, from}
 use Rattle.base.proofs.Counting.{at-all, below-all}
-use Rattle.base.proofs.Tests.{and-both, test-cases, not-is-false, never, lt-or-ge, eq-or-ne}
+use Rattle.base.proofs.Tests.{and-left, and-both, test-cases, not-is-false, never, lt-or-ge, eq-or-ne}
 use Rattle.graph.proofs.Tally.{tally-some, tally-zero}
 use Rattle.stacks.specs.Stack.{stackPlaces}
 use Rattle.search.specs.Blank.{blankRefusal}
@@ -21,7 +21,7 @@ use Rattle.search.specs.Close.{isDone, isReady, isPastLast, closeRefusal
 use Rattle.search.specs.Drive.{hasEnded}
 use Rattle.search.specs.Entries.{bytesFor}
 use Rattle.search.specs.Expand.{childrenOf, expandRefusal, expansion, expandedJob, expandOf}
-use Rattle.search.specs.JobState.{isCoherent, isBlanking, isLevel, isFinished, levelOf, lastLevel, segmentCountOf, stackCountAt, movesOf, passedOf, waitingOf, progressed}
+use Rattle.search.specs.JobState.{isCoherent, isBlanking, isLevel, isFinished, levelOf, lastLevel, segmentCountOf, stackCountAt, movesOf, passedOf, waitingOf, countOf, progressed}
 use Rattle.search.specs.Promise.{Continues}
 use Rattle.search.specs.Settle.{settleRefusal, settleOf}
 use Rattle.search.specs.Logs.{logPart, pending}
@@ -34,7 +34,7 @@ use Rattle.search.proofs.Accepted.{LevelFacts, facts-blank, facts-expan
 use Rattle.search.proofs.BlankKeeps.{blankedWorld, blank-world, passed-here, passed-elsewhere}
 use Rattle.search.proofs.BuildCoherent.{invariant-coherent}
 use Rattle.search.proofs.Children.{children-length}
-use Rattle.search.proofs.CloseKeeps.{closedWorld, close-world}
+use Rattle.search.proofs.CloseKeeps.{closedWorld, close-world, refused-14}
 use Rattle.search.proofs.Coherence.{coherent-facts}
 use Rattle.search.proofs.ExpandCases.{room-lacks, falling-le}
 use Rattle.search.proofs.ExpandLaws.{MustWait, expand-passes, expand-waits}
@@ -70,6 +70,15 @@ module _ (job : Job) where
   pub unfinished-ended : isFinished (job .phase) ≡ false → eqb (closeRefusal job) 14 ≡ hasEnded job
   unfolding hasEnded
   unfinished-ended h = ap (λ (t : Bool). t || eqb (closeRefusal job) 14) (sym h)
+
+  -- before the last level Close does not say 14
+  pub earlier-ended : isFinished (job .phase) ≡ false → (levelOf (job .phase) ≡ lastLevel → ⊥) → hasEnded job ≡ false
+  unfolding isPastLast
+  earlier-ended h ne =
+      let last = eqb (levelOf (job .phase)) lastLevel in
+      let brought = not (eqb (countOf job lastLevel) 0) in
+      sym (unfinished-ended h)
+      ∙ ne-eqb (closeRefusal job) 14 (λ e. ne (eqb-true (levelOf (job .phase)) lastLevel (and-left last brought (refused-14 job e .1))))
 
   refused-ended : closeRefusal job ≡ 14 → hasEnded job ≡ true
   unfolding hasEnded

@@ -164,7 +164,7 @@ get-set-other bytes i l v h ne = go (eq-or-ne (l / 4) (i / 4)) (lt-or-ge (i / 4)
 
 pub blank-length : (m : ℕ) → length (blank m) ≡ bytesFor m
 unfolding blank
-blank-length m = length-replicate (bytesFor m) 255
+blank-length m = length-replicate (bytesFor m) _
 
 digit-ones : (k : ℕ) → k < 4 → digit 255 k ≡ 3
 unfolding digit

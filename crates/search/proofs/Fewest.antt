@@ -16,13 +16,12 @@ use Rattle.graph.specs.Walks.{isMove, dist}
 use Rattle.graph.proofs.Distance.{walk-dist, dist-walk}
 use Rattle.graph.proofs.Depths.{Depths, dist-depths}
 use Rattle.graph.proofs.Tally.{tally-same}
-use Rattle.stacks.specs.Counts.{TellsBy, CountsBy, CountsAt}
+use Rattle.stacks.specs.Counts.{TellsBy, CountsBy}
 use Rattle.stacks.specs.Stack.{isPaneCount, isStack, stackCount}
 use Rattle.stacks.specs.Index.{rankOf, stackAt, allStacks}
-use Rattle.stacks.specs.Turn.{isTurn, turnsOf, turnBound, RoadBy, Road, FewestBy, Fewest}
+use Rattle.stacks.specs.Turn.{RoadBy, FewestBy}
 use Rattle.stacks.proofs.Numbering.{rank-lt, unrank-stack, rank-unrank}
-use Rattle.stacks.proofs.TurnBound.{road-bound}
-use Rattle.search.proofs.Turning.{childAt, turn-is-move, Moves, all-turns, move-graph, road-walk, walk-road}
+use Rattle.search.proofs.Turning.{childAt, Moves, move-graph, road-walk, walk-road}
 
 -- the fewest moves from the stack at index v to w, cut at b
 abbrev pub depth : ℕ → ℕ → List ℕ → List ℤ → ℕ → ℕ → ℕ

@@ -111,6 +111,14 @@ module _ (N S : ℕ) (some : 0 < S) where
   unfolding stackCountIn
   segment-some j h = omega (arith, segment-starts j h)
 
+  pub segment-none : (j : ℕ) → segmentCount N S ≤ j → stackCountIn N S j ≡ 0
+  unfolding stackCountIn
+  segment-none j h = go (lt-or-ge (j * S) N)
+    where
+      go : (j * S < N) ⊎ (N ≤ j * S) → min S (N - j * S) ≡ 0
+      go (inl l) = omega (arith, starts-segment j l)
+      go (inr l) = omega arith
+
   pub segment-full : (j : ℕ) → suc j < segmentCount N S → stackCountIn N S j ≡ S
   unfolding stackCountIn
   segment-full j h = omega (arith, segment-starts (suc j) h, suc-mul j S)

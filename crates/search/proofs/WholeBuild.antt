@@ -33,7 +33,7 @@ use Rattle.search.proofs.Refused.{refusalOf, refusal-is, refused-same, 
 use Rattle.search.proofs.Shapes.{segments-is, stacks-is}
 use Rattle.search.proofs.Steps.{step-keeps, after-keeps}
 use Rattle.search.proofs.WorkLeft.{workLeft}
-use Rattle.search.proofs.Terms.{Terms, termsWith, Given, N, lengthsOf}
+use Rattle.search.proofs.Terms.{Terms, Given, N, lengthsOf}
 
 -- ---- what has finished stays so
 

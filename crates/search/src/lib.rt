@@ -46,18 +46,19 @@ pub struct Job {
     pub counts: [u64; COUNT_PLACES],
 }
 
-// What Begin, Blank, Settle and Close answer: the job after the call. Refused, the job as it was; of Begin, a job of zeros.
+// What Begin, Blank, Settle and Close answer: the job after the call. Refused, the job as it was; of Begin, a job of zeros. The job stands
+// first: behind padding it would be copied once more.
 pub struct Answer {
-    pub refusal: u8,
     pub job: Job,
+    pub refusal: u8,
 }
 
 // What Expand answers: Passed where waits is false, else Waiting with segment on. Beside a refusal stand false and 0.
 pub struct Expanded {
+    pub job: Job,
     pub refusal: u8,
     pub waits: bool,
     pub on: u32,
-    pub job: Job,
 }
 
 // What Read an entry answers: 0 stands beside a refusal.

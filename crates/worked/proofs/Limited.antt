@@ -1,9 +1,9 @@
 -- A frame that lifts only some groups: each clause computes from the definitions, or is drawn from the theorem on the driver's end.
-use mathlib.Core.Path.{_≡_, refl, sym, ap, _∙_, subst}
-use mathlib.Core.Logic.{_⊎_, inl, inr}
+use mathlib.Core.Path.{_≡_, refl, ap}
+use mathlib.Core.Logic.{inl, inr}
 use mathlib.Core.Bool.{true}
 use mathlib.Core.List.{List, [], _∷_}
-use Prim.Native.Nat.{ℕ, _%_}
+use Prim.Native.Nat.{ℕ}
 use native.Mathlib.Nat.{mod-lt}
 use native.Mathlib.Omega.{arith}
 use lib.IntN.{ℤ}
@@ -13,7 +13,7 @@ use Rattle.stacks.specs.Index.{rankOf}
 use Rattle.search.specs.Build.{World}
 use Rattle.search.specs.Drive.{built, Builds}
 use Rattle.search.specs.Entries.{entryAt}
-use Rattle.search.specs.JobState.{isFinished, levelOf, lastLevel}
+use Rattle.search.specs.JobState.{levelOf, lastLevel}
 use Rattle.search.specs.Plan.{planLimit}
 use Rattle.search.specs.PromiseBy.{FewestIn, NoRoad, EntryBy, Needs, FinishesBy}
 use Rattle.search.specs.Segments.{joined}

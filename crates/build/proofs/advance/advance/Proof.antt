@@ -51,14 +51,14 @@ same-length c = search needs
 returns : tie.Need-returns
 unfolding segmentCountOf stackCountOf
 returns c =
-    let s = c .before .before .before .before .before .before .before .before .before .before .before .before .before in
+    let s = c .before .before .before .before .before .before .before .before .before .before .before .before .before .before in
     let a = s .args in
-    let first = c .before .before .before .before .before .before .before .first-open in
-    let segments = c .before .before .before .before .before .before .before .before .before .before .segment-count-of in
-    let phase = c .before .before .before .before .before .before .is-blanking in
-    let f = c .before .before .blank-part in
-    advance-blanks (a .job) (a .table .now) (a .log .now) (first .result) (opened (c .before .before .before .before .before .before .before)) (sym (phase .ensures) ∙ c .before .before .before .before .before .if1 .taken)
-    (omega (arith, opened (c .before .before .before .before .before .before .before), segments .ensures .0, c .before .before .before .before .if2 .taken))
+    let first = c .before .before .before .before .before .before .before .before .first-open in
+    let segments = c .before .before .before .before .before .before .before .before .before .before .before .segment-count-of in
+    let phase = c .before .before .before .before .before .before .before .is-blanking in
+    let f = c .before .before .before .blank-part in
+    advance-blanks (a .job) (a .table .now) (a .log .now) (first .result) (opened (c .before .before .before .before .before .before .before .before)) (sym (phase .ensures) ∙ c .before .before .before .before .before .before .if1 .taken)
+    (omega (arith, opened (c .before .before .before .before .before .before .before .before), segments .ensures .0, c .before .before .before .before .before .if2 .taken))
     (f .last .1 .1 .0, f .result)
     (f .ensures)
 
@@ -95,14 +95,14 @@ same-length-3 c = search needs
 returns-3 : tie.Need-returns-3
 unfolding segmentCountOf stackCountOf
 returns-3 c =
-    let s = c .before .before .before .before .before .before .before .before .before .before .before .before .before .before .before .before in
+    let s = c .before .before .before .before .before .before .before .before .before .before .before .before .before .before .before .before .before in
     let a = s .args in
-    let segments = c .before .before .before .before .before .before .before .before .before .before .before .before .before .segment-count-of in
-    let phase = c .before .before .before .before .before .before .before .before .before .is-blanking in
-    let pending = c .before .before .before .before .before .before .first-pending in
-    let f = c .before .before .settle-part in
-    advance-settles (a .job) (a .table .now) (a .log .now) (sym (phase .ensures) ∙ c .before .before .before .before .before .before .before .before .if1 .left) (pending .result) (waited (c .before .before .before .before .before .before))
-    (omega (arith, waited (c .before .before .before .before .before .before), segments .ensures .0, c .before .before .before .before .before .if3 .taken))
+    let segments = c .before .before .before .before .before .before .before .before .before .before .before .before .before .before .segment-count-of in
+    let phase = c .before .before .before .before .before .before .before .before .before .before .is-blanking in
+    let pending = c .before .before .before .before .before .before .before .first-pending in
+    let f = c .before .before .before .settle-part in
+    advance-settles (a .job) (a .table .now) (a .log .now) (sym (phase .ensures) ∙ c .before .before .before .before .before .before .before .before .before .if1 .left) (pending .result) (waited (c .before .before .before .before .before .before .before))
+    (omega (arith, waited (c .before .before .before .before .before .before .before), segments .ensures .0, c .before .before .before .before .before .before .if3 .taken))
     (f .last .1 .1 .0, f .result)
     (f .ensures)
 
@@ -122,15 +122,15 @@ same-length-5 c = search needs
 returns-4 : tie.Need-returns-4
 unfolding segmentCountOf stackCountOf
 returns-4 c =
-    let s = c .before .before .before .before .before .before .before .before .before .before .before .before .before .before .before .before .before .before .before in
+    let s = c .before .before .before .before .before .before .before .before .before .before .before .before .before .before .before .before .before .before .before .before in
     let a = s .args in
-    let first = c .before .before .before .before .before .before .before .before .before .before .before .before .before .first-open in
-    let segments = c .before .before .before .before .before .before .before .before .before .before .before .before .before .before .before .before .segment-count-of in
-    let phase = c .before .before .before .before .before .before .before .before .before .before .before .before .is-blanking in
-    let f = c .before .before .before .before .expand-part in
-    advance-expands (a .job) (a .table .now) (a .log .now) (sym (phase .ensures) ∙ c .before .before .before .before .before .before .before .before .before .before .before .if1 .left) (first .result) (opened (c .before .before .before .before .before .before .before .before .before .before .before .before .before))
-    (omega (arith, waited (c .before .before .before .before .before .before .before .before .before), segments .ensures .0, c .before .before .before .before .before .before .before .before .if3 .left))
-    (omega (arith, opened (c .before .before .before .before .before .before .before .before .before .before .before .before .before), segments .ensures .0, c .before .before .before .before .before .before .before .if4 .taken))
+    let first = c .before .before .before .before .before .before .before .before .before .before .before .before .before .before .first-open in
+    let segments = c .before .before .before .before .before .before .before .before .before .before .before .before .before .before .before .before .before .segment-count-of in
+    let phase = c .before .before .before .before .before .before .before .before .before .before .before .before .before .is-blanking in
+    let f = c .before .before .before .before .before .expand-part in
+    advance-expands (a .job) (a .table .now) (a .log .now) (sym (phase .ensures) ∙ c .before .before .before .before .before .before .before .before .before .before .before .before .if1 .left) (first .result) (opened (c .before .before .before .before .before .before .before .before .before .before .before .before .before .before))
+    (omega (arith, waited (c .before .before .before .before .before .before .before .before .before .before), segments .ensures .0, c .before .before .before .before .before .before .before .before .before .if3 .left))
+    (omega (arith, opened (c .before .before .before .before .before .before .before .before .before .before .before .before .before .before), segments .ensures .0, c .before .before .before .before .before .before .before .before .if4 .taken))
     (f .last .1 .1 .0, f .last .1 .1 .1 .0, f .result)
     (f .ensures)
 

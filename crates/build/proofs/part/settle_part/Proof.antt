@@ -38,11 +38,11 @@ same-length c = search needs
 returns : tie.Need-returns
 unfolding settledIn
 returns c =
-    let s = c .before .before .before .before .before .before .before .before .before in
+    let s = c .before .before .before .before .before .before .before .before in
     let a = s .args in
-    let start = c .before .before .before .before .before .before .part-start in
-    let end = c .before .before .before .before .before .part-end in
-    let f = c .before .before .before .settle in
+    let start = c .before .before .before .before .before .part-start in
+    let end = c .before .before .before .before .part-end in
+    let f = c .before .before .settle in
     answered-in (a .job) (a .j) (s .pre .0) (s .pre .1) (start .result) (end .result) (a .table .now) (s .pre .2) (start .ensures) (end .ensures)
     (λ segment. settleOf (a .job) (a .j) segment (a .log .now)) (f .last .1 .1 .0) (f .result) (f .ensures)
 

@@ -9,7 +9,7 @@ use Rattle.search.specs.JobState.{stackCountOf, stackCountAt, progressed}
 use Rattle.search.specs.declared.Answer.{Answer}
 use Rattle.search.specs.declared.Job.{Job}
 use Rattle.search.proofs.Accepted.{BlankFacts, blank-facts, blank-accepted, blank-refused}
-use Rattle.job.proofs.Bounds.{coherent-bounds}
+use Rattle.job.proofs.Bounds.{coherent-bounds, segment-below}
 use Rattle.calls.proofs.blank.blank.Statement.{statement}
 use Rattle.calls.proofs.blank.blank.Tie as tie
 
@@ -28,50 +28,64 @@ standing-of-requires c κs = search needs
 
 blank-refusal-requires : tie.Need-blank-refusal-requires
 blank-refusal-requires c κs =
-    record { job = c .before .before .before .before .before .before .before .args .t1; is = c .standing-of .ensures }
+    record { job = c .before .before .before .before .before .before .before .args .job; is = c .standing-of .ensures }
 
 -- what the row has answered
 answered : (c : tie.After-blank-refusal) → let a = c .before .before .before .before .before .before .before .before .args in
-    c .blank-refusal .result ≡ blankRefusal (a .t1) (a .j) (length (a .segment .now))
-answered c = c .blank-refusal .ensures (c .before .before .before .before .before .before .before .before .args .t1) (c .before .standing-of .ensures)
+    c .blank-refusal .result ≡ blankRefusal (a .job) (a .j) (length (a .segment .now))
+answered c = c .blank-refusal .ensures (c .before .before .before .before .before .before .before .before .args .job) (c .before .standing-of .ensures)
 
 returns : tie.Need-returns
 returns c =
     let f = c .before in
     let a = f .before .before .before .before .before .before .before .before .args in
-    refused (a .t1) (a .j) (a .segment .now) (f .blank-refusal .result) (answered f) (c .if1 .taken)
+    refused (a .job) (a .j) (a .segment .now) (f .blank-refusal .result) (answered f) (c .if1 .taken)
 
 -- what was given where nothing is refused
-facts : (c : tie.Else1) → let a = c .before .before .before .before .before .before .before .before .before .args in BlankFacts (a .t1) (a .j) (length (a .segment .now))
+facts : (c : tie.Else1) → let a = c .before .before .before .before .before .before .before .before .before .args in BlankFacts (a .job) (a .j) (length (a .segment .now))
 facts c =
     let a = c .before .before .before .before .before .before .before .before .before .args in
-    blank-facts (a .t1) (a .j) (length (a .segment .now)) (sym (answered (c .before)) ∙ c .if1 .left)
+    blank-facts (a .job) (a .j) (length (a .segment .now)) (sym (answered (c .before)) ∙ c .if1 .left)
 
 blank-entries-requires : tie.Need-blank-entries-requires
 unfolding stackCountAt stackCountOf
 blank-entries-requires c κs =
     let e = c .before in
     let f = facts e in
-    let b = coherent-bounds (e .before .before .before .before .before .before .before .before .before .args .t1) (f .called .coherent) in
+    let b = coherent-bounds (e .before .before .before .before .before .before .before .before .before .args .job) (f .called .coherent) in
     record { in-range = b .is-pane-count; goal = b .is-stack; some = b .some; long = f .long }
 
-pass-all-requires : tie.Need-pass-all-requires
-pass-all-requires c κs = let f = facts (c .before .before .before .before) in (f .called .coherent, f .called .inside)
+stack-count-at-requires : tie.Need-stack-count-at-requires
+stack-count-at-requires c κs =
+    let e = c .before .before .before .before in
+    coherent-bounds (e .before .before .before .before .before .before .before .before .before .args .job) (facts e .called .coherent) .is-pane-count
+
+mul-next : tie.Need-mul-next
+mul-next c = search needs
+
+element-write-next : tie.Need-element-write-next
+element-write-next c =
+    let e = c .before .before .before .before .before in
+    let a = e .before .before .before .before .before .before .before .before .before .args in
+    let f = facts e .called in
+    segment-below (a .job) (f .coherent) (a .j) (f .inside)
 
 same-length : tie.Need-same-length
 same-length c = search needs
 
 returns-2 : tie.Need-returns-2
-unfolding blanked goalOf stackCountAt stackCountOf
+unfolding blanked goalOf stackCountAt stackCountOf progressed
 returns-2 c =
     let n = c .before .before .before in
     let e = n .before .before in
     let f = e .before in
     let a = f .before .before .before .before .before .before .before .before .args in
-    accepted (a .t1) (a .j) (a .segment .now) (f .blank-refusal .result) (answered f) (n .blank-entries .last .1 .1 .1 .1 .1 .0) (c .pass-all .result)
+    let job = a .job in
+    accepted job (a .j) (a .segment .now) (f .blank-refusal .result) (answered f) (n .blank-entries .last .1 .1 .1 .1 .1 .0)
+    (progressed job (job .phase) (set (job .passed) (a .j) (c .stack-count-at .result)) (job .waiting) (job .counts))
     (e .if1 .left)
     (n .blank-entries .ensures)
-    (c .pass-all .ensures)
+    (ap (λ (m : ℕ). progressed job (job .phase) (set (job .passed) (a .j) m) (job .waiting) (job .counts)) (c .stack-count-at .ensures))
 
 pub blank-spec : {M : Type 1} → statement M
 blank-spec =
@@ -81,6 +95,8 @@ blank-spec =
     blank-refusal-requires
     returns
     blank-entries-requires
-    pass-all-requires
+    stack-count-at-requires
+    mul-next
+    element-write-next
     same-length
     returns-2)

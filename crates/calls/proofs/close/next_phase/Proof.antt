@@ -4,7 +4,6 @@ use mathlib.Core.Logic.{_⊎_, inl, inr}
 use mathlib.Core.Bool.{true, false, not, _&&_}
 use mathlib.Core.List.{List}
 use Prim.Native.Nat.{ℕ, _≤_}
-use native.Mathlib.Omega.{arith}
 use borrow.Author.Needs.{needs}
 use borrow.Author.Tests.{leb-true, ne-eqb}
 use lib.Dec.{leb, eqb}
@@ -37,8 +36,8 @@ range c =
     let h : (leb 1 d && leb d lastLevel) ≡ true = sym (ap phaseFits (c .phase .given .1)) ∙ s .pre .0 in
     (leb-true 1 d (and-left (leb 1 d) (leb d lastLevel) h), leb-true d lastLevel (and-right (leb 1 d) (leb d lastLevel) h))
 
-array-read-after-level : tie.Need-array-read-after-level
-array-read-after-level c = omega (arith, range (c .before) .1)
+element-copy-out-after-level : tie.Need-element-copy-out-after-level
+element-copy-out-after-level c = search needs
 
 -- where d is the last level its count is the last one's
 past-here : (counts : List ℕ) (d : ℕ) → pastLast d (getD counts lastLevel 0) ≡ false → pastLast d (getD counts d 0) ≡ false
@@ -51,13 +50,13 @@ past-here counts d h = go (eq-or-ne d lastLevel)
 after-level-requires : tie.Need-after-level-requires
 unfolding levelOf
 after-level-requires c κs =
-    let p = c .before in
+    let p = c .before .before in
     let s = p .before .before in
     let d = p .phase .given .0 .0 in
     let r = range p in (
       r .0,
       r .1,
-      past-here (s .args .t2) d (sym (ap (λ (x : ℕ). pastLast x (getD (s .args .t2) lastLevel 0)) (ap levelOf (p .phase .given .1))) ∙ s .pre .1),
+      past-here (s .args .counts .now) d (sym (ap (λ (x : ℕ). pastLast x (getD (s .args .counts .now) lastLevel 0)) (ap levelOf (p .phase .given .1))) ∙ s .pre .1),
     )
 
 enum-known-phase-2 : tie.Need-enum-known-phase-2
@@ -65,15 +64,17 @@ enum-known-phase-2 c = search needs
 
 returns : tie.Need-returns
 unfolding nextPhase
-returns c = sym (ap (nextPhase (c .before .before .args .t2)) (c .enum-told .given .1))
+returns c = sym (ap (nextPhase (c .before .before .args .counts .now)) (c .enum-told .given .1))
 
 returns-2 : tie.Need-returns-2
 unfolding nextPhase
-returns-2 c = c .after-level .ensures ∙ sym (ap (nextPhase (c .before .before .before .before .args .t2)) (c .before .before .phase .given .1))
+returns-2 c =
+    let p = c .before .before .before in
+    c .after-level .ensures ∙ sym (ap (nextPhase (p .before .before .args .counts .now)) (p .phase .given .1))
 
 returns-3 : tie.Need-returns-3
 unfolding nextPhase
-returns-3 c = sym (ap (nextPhase (c .before .before .before .args .t2)) (c .before .phase2 .given .1))
+returns-3 c = sym (ap (nextPhase (c .before .before .before .args .counts .now)) (c .before .phase2 .given .1))
 
 pub next-phase-spec : {M : Type 1} → statement M
 next-phase-spec =
@@ -83,7 +84,7 @@ next-phase-spec =
     enum-known-phase
     cast-after-level
     mul-after-level
-    array-read-after-level
+    element-copy-out-after-level
     after-level-requires
     enum-known-phase-2
     returns

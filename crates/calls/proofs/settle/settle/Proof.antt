@@ -1,19 +1,20 @@
 -- `calls::settle::settle` meets its contract: the refusal's number and nothing changed, or the marked segment and an empty log.
 use mathlib.Core.Path.{_≡_, refl, sym, ap, _∙_}
 use mathlib.Core.List.{List}
-use Prim.Native.Nat.{ℕ, _-_, _%_}
+use Prim.Native.Nat.{ℕ, _-_, _%_, _<_}
 use native.Mathlib.Omega.{arith}
 use borrow.Author.Needs.{needs}
-use lib.ListN.{length, getD}
-use Rattle.search.specs.JobState.{countOf}
+use lib.ListN.{length, getD, set}
+use Rattle.search.specs.JobState.{countOf, progressed}
 use Rattle.search.specs.Logs.{pending}
+use Rattle.search.specs.Segments.{segmentLimit}
 use Rattle.search.specs.Settle.{settleRefusal, settleOf}
 use Rattle.search.specs.declared.Answer.{Answer}
 use Rattle.search.specs.declared.Job.{Job}
 use Rattle.search.proofs.Accepted.{LevelFacts, settle-refused}
 use Rattle.search.proofs.EntryLaws.{next-lt}
 use Rattle.job.specs.Standing.{standingOf}
-use Rattle.job.proofs.Bounds.{level-most, area-small, part-within}
+use Rattle.job.proofs.Bounds.{segment-below, area-small, part-within}
 use Rattle.job.proofs.Standings.{part-is}
 use Rattle.calls.proofs.Settling.{settle-given, offsets-fit, level-some, settled-is}
 use Rattle.calls.proofs.settle.settle.Statement.{statement}
@@ -29,33 +30,33 @@ standing-of-requires c κs = search needs
 
 settle-refusal-requires : tie.Need-settle-refusal-requires
 settle-refusal-requires c κs =
-    record { job = c .before .before .before .before .before .before .before .before .args .t1; is = c .standing-of .ensures }
+    record { job = c .before .before .before .before .before .before .before .before .args .job; is = c .standing-of .ensures }
 
 -- what the row has answered
 answered : (c : tie.After-settle-refusal) → let a = c .before .before .before .before .before .before .before .before .before .args in
-    c .settle-refusal .result ≡ settleRefusal (a .t1) (a .j) (length (a .segment .now)) (a .log .now)
-answered c = c .settle-refusal .ensures (c .before .before .before .before .before .before .before .before .before .args .t1) (c .before .standing-of .ensures)
+    c .settle-refusal .result ≡ settleRefusal (a .job) (a .j) (length (a .segment .now)) (a .log .now)
+answered c = c .settle-refusal .ensures (c .before .before .before .before .before .before .before .before .before .args .job) (c .before .standing-of .ensures)
 
 returns : tie.Need-returns
 returns c =
     let f = c .before in
     let a = f .before .before .before .before .before .before .before .before .before .args in
-    refused (a .t1) (a .j) (a .segment .now) (a .log .now) (f .settle-refusal .result) (answered f) (c .if1 .taken)
+    refused (a .job) (a .j) (a .segment .now) (a .log .now) (f .settle-refusal .result) (answered f) (c .if1 .taken)
 
 level-of-requires : tie.Need-level-of-requires
 level-of-requires c κs = search needs
 
 -- nothing is refused
-accepted : (c : tie.Else1) → let a = c .before .before .before .before .before .before .before .before .before .before .args in settleRefusal (a .t1) (a .j) (length (a .segment .now)) (a .log .now) ≡ 0
+accepted : (c : tie.Else1) → let a = c .before .before .before .before .before .before .before .before .before .before .args in settleRefusal (a .job) (a .j) (length (a .segment .now)) (a .log .now) ≡ 0
 accepted c = sym (answered (c .before)) ∙ c .if1 .left
 
-given : (c : tie.Else1) → let a = c .before .before .before .before .before .before .before .before .before .before .args in LevelFacts (a .t1) (a .j) (length (a .segment .now)) (length (a .log .now))
-given c = let a = c .before .before .before .before .before .before .before .before .before .before .args in settle-given (a .t1) (a .j) (a .segment .now) (a .log .now) (accepted c)
+given : (c : tie.Else1) → let a = c .before .before .before .before .before .before .before .before .before .before .args in LevelFacts (a .job) (a .j) (length (a .segment .now)) (length (a .log .now))
+given c = let a = c .before .before .before .before .before .before .before .before .before .before .args in settle-given (a .job) (a .j) (a .segment .now) (a .log .now) (accepted c)
 
 sub-next-entry : tie.Need-sub-next-entry
 sub-next-entry c =
     let a = c .before .before .before .before .before .before .before .before .before .before .before .args in
-    level-some (a .t1) (a .j) (a .segment .now) (a .log .now) (accepted (c .before)) (c .level-of .result) (c .level-of .ensures)
+    level-some (a .job) (a .j) (a .segment .now) (a .log .now) (accepted (c .before)) (c .level-of .result) (c .level-of .ensures)
 
 next-entry-requires : tie.Need-next-entry-requires
 next-entry-requires c κs = search needs
@@ -66,8 +67,8 @@ waiting-part-requires c κs =
     let e = c .before .before in
     let a = e .before .before .before .before .before .before .before .before .before .before .args in
     let f = given e in (
-      rw (e .before .before .standing-of .ensures, f .wide) (part-within (a .t1) (f .called .coherent) (a .j) (f .called .inside)),
-      rw (f .wide) (area-small (a .t1) (f .called .coherent)),
+      rw (e .before .before .standing-of .ensures, f .wide) (part-within (a .job) (f .called .coherent) (a .j) (f .called .inside)),
+      rw (f .wide) (area-small (a .job) (f .called .coherent)),
     )
 
 cast-count : tie.Need-cast-count
@@ -77,18 +78,15 @@ mul-count : tie.Need-mul-count
 mul-count c = search needs
 
 element-copy-out-count : tie.Need-element-copy-out-count
-element-copy-out-count c =
-    let v = c .before .before in
-    let job = v .before .before .before .before .before .before .before .before .before .before .before .args .t1 in
-    omega (arith, v .level-of .ensures, level-most job (given (v .before) .called .coherent))
+element-copy-out-count c = search needs
 
 -- what waits, as the definition has it
-waits : (c : tie.After-waiting-part) → let a = c .before .before .before .before .before .before .before .before .before .before .before .before .before .args in c .waiting-part .result .now ≡ pending (a .t1) (a .j) (a .log .now)
+waits : (c : tie.After-waiting-part) → let a = c .before .before .before .before .before .before .before .before .before .before .before .before .before .args in c .waiting-part .result .now ≡ pending (a .job) (a .j) (a .log .now)
 waits c =
     let e = c .before .before .before in
     let s = e .before .before .standing-of in
     let a = e .before .before .before .before .before .before .before .before .before .before .args in
-    c .waiting-part .ensures ∙ part-is (s .result) (a .j) (a .t1) (s .ensures) (a .log .now)
+    c .waiting-part .ensures ∙ part-is (s .result) (a .j) (a .job) (s .ensures) (a .log .now)
 
 mark-all-requires : tie.Need-mark-all-requires
 unfolding countOf
@@ -98,37 +96,58 @@ mark-all-requires c κs =
     let v = n .before in
     let e = v .before in
     let a = e .before .before .before .before .before .before .before .before .before .before .args in
-    offsets-fit (a .t1) (a .j) (a .segment .now) (a .log .now) (accepted e) (w .waiting-part .result .now) (waits w) (n .next-entry .result)
-    (record { count = getD (a .t1 .counts) (v .level-of .result) 0 })
+    offsets-fit (a .job) (a .j) (a .segment .now) (a .log .now) (accepted e) (w .waiting-part .result .now) (waits w) (n .next-entry .result)
+    (record { count = getD (a .job .counts) (v .level-of .result) 0 })
     (v .level-of .result)
     (rw (n .next-entry .ensures) (next-lt ((v .level-of .result - 1) % 3)))
     refl
 
-emptied-requires : tie.Need-emptied-requires
-emptied-requires c κs = let f = given (c .before .before .before .before .before .before .before .before) .called in (f .coherent, f .inside)
+-- segment j has its place among the waiting numbers
+place : (c : tie.Else1) → let a = c .before .before .before .before .before .before .before .before .before .before .args in a .j < segmentLimit
+place c =
+    let a = c .before .before .before .before .before .before .before .before .before .before .args in
+    let f = given c .called in
+    segment-below (a .job) (f .coherent) (a .j) (f .inside)
+
+mul-next : tie.Need-mul-next
+mul-next c = omega (arith, place (c .before .before .before .before .before .before .before .before))
+
+element-write-next : tie.Need-element-write-next
+element-write-next c = place (c .before .before .before .before .before .before .before .before)
+
+cast-next : tie.Need-cast-next
+cast-next c = search needs
+
+mul-next-2 : tie.Need-mul-next-2
+mul-next-2 c = search needs
+
+element-write-next-2 : tie.Need-element-write-next-2
+element-write-next-2 c = search needs
 
 same-length : tie.Need-same-length
 same-length c = search needs
 
 returns-2 : tie.Need-returns-2
-unfolding countOf
+unfolding countOf progressed
 returns-2 c =
-    let m = c .before .before .before in
+    let m = c .before .before in
     let w = m .before .before .before in
     let n = w .before in
     let v = n .before in
     let e = v .before in
     let a = e .before .before .before .before .before .before .before .before .before .before .args in
-    settled-is (a .t1) (a .j) (a .segment .now) (a .log .now) (accepted e) (w .waiting-part .result .now) (waits w) (v .level-of .result) (n .next-entry .result)
-    (record { count = getD (a .t1 .counts) (v .level-of .result) 0 })
+    let job = a .job in
+    let left : ℕ → Job = λ d. progressed job (job .phase) (job .passed) (set (job .waiting) (a .j) 0) (set (job .counts) d (m .mark-all .result .count)) in
+    settled-is job (a .j) (a .segment .now) (a .log .now) (accepted e) (w .waiting-part .result .now) (waits w) (v .level-of .result) (n .next-entry .result)
+    (record { count = getD (job .counts) (v .level-of .result) 0 })
     (m .mark-all .result)
     (m .mark-all .last .0)
-    (c .emptied .result)
+    (left (v .level-of .result))
     (v .level-of .ensures)
     (n .next-entry .ensures)
     refl
     (m .mark-all .ensures)
-    (c .emptied .ensures)
+    (ap left (v .level-of .ensures))
 
 pub settle-spec : {M : Type 1} → statement M
 settle-spec =
@@ -145,6 +164,10 @@ settle-spec =
     mul-count
     element-copy-out-count
     mark-all-requires
-    emptied-requires
+    mul-next
+    element-write-next
+    cast-next
+    mul-next-2
+    element-write-next-2
     same-length
     returns-2)

@@ -1,8 +1,7 @@
--- `expand::children::children_of` meets its contract. The loop's invariant: the children by the turns below k that the set names, and zeros
+-- `expand::children::children_of` meets its contract. The loop's invariant: the children by the turns up to k that the set names, and zeros
 -- after them; rest is what is left of the set.
-use mathlib.Core.Path.{_≡_, refl, sym, ap, _∙_}
+use mathlib.Core.Path.{_≡_, sym, ap, _∙_}
 use mathlib.Core.Logic.{⊎-elim}
-use mathlib.Core.Bool.{true, false}
 use Prim.Native.Nat.{ℕ, _+_, _-_, _/_, _%_, _^_, _≤_}
 use native.Mathlib.Omega.{arith}
 use borrow.Author.Needs.{needs}
@@ -10,18 +9,19 @@ use borrow.Author.Tests.{eq-eqb, ne-eqb}
 use lib.ListN.{length}
 use Rattle.stacks.specs.Index.{rankOf}
 use Rattle.stacks.specs.Stack.{stackPlaces, isStack}
-use Rattle.stacks.specs.Turn.{firstTurn, lastTurn, lifts}
+use Rattle.stacks.specs.Turn.{firstTurn, lastTurn}
 use Rattle.stacks.proofs.Numbering.{unrank-stack, rank-unrank}
 use Rattle.stacks.proofs.TurnLaws.{first-pos}
-use Rattle.perm.proofs.Sizes.{named-none, last-twelve, first-last, half-left, set-left}
-use Rattle.expand.proofs.Filling.{still-turn, lifts-is, named, filledTo, filled-none, filled-taken, taken-count, filled-left, left-count, filled-all}
+use Rattle.perm.proofs.Sizes.{named-none, last-twelve, first-last, lifts-is, still-turn, half-left, set-left}
+use Rattle.expand.proofs.Filling.{named, filledTo, filled-none, filled-taken, taken-count, filled-left, left-count, filled-all}
 use Rattle.expand.proofs.children.children_of.Statement.{statement}
 use Rattle.expand.proofs.children.children_of.Tie as tie
 
 abbrev Inv-loop : tie.InvT-loop
 Inv-loop kind n groups index stack children₀ k₀ rest₀ i₀ children k rest i =
-    (1 ≤ firstTurn kind) × (firstTurn kind ≤ k) × (lastTurn kind n ≤ stackPlaces) × (k ≤ lastTurn kind n + 1) × (groups / 2 ^ lastTurn kind n ≡ 0)
-    × (rest ≡ groups / 2 ^ (k - 1)) × (i ≤ k - firstTurn kind) × (i ≡ length (named kind n groups index k)) × (children ≡ filledTo kind n groups index k)
+    (1 ≤ firstTurn kind) × (firstTurn kind ≤ k + 1) × (lastTurn kind n ≤ stackPlaces) × (k ≤ lastTurn kind n) × (groups / 2 ^ lastTurn kind n ≡ 0)
+    × (rest ≡ groups / 2 ^ (k + 1 - 1)) × (i ≤ k + 1 - firstTurn kind) × (i ≡ length (named kind n groups index (k + 1)))
+    × (children ≡ filledTo kind n groups index (k + 1))
 
 abbrev μ-loop : tie.MeasureT-loop
 μ-loop kind n groups index stack children₀ k₀ rest₀ i₀ children k rest i = rest
@@ -32,11 +32,11 @@ unrank-requires c κs = (c .pre .0, c .pre .1)
 first-turn-requires : tie.Need-first-turn-requires Inv-loop μ-loop
 first-turn-requires c κs = search needs
 
+sub-k : tie.Need-sub-k Inv-loop μ-loop
+sub-k c = omega (arith, c .first-turn .ensures, first-pos (c .before .before .args .kind))
+
 cast-rest : tie.Need-cast-rest Inv-loop μ-loop
 cast-rest c = search needs
-
-sub-rest : tie.Need-sub-rest Inv-loop μ-loop
-sub-rest c = omega (arith, c .first-turn .ensures, first-pos (c .before .before .args .kind))
 
 shr-rest : tie.Need-shr-rest Inv-loop μ-loop
 shr-rest c =
@@ -54,26 +54,30 @@ loop-holds c =
     let kind = s .args .kind in
     let n = s .args .n in
     let groups = s .args .groups in
-    let first = c .first-turn .ensures in
+    let k = c .first-turn .result - 1 in
+    let first : k + 1 ≡ firstTurn kind = omega (arith, c .first-turn .ensures, first-pos kind) in
     let low = last-twelve kind n (s .pre .0) in (
       first-pos kind,
       omega arith,
       low,
       omega (arith, first-last kind n (s .pre .0)),
       set-left kind n groups low (s .pre .2) (search needs),
-      refl,
+      ap (λ (j : ℕ). groups / 2 ^ j) (let e : k ≡ k + 1 - 1 = omega arith in e),
       omega arith,
       ap length (sym (ap (named kind n groups (s .args .index)) first ∙ named-none groups (firstTurn kind))),
       sym (ap (filledTo kind n groups (s .args .index)) first ∙ filled-none kind n groups (s .args .index)),
     )
 
--- while something is left of the set, k is a turn
+-- while something is left of the set, the next size is a turn
 turn-left : (l : tie.At-loop Inv-loop μ-loop) → (l .loop .rest ≡ 0 → ⊥)
-    → let a = l .before .before .before .args in l .loop .k ≤ lastTurn (a .kind) (a .n)
+    → let a = l .before .before .before .args in l .loop .k + 1 ≤ lastTurn (a .kind) (a .n)
 turn-left l some =
     let a = l .before .before .before .args in
     let inv = l .loop .inv in
-    still-turn (a .groups) (lastTurn (a .kind) (a .n)) (l .loop .k) (l .loop .rest) (inv .4) (inv .3) (inv .5) some
+    still-turn (a .groups) (lastTurn (a .kind) (a .n)) (l .loop .k + 1) (l .loop .rest) (inv .4) (omega arith) (inv .5) some
+
+add-k : tie.Need-add-k Inv-loop μ-loop
+add-k c = omega (arith, turn-left (c .before) (c .loop-test .taken))
 
 rank-turned-requires : tie.Need-rank-turned-requires Inv-loop μ-loop
 unfolding lastTurn
@@ -99,9 +103,6 @@ array-write-children c = let t = c .before .before .before in omega (arith, turn
 add-i : tie.Need-add-i Inv-loop μ-loop
 add-i c = let t = c .before .before .before in omega (arith, turn-left (t .before) (t .loop-test .taken))
 
-add-k : tie.Need-add-k Inv-loop μ-loop
-add-k c = let t = c .before in omega (arith, turn-left (t .before) (t .loop-test .taken))
-
 loop-less : tie.Need-loop-less Inv-loop μ-loop
 loop-less c = omega arith
 
@@ -111,7 +112,7 @@ loop-again c =
     let l = t .before in
     let a = l .before .before .before .args in
     let inv = l .loop .inv in
-    let k = l .loop .k in
+    let k = l .loop .k + 1 in
     let low = turn-left l (t .loop-test .taken) in
     let half = ap (λ (x : ℕ). x / 2) (inv .5) ∙ half-left (a .groups) k (omega arith) in
     ⊎-elim
@@ -151,7 +152,7 @@ returns c =
     let l = c .before in
     let a = l .before .before .before .args in
     let inv = l .loop .inv in
-    filled-all (a .kind) (a .n) (a .groups) (a .index) (l .loop .children) (l .loop .k) (l .loop .i) (inv .8) (inv .1) (inv .7) (inv .3) (omega arith)
+    filled-all (a .kind) (a .n) (a .groups) (a .index) (l .loop .children) (l .loop .k + 1) (l .loop .i) (inv .8) (inv .1) (inv .7) (omega arith) (omega arith)
     (sym (inv .5) ∙ c .loop-test .left)
 
 pub children-of-spec : {M : Type 1} → statement M
@@ -162,15 +163,15 @@ children-of-spec =
     μ-loop
     unrank-requires
     first-turn-requires
+    sub-k
     cast-rest
-    sub-rest
     shr-rest
     loop-holds
+    add-k
     rank-turned-requires
     mul-children
     array-write-children
     add-i
-    add-k
     loop-less
     loop-again
     returns)

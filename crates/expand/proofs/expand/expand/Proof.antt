@@ -1,13 +1,16 @@
 -- `expand::expand::expand` meets its contract: a refused call, and one that runs.
 use mathlib.Core.Path.{_≡_, sym, ap, _∙_}
 use mathlib.Core.Bool.{false}
-use Prim.Native.Nat.{ℕ}
+use Prim.Native.Nat.{ℕ, _<_}
 use native.Mathlib.Omega.{arith}
 use borrow.Author.Needs.{needs}
-use lib.ListN.{length}
-use Rattle.job.proofs.Bounds.{coherent-sizes, level-least, level-most}
+use lib.ListN.{length, set}
+use Rattle.job.proofs.Bounds.{coherent-sizes, level-least, segment-below}
 use Rattle.job.proofs.Standings.{passed-is}
-use Rattle.search.specs.Expand.{expandRefusal}
+use Rattle.search.specs.Expand.{expandRefusal, expandedJob}
+use Rattle.search.specs.JobState.{progressed}
+use Rattle.search.specs.Segments.{segmentLimit}
+use Rattle.search.specs.declared.Job.{Job}
 use Rattle.search.proofs.Accepted.{LevelFacts, expand-refused}
 use Rattle.expand.proofs.Expanding.{call-facts, run-given, answer-is}
 use Rattle.expand.proofs.expand.expand.Statement.{statement}
@@ -18,28 +21,28 @@ standing-of-requires c κs = search needs
 
 expand-refusal-requires : tie.Need-expand-refusal-requires
 expand-refusal-requires c κs =
-    record { job = c .before .before .before .before .before .before .before .before .args .t1; is = c .standing-of .ensures }
+    record { job = c .before .before .before .before .before .before .before .before .args .job; is = c .standing-of .ensures }
 
 -- what the row has answered
 answered : (c : tie.After-expand-refusal) → let a = c .before .before .before .before .before .before .before .before .before .args in
-    c .expand-refusal .result ≡ expandRefusal (a .t1) (a .j) (length (a .segment .now)) (length (a .log .now))
-answered c = c .expand-refusal .ensures (c .before .before .before .before .before .before .before .before .before .args .t1) (c .before .standing-of .ensures)
+    c .expand-refusal .result ≡ expandRefusal (a .job) (a .j) (length (a .segment .now)) (length (a .log .now))
+answered c = c .expand-refusal .ensures (c .before .before .before .before .before .before .before .before .before .args .job) (c .before .standing-of .ensures)
 
-accepted : (c : tie.Else1) → let a = c .before .before .before .before .before .before .before .before .before .before .args in expandRefusal (a .t1) (a .j) (length (a .segment .now)) (length (a .log .now)) ≡ 0
+accepted : (c : tie.Else1) → let a = c .before .before .before .before .before .before .before .before .before .before .args in expandRefusal (a .job) (a .j) (length (a .segment .now)) (length (a .log .now)) ≡ 0
 accepted c = sym (answered (c .before)) ∙ c .if1 .left
 
 -- what an accepted call was given
-given : (c : tie.Else1) → let a = c .before .before .before .before .before .before .before .before .before .before .args in LevelFacts (a .t1) (a .j) (length (a .segment .now)) (length (a .log .now))
+given : (c : tie.Else1) → let a = c .before .before .before .before .before .before .before .before .before .before .args in LevelFacts (a .job) (a .j) (length (a .segment .now)) (length (a .log .now))
 given c =
     let a = c .before .before .before .before .before .before .before .before .before .before .args in
-    call-facts (a .t1) (a .j) (a .segment .now) (a .log .now) (accepted c)
+    call-facts (a .job) (a .j) (a .segment .now) (a .log .now) (accepted c)
 
 returns : tie.Need-returns
 returns c =
     let f = c .before in
     let a = f .before .before .before .before .before .before .before .before .before .args in
-    ap (λ (n : ℕ). (a .segment .now, a .log .now, record { refusal = n; waits = false; on = 0; job = a .t1 })) (answered f)
-    ∙ sym (expand-refused (a .t1) (a .j) (a .segment .now) (a .log .now) (λ e. c .if1 .taken (answered f ∙ e)))
+    ap (λ (n : ℕ). (a .segment .now, a .log .now, record { refusal = n; waits = false; on = 0; job = a .job })) (answered f)
+    ∙ sym (expand-refused (a .job) (a .j) (a .segment .now) (a .log .now) (λ e. c .if1 .taken (answered f ∙ e)))
 
 level-of-requires : tie.Need-level-of-requires
 level-of-requires c κs = search needs
@@ -47,14 +50,14 @@ level-of-requires c κs = search needs
 scan-of-requires : tie.Need-scan-of-requires
 scan-of-requires c κs =
     let ok = c .before in
-    let job = ok .before .before .before .before .before .before .before .before .before .before .args .t1 in
+    let job = ok .before .before .before .before .before .before .before .before .before .before .args .job in
     let g = given ok .called in
     let sizes = coherent-sizes job (g .coherent) in (sizes .0, sizes .1, rw (c .level-of .ensures) (level-least job (g .coherent) (g .in-phase)))
 
 stack-count-at-requires : tie.Need-stack-count-at-requires
 stack-count-at-requires c κs =
     let ok = c .before .before in
-    coherent-sizes (ok .before .before .before .before .before .before .before .before .before .before .args .t1) (given ok .called .coherent) .0
+    coherent-sizes (ok .before .before .before .before .before .before .before .before .before .before .args .job) (given ok .called .coherent) .0
 
 cast-count : tie.Need-cast-count
 cast-count c = search needs
@@ -63,27 +66,43 @@ mul-count : tie.Need-mul-count
 mul-count c = search needs
 
 element-copy-out-count : tie.Need-element-copy-out-count
-element-copy-out-count c =
-    let leveled = c .before .before in
-    let ok = leveled .before in
-    omega (arith, leveled .level-of .ensures, level-most (ok .before .before .before .before .before .before .before .before .before .before .args .t1) (given ok .called .coherent))
+element-copy-out-count c = search needs
 
 expand-run-requires : tie.Need-expand-run-requires
 expand-run-requires c κs =
-    let counted = c .before .before .before .before .before in
+    let counted = c .before .before .before .before in
     let scanned = counted .before in
     let leveled = scanned .before in
     let ok = leveled .before in
     let stood = ok .before .before .standing-of in
     let s = ok .before .before .before .before .before .before .before .before .before .before in
     let a = s .args in
-    run-given (a .t1) (a .j) (a .segment .now) (a .log .now) (accepted ok) (leveled .level-of .ensures) (scanned .scan-of .ensures)
+    run-given (a .job) (a .j) (a .segment .now) (a .log .now) (accepted ok) (leveled .level-of .ensures) (scanned .scan-of .ensures)
     (counted .stack-count-at .ensures)
-    (passed-is (stood .result) (a .j) (a .t1) (stood .ensures))
+    (passed-is (stood .result) (a .j) (a .job) (stood .ensures))
     (search (needs, s .good .0 .1 .1 .1 .1 .1 .1 .1 .1 .1 .1 .0))
 
-expanded-job-requires : tie.Need-expanded-job-requires
-expanded-job-requires c κs = let f = given (c .before .before .before .before .before .before .before .before .before .before .before .before .before) .called in (f .coherent, f .inside)
+-- segment j has its place among the passed numbers
+place : (c : tie.Else1) → let a = c .before .before .before .before .before .before .before .before .before .before .args in a .j < segmentLimit
+place c =
+    let a = c .before .before .before .before .before .before .before .before .before .before .args in
+    let f = given c .called in
+    segment-below (a .job) (f .coherent) (a .j) (f .inside)
+
+mul-next : tie.Need-mul-next
+mul-next c = omega (arith, place (c .before .before .before .before .before .before .before .before .before .before .before .before))
+
+element-write-next : tie.Need-element-write-next
+element-write-next c = place (c .before .before .before .before .before .before .before .before .before .before .before .before)
+
+cast-next : tie.Need-cast-next
+cast-next c = search needs
+
+mul-next-2 : tie.Need-mul-next-2
+mul-next-2 c = search needs
+
+element-write-next-2 : tie.Need-element-write-next-2
+element-write-next-2 c = search needs
 
 same-length : tie.Need-same-length
 same-length c = search needs
@@ -92,20 +111,25 @@ same-length-2 : tie.Need-same-length-2
 same-length-2 c = search needs
 
 returns-2 : tie.Need-returns-2
+unfolding expandedJob progressed
 returns-2 c =
-    let ran = c .before .before .before .before .before in
-    let counted = ran .before .before .before .before .before .before in
+    let ran = c .before .before .before .before in
+    let counted = ran .before .before .before .before .before in
     let scanned = counted .before in
     let leveled = scanned .before in
     let ok = leveled .before in
     let stood = ok .before .before .standing-of in
     let a = ok .before .before .before .before .before .before .before .before .before .before .args in
-    answer-is (a .t1) (a .j) (a .segment .now) (a .log .now) (accepted ok) (leveled .level-of .ensures) (scanned .scan-of .ensures)
+    let job = a .job in
+    let reached = ran .expand-run .result in
+    let waiting = ran .expand-run .last .1 .1 .1 .1 .1 .1 .0 in
+    let left : ℕ → Job = λ d. progressed job (job .phase) (set (job .passed) (a .j) (reached .at)) waiting (set (job .counts) d (reached .found .count)) in
+    answer-is job (a .j) (a .segment .now) (a .log .now) (accepted ok) (leveled .level-of .ensures) (scanned .scan-of .ensures)
     (counted .stack-count-at .ensures)
-    (passed-is (stood .result) (a .j) (a .t1) (stood .ensures))
-    (ran .expand-run .result)
+    (passed-is (stood .result) (a .j) job (stood .ensures))
+    reached
     (ran .expand-run .ensures)
-    (c .expanded-job .ensures)
+    (ap left (leveled .level-of .ensures))
 
 pub expand-spec : {M : Type 1} → statement M
 expand-spec =
@@ -121,7 +145,11 @@ expand-spec =
     mul-count
     element-copy-out-count
     expand-run-requires
-    expanded-job-requires
+    mul-next
+    element-write-next
+    cast-next
+    mul-next-2
+    element-write-next-2
     same-length
     same-length-2
     returns-2)

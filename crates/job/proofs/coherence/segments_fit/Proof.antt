@@ -63,7 +63,10 @@ element-copy-out-segment-fits-2 : tie.Need-element-copy-out-segment-fits-2 Inv-l
 element-copy-out-segment-fits-2 c = omega arith
 
 segment-fits-requires : tie.Need-segment-fits-requires Inv-loop μ-loop
-segment-fits-requires c κs = search needs
+segment-fits-requires c κs =
+    let g = c .before .before .before .before in
+    let s = g .before .before in
+    (omega (arith, segment-size-facts (stackCount (s .args .kind) (s .args .n)) (s .args .size) (s .pre .1) .least), g .segment-count .ensures)
 
 returns : tie.Need-returns Inv-loop μ-loop
 returns c =

@@ -1,5 +1,4 @@
 -- `perm::groups::has_turns` meets its contract.
-use mathlib.Core.Path.{_∙_}
 use borrow.Author.Needs.{needs}
 use Rattle.perm.proofs.Sizes.{turns-some}
 use Rattle.perm.proofs.groups.has_turns.Statement.{statement}

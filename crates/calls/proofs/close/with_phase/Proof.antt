@@ -1,0 +1,12 @@
+-- `calls::close::with_phase` meets its contract.
+use mathlib.Core.Path.{refl}
+use Rattle.search.specs.JobState.{progressed}
+use Rattle.calls.proofs.close.with_phase.Statement.{statement}
+use Rattle.calls.proofs.close.with_phase.Tie as tie
+
+returns : tie.Need-returns
+unfolding progressed
+returns c = refl
+
+pub with-phase-spec : {M : Type 1} → statement M
+with-phase-spec = tie.close (tie.spec returns)
