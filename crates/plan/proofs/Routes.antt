@@ -1,8 +1,8 @@
 -- Routes as the code makes them: the search of a move through those not tried yet, and a run that goes on from where it has come to. All is
 -- said of any list of moves that are turns.
 use mathlib.Core.Path.{_≡_, refl, sym, ap, _∙_, subst}
-use mathlib.Core.Bool.{Bool, true, false, cond}
-use mathlib.Core.List.{List, [], _∷_, _++_}
+use mathlib.Core.Bool.{true}
+use mathlib.Core.List.{List, _∷_}
 use Prim.Native.Nat.{ℕ, zero, suc, _+_, _-_, _/_, _≤_, _<_}
 use native.Mathlib.Numerals.{add-one}
 use native.Mathlib.Omega.{arith}
@@ -10,19 +10,16 @@ use lib.IntN.{ℤ}
 use lib.ListN.{drop-of-length-le, length, getD, take, drop, set, length-set}
 use lib.Seq.{drop-cons, take-suc-set, length-take-le}
 use borrow.Author.Tests.{eq-eqb, ne-eqb}
-use Rattle.graph.specs.Walks.{isMove}
-use Rattle.graph.proofs.Moves.{isMove-first, isMove-rest}
 use Rattle.stacks.specs.Index.{rankOf}
 use Rattle.stacks.specs.Stack.{isPaneCount, isStack, stackCount}
 use Rattle.stacks.specs.Turn.{turnOf}
 use Rattle.stacks.proofs.Numbering.{rank-lt}
-use Rattle.stacks.proofs.TurnLaws.{turn-first, turn-last, first-pos}
+use Rattle.stacks.proofs.TurnLaws.{turn-last}
 use Rattle.search.specs.Entries.{bytesFor, entryAt, nextEntry}
-use Rattle.search.specs.Plan.{planLimit, Route, entryOf, leadsTo, follow, isWanted, planStep, planRun, routeFrom}
+use Rattle.search.specs.Plan.{planLimit, Route, entryOf, leadsTo, turnTo, nearerEntry, follow, isWanted, planStep, planRun, routeFrom}
 use Rattle.search.proofs.EntryLaws.{byte-inside}
-use Rattle.search.proofs.PlanLaws.{route-within}
+use Rattle.search.proofs.PlanLaws.{turn-taken, follow-turn, follow-none, route-within}
 use Rattle.search.proofs.Turning.{Moves, moved-stack, moves-stack}
-use Rattle.plan.specs.Routes.{firstTo}
 
 -- the entry of a stack stands in the table
 pub entry-inside : (kind n : ℕ) (s : List ℤ) (table : List ℕ) (i : ℕ) → isPaneCount kind n ≡ true → isStack kind n s ≡ true
@@ -30,37 +27,31 @@ pub entry-inside : (kind n : ℕ) (s : List ℤ) (table : List ℕ) (i : ℕ) �
 entry-inside kind n s table i in-range stack long e =
     rw (e, long) (byte-inside (rankOf kind n s) (stackCount kind n) (rank-lt kind n s in-range stack))
 
+-- turn 0 leaves a stack at its index
+pub no-turn : (kind n : ℕ) (s : List ℤ) (index : ℕ) → index ≡ rankOf kind n s → index ≡ rankOf kind n (turnOf kind 0 s)
+unfolding turnOf
+no-turn kind n s index e = e
+
 -- ---- the first move that leads to an entry
 
 module _ (kind n : ℕ) (table : List ℕ) (s : List ℤ) (v : ℕ) where
-  first-hit : (k : ℕ) (ks : List ℕ) → entryOf kind n table (turnOf kind k s) ≡ v → firstTo kind n table s v (k ∷ ks) ≡ k
-  unfolding firstTo leadsTo
+  first-hit : (k : ℕ) (ks : List ℕ) → entryOf kind n table (turnOf kind k s) ≡ v → turnTo kind n table s v (k ∷ ks) ≡ k
+  unfolding turnTo leadsTo
   first-hit k ks h = rw (eq-eqb (entryOf kind n table (turnOf kind k s)) v h)
 
   first-miss : (k : ℕ) (ks : List ℕ) → (entryOf kind n table (turnOf kind k s) ≡ v → ⊥)
-      → firstTo kind n table s v (k ∷ ks) ≡ firstTo kind n table s v ks
-  unfolding firstTo leadsTo
+      → turnTo kind n table s v (k ∷ ks) ≡ turnTo kind n table s v ks
+  unfolding turnTo leadsTo
   first-miss k ks h = rw (ne-eqb (entryOf kind n table (turnOf kind k s)) v h)
 
-  -- what is found is a move
-  first-move : (ks : List ℕ) (k : ℕ) → k ≡ firstTo kind n table s v ks → (k ≡ 0 → ⊥) → isMove ks k ≡ true
-  unfolding firstTo
-  first-move [] k e h = absurd (h e)
-  first-move (j ∷ ks) k e h = go (leadsTo kind n table s v j) (λ q. first-move ks k q h) e
-    where
-      go : (t : Bool) → (k ≡ firstTo kind n table s v ks → isMove ks k ≡ true) → k ≡ cond t j (firstTo kind n table s v ks)
-          → isMove (j ∷ ks) k ≡ true
-      go true f q = rw q (isMove-first j ks)
-      go false f q = isMove-rest j ks k (f q)
-
-  -- and so a turn
-  pub first-last : {moves : List ℕ} → Moves kind n moves → (k : ℕ) → k ≡ firstTo kind n table s v moves → (k ≡ 0 → ⊥) → k ≤ n
-  first-last {moves} laws k e h = turn-last kind n k (laws .turns k (first-move moves k e h))
+  -- what is found is a turn
+  pub turn-low : {moves : List ℕ} → Moves kind n moves → (k : ℕ) → k ≡ turnTo kind n table s v moves → (k ≡ 0 → ⊥) → k ≤ n
+  turn-low {moves} laws k e h = turn-last kind n k (laws .turns k (turn-taken kind n table s v moves k e h .0))
 
   -- the first move is the first of those not tried yet: those from place i on
-  module _ (moves : List ℕ) (i : ℕ) (f : firstTo kind n table s v (drop i moves) ≡ firstTo kind n table s v moves) where
-    pub tried-all : length moves ≤ i → 0 ≡ firstTo kind n table s v moves
-    unfolding firstTo
+  module _ (moves : List ℕ) (i : ℕ) (f : turnTo kind n table s v (drop i moves) ≡ turnTo kind n table s v moves) where
+    pub tried-all : length moves ≤ i → 0 ≡ turnTo kind n table s v moves
+    unfolding turnTo
     tried-all h = rw (← f, drop-of-length-le moves h)
 
     -- the next one is tried: its child's entry is w
@@ -72,60 +63,22 @@ module _ (kind n : ℕ) (table : List ℕ) (s : List ℤ) (v : ℕ) where
       untried : drop i moves ≡ k ∷ drop (i + 1) moves
       untried = drop-cons moves i 0 l ∙ ap (λ (x : ℕ). x ∷ drop (suc i) moves) (sym at) ∙ ap (λ (m : ℕ). k ∷ drop m moves) (sym (add-one i))
 
-      pub tried-hit : w ≡ v → k ≡ firstTo kind n table s v moves
-      tried-hit q = sym (first-hit k (drop (i + 1) moves) (entry-is ∙ q)) ∙ ap (firstTo kind n table s v) (sym untried) ∙ f
+      pub tried-hit : w ≡ v → k ≡ turnTo kind n table s v moves
+      tried-hit q = sym (first-hit k (drop (i + 1) moves) (entry-is ∙ q)) ∙ ap (turnTo kind n table s v) (sym untried) ∙ f
 
-      pub tried-miss : (w ≡ v → ⊥) → firstTo kind n table s v (drop (i + 1) moves) ≡ firstTo kind n table s v moves
+      pub tried-miss : (w ≡ v → ⊥) → turnTo kind n table s v (drop (i + 1) moves) ≡ turnTo kind n table s v moves
       tried-miss q =
-          sym (first-miss k (drop (i + 1) moves) (λ r. q (sym entry-is ∙ r))) ∙ ap (firstTo kind n table s v) (sym untried) ∙ f
+          sym (first-miss k (drop (i + 1) moves) (λ r. q (sym entry-is ∙ r))) ∙ ap (turnTo kind n table s v) (sym untried) ∙ f
 
 -- ---- the route with the move that is found
 
--- the entry that stands one nearer than a stack's
-abbrev pub nearer : ℕ → ℕ → List ℕ → List ℤ → ℕ
-nearer kind n table s = nextEntry (nextEntry (entryOf kind n table s))
-
 -- the first move that leads there, by the entries as they are read
 pub found-nearer : (kind n : ℕ) (table : List ℕ) (s : List ℤ) (moves : List ℕ) (index v next near k : ℕ) → index ≡ rankOf kind n s → v ≡ entryAt table index
-    → next ≡ nextEntry v → near ≡ nextEntry next → k ≡ firstTo kind n table s near moves → k ≡ firstTo kind n table s (nearer kind n table s) moves
-unfolding entryOf
+    → next ≡ nextEntry v → near ≡ nextEntry next → k ≡ turnTo kind n table s near moves → k ≡ turnTo kind n table s (nearerEntry kind n table s) moves
+unfolding nearerEntry entryOf
 found-nearer kind n table s moves index v next near k a b c d e = rw (← a, ← b, ← c, ← d) e
 
--- the route with one more turn
-abbrev onward : ℕ → ℕ → Route → Route
-onward kind k route = record { stack = turnOf kind k (route .stack); turns = route .turns ++ (k ∷ []) }
-
 module _ (kind n : ℕ) (table : List ℕ) (route : Route) where
-  follow-found : (ks : List ℕ) (k : ℕ) → k ≡ firstTo kind n table (route .stack) (nearer kind n table (route .stack)) ks → (k ≡ 0 → ⊥)
-      → follow kind n table ks route ≡ onward kind k route
-  unfolding follow firstTo
-  follow-found [] k e h = absurd (h e)
-  follow-found (j ∷ ks) k e h = go (leadsTo kind n table (route .stack) (nearer kind n table (route .stack)) j) (follow-found ks k) e
-    where
-      rest : ℕ
-      rest = firstTo kind n table (route .stack) (nearer kind n table (route .stack)) ks
-
-      go : (t : Bool) → (k ≡ rest → (k ≡ 0 → ⊥) → follow kind n table ks route ≡ onward kind k route) → k ≡ cond t j rest
-          → cond t (onward kind j route) (follow kind n table ks route) ≡ onward kind k route
-      go true f q = rw q
-      go false f q = f q h
-
-  -- 0 is found where no move leads on, for it is no move
-  follow-none : (ks : List ℕ) → (isMove ks 0 ≡ true → ⊥) → 0 ≡ firstTo kind n table (route .stack) (nearer kind n table (route .stack)) ks
-      → follow kind n table ks route ≡ route
-  unfolding follow firstTo
-  follow-none [] h e = refl
-  follow-none (j ∷ ks) h e =
-      go (leadsTo kind n table (route .stack) (nearer kind n table (route .stack)) j) (follow-none ks (λ m. h (isMove-rest j ks 0 m))) e
-    where
-      rest : ℕ
-      rest = firstTo kind n table (route .stack) (nearer kind n table (route .stack)) ks
-
-      go : (t : Bool) → (0 ≡ rest → follow kind n table ks route ≡ route) → 0 ≡ cond t j rest
-          → cond t (onward kind j route) (follow kind n table ks route) ≡ route
-      go true f q = absurd (h (subst (λ (k : ℕ). isMove (j ∷ ks) k ≡ true) (sym q) (isMove-first j ks)))
-      go false f q = f q
-
   module _ (wanted : List ℤ) (moves : List ℕ) where
     step-arrived : rankOf kind n (route .stack) ≡ rankOf kind n wanted → planStep kind n table wanted moves route ≡ route
     unfolding planStep isWanted
@@ -172,21 +125,22 @@ abbrev pub routeAt : List ℤ → List ℕ → ℕ → Route
 routeAt stack turns taken = record { stack = stack; turns = take taken turns }
 
 -- for each stack with the goal's index, the run goes on from the route here
-pub record Travelled (kind n : ℕ) (moves table : List ℕ) (goal : ℕ) (given stack : List ℤ) (turns : List ℕ) (taken : ℕ) : Type 0 where
+pub record Travelled (kind n : ℕ) (moves table : List ℕ) (goal : ℕ) (given stack : List ℤ) (index : ℕ) (turns : List ℕ) (taken : ℕ) : Type 0 where
   pub is-stack : isStack kind n stack ≡ true
+  pub at : index ≡ rankOf kind n stack
   pub slots : length turns ≡ planLimit
   pub within : taken ≤ planLimit
   pub goes-on : (wanted : List ℤ) → goal ≡ rankOf kind n wanted
       → planRun kind n table wanted moves (planLimit - taken) (routeAt stack turns taken) ≡ routeFrom kind n table wanted moves given
 
-pub travelled-start : (kind n : ℕ) (moves table : List ℕ) (goal : ℕ) (given : List ℤ) (turns : List ℕ) → isStack kind n given ≡ true
-    → length turns ≡ planLimit → Travelled kind n moves table goal given given turns 0
+pub travelled-start : (kind n : ℕ) (moves table : List ℕ) (goal : ℕ) (given : List ℤ) (index : ℕ) (turns : List ℕ) → isStack kind n given ≡ true
+    → index ≡ rankOf kind n given → length turns ≡ planLimit → Travelled kind n moves table goal given given index turns 0
 unfolding routeFrom
-travelled-start kind n moves table goal given turns h l =
-    record { is-stack = h; slots = l; within = omega arith; goes-on = λ wanted e. refl }
+travelled-start kind n moves table goal given index turns h i l =
+    record { is-stack = h; at = i; slots = l; within = omega arith; goes-on = λ wanted e. refl }
 
-module _ (kind n : ℕ) {moves table : List ℕ} {goal : ℕ} {given stack : List ℤ} {turns : List ℕ} {taken : ℕ}
-    (t : Travelled kind n moves table goal given stack turns taken) where
+module _ (kind n : ℕ) {moves table : List ℕ} {goal : ℕ} {given stack : List ℤ} {index : ℕ} {turns : List ℕ} {taken : ℕ}
+    (t : Travelled kind n moves table goal given stack index turns taken) where
   pub travelled-length : length (take taken turns) ≡ taken
   travelled-length = length-take-le taken turns (omega (arith, t .slots, t .within))
 
@@ -196,8 +150,8 @@ module _ (kind n : ℕ) {moves table : List ℕ} {goal : ℕ} {given stack : Lis
         → routeAt stack turns taken ≡ routeFrom kind n table wanted moves given
     stays h = sym (run-stays kind n table wanted moves (planLimit - taken) (routeAt stack turns taken) h) ∙ t .goes-on wanted g
 
-    pub travelled-arrived : (index : ℕ) → index ≡ rankOf kind n stack → index ≡ goal → routeAt stack turns taken ≡ routeFrom kind n table wanted moves given
-    travelled-arrived index i h = stays (step-arrived kind n table (routeAt stack turns taken) wanted moves (sym i ∙ h ∙ g))
+    pub travelled-arrived : index ≡ goal → routeAt stack turns taken ≡ routeFrom kind n table wanted moves given
+    travelled-arrived h = stays (step-arrived kind n table (routeAt stack turns taken) wanted moves (sym (t .at) ∙ h ∙ g))
 
     pub travelled-end : planLimit ≤ taken → routeAt stack turns taken ≡ routeFrom kind n table wanted moves given
     unfolding planRun
@@ -206,20 +160,18 @@ module _ (kind n : ℕ) {moves table : List ℕ} {goal : ℕ} {given stack : Lis
         ap (λ (m : ℕ). planRun kind n table wanted moves m (routeAt stack turns taken)) e ∙ t .goes-on wanted g
 
   -- the move that is found from here, by the entries of this stack
-  module _ (laws : Moves kind n moves) (index k : ℕ) (i : index ≡ rankOf kind n stack) (h : index ≡ goal → ⊥)
-      (e : k ≡ firstTo kind n table stack (nearer kind n table stack) moves) where
+  module _ (laws : Moves kind n moves) (k : ℕ) (h : index ≡ goal → ⊥) (e : k ≡ turnTo kind n table stack (nearerEntry kind n table stack) moves) where
     pub travelled-stuck : k ≡ 0 → (wanted : List ℤ) → goal ≡ rankOf kind n wanted → routeAt stack turns taken ≡ routeFrom kind n table wanted moves given
     travelled-stuck z wanted g =
         let here : Route = routeAt stack turns taken in
-        stays wanted g
-        (step-on kind n table here wanted moves (λ q. h (i ∙ q ∙ sym g))
-        ∙ follow-none kind n table here moves (λ m. omega (arith, turn-first kind n 0 (laws .turns 0 m), first-pos kind)) (sym z ∙ e))
+        stays wanted g (step-on kind n table here wanted moves (λ q. h (t .at ∙ q ∙ sym g)) ∙ follow-none kind n table moves here (sym z ∙ e))
 
     pub travelled-step : isPaneCount kind n ≡ true → taken < planLimit → (k ≡ 0 → ⊥) → (child : List ℤ) → child ≡ turnOf kind k stack
-        → Travelled kind n moves table goal given child (set turns taken k) (taken + 1)
-    travelled-step in-range l z child c =
+        → (next : ℕ) → next ≡ rankOf kind n (turnOf kind k stack) → Travelled kind n moves table goal given child next (set turns taken k) (taken + 1)
+    travelled-step in-range l z child c next i =
         record {
-          is-stack = rw c (moved-stack kind n in-range laws k stack (first-move kind n table stack (nearer kind n table stack) moves k e z) (t .is-stack));
+          is-stack = rw c (moved-stack kind n in-range laws k stack (turn-taken kind n table stack (nearerEntry kind n table stack) moves k e z .0) (t .is-stack));
+          at = rw c i;
           slots = length-set turns taken k ∙ t .slots;
           within = omega arith;
           goes-on = λ wanted g. onward-is wanted g ∙ t .goes-on wanted g;
@@ -236,4 +188,4 @@ module _ (kind n : ℕ) {moves table : List ℕ} {goal : ℕ} {given stack : Lis
             (sym
             (run-steps kind n table wanted moves (planLimit - taken) before (omega arith)
             ∙ ap (planRun kind n table wanted moves (planLimit - taken - 1))
-            (step-on kind n table before wanted moves (λ q. h (i ∙ q ∙ sym g)) ∙ follow-found kind n table before moves k e z)))
+            (step-on kind n table before wanted moves (λ q. h (t .at ∙ q ∙ sym g)) ∙ follow-turn kind n table moves before k e z)))

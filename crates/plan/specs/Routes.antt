@@ -1,20 +1,15 @@
 -- Routes as the code makes them, as the helpers' contracts speak of them.
 use mathlib.Core.Path.{_≡_}
-use mathlib.Core.Bool.{true, cond}
-use mathlib.Core.List.{List, [], _∷_}
+use mathlib.Core.Bool.{true}
+use mathlib.Core.List.{List}
 use Prim.Native.Nat.{ℕ}
 use lib.IntN.{ℤ}
 use lib.ListN.{length, take}
 use Rattle.stacks.specs.Index.{rankOf}
 use Rattle.stacks.specs.Stack.{isPaneCount, isStack, stackCount}
 use Rattle.search.specs.Entries.{bytesFor}
-use Rattle.search.specs.Plan.{Route, leadsTo}
+use Rattle.search.specs.Plan.{Route}
 use Rattle.plan.specs.declared.route.Route as declared
-
--- the first turn of the list that leads from s to a child with entry v, 0 where none does
-unfoldable pub firstTo : ℕ → ℕ → List ℕ → List ℤ → ℕ → List ℕ → ℕ
-firstTo kind n table s v [] = 0
-firstTo kind n table s v (k ∷ ks) = cond (leadsTo kind n table s v k) k (firstTo kind n table s v ks)
 
 -- the route that the code's stands for: its list of turns is as long as there are turns
 abbrev pub routeOf : declared.Route → Route

@@ -2,12 +2,13 @@
 ghost use mathlib.Core.Bool.{true};
 ghost use mathlib.Core.Path.{_≡_};
 ghost use lib.ListN.{length};
+ghost use Rattle.stacks.specs.Index.{rankOf};
 ghost use Rattle.stacks.specs.Stack.{isPaneCount, isStack, stackCount};
-ghost use Rattle.stacks.specs.Turn.{turnsIn};
+ghost use Rattle.stacks.specs.Turn.{turnsIn, turnOf};
 ghost use Rattle.search.specs.Entries.{bytesFor};
-ghost use Rattle.search.specs.Plan.{entryOf, routeFrom};
+ghost use Rattle.search.specs.Plan.{entryOf, turnTo, routeFrom};
 ghost use Rattle.perm.specs.Moves.{listOf, MovesFit};
-ghost use Rattle.plan.specs.Routes.{firstTo, routeOf, StandsAt, LeadsFrom};
+ghost use Rattle.plan.specs.Routes.{routeOf, StandsAt, LeadsFrom};
 use perm::groups;
 use perm::groups::Moves;
 use perm::numbering;
@@ -23,6 +24,12 @@ pub struct Route {
     pub taken: usize,
 }
 
+// A step of a route: its turn, and the index of the stack that it leads to.
+pub struct Step {
+    pub k: u8,
+    pub index: u32,
+}
+
 pub(crate) fn entry_of(kind: u8, n: u8, stack: [i8; PLACES], table: &[u8]) -> u8
     requires { ⌜ (isPaneCount kind n ≡ true) × (isStack kind n stack ≡ true) × (length (now table) ≡ bytesFor (stackCount kind n)) ⌝ }
     ensures { λ r. ⌜ r ≡ entryOf kind n (now (table .entry)) stack ⌝ }
@@ -31,7 +38,8 @@ pub(crate) fn entry_of(kind: u8, n: u8, stack: [i8; PLACES], table: &[u8]) -> u8
     entry::get_entry(table, index)
 }
 
-// The first move that leads from the stack at an index to a child with entry v, 0 where none does. Moves rise, so it is the smallest.
+// The first move that leads from the stack at an index to a child with entry v. Moves rise, so it is the smallest. Turn 0, which leads to the
+// stack itself, where none does.
 fn turn_to(
     kind: u8,
     n: u8,
@@ -40,9 +48,9 @@ fn turn_to(
     index: u32,
     v: u8,
     table: &[u8],
-) -> u8
+) -> Step
     requires { ⌜ (MovesFit kind n moves) × (StandsAt kind n stack index (now table)) ⌝ }
-    ensures { λ r. ⌜ r ≡ firstTo kind n (now (table .entry)) stack v (listOf moves) ⌝ }
+    ensures { λ r. ⌜ (r .k ≡ turnTo kind n (now (table .entry)) stack v (listOf moves)) × (r .index ≡ rankOf kind n (turnOf kind (r .k) stack)) ⌝ }
 {
     let turns = moves.turns;
     let count = moves.count;
@@ -51,11 +59,11 @@ fn turn_to(
         let k = turns[i as usize];
         let child = numbering::rank_turned(kind, n, &stack, index, k);
         if entry::get_entry(table, child) == v {
-            return k;
+            return Step { k, index: child };
         }
         i += 1;
     }
-    0
+    Step { k: 0, index }
 }
 
 // The route from the given stack by turns of the set: it ends at the wanted stack, at a stack from which none leads one nearer, or after as
@@ -74,10 +82,10 @@ pub(crate) fn route_from(
     let moves = groups::moves_in(kind, n, groups);
     let goal = numbering::rank(kind, n, wanted);
     let mut stack = given;
+    let mut index = numbering::rank(kind, n, given);
     let mut turns = [0u8; PLAN_LIMIT];
     let mut taken: usize = 0;
     while taken < PLAN_LIMIT {
-        let index = numbering::rank(kind, n, stack);
         let v = entry::get_entry(table, index);
         if index == goal {
             return Route {
@@ -87,7 +95,8 @@ pub(crate) fn route_from(
             };
         }
         let nearer = entry::next_entry(entry::next_entry(v));
-        let k = turn_to(kind, n, moves, stack, index, nearer, table);
+        let step = turn_to(kind, n, moves, stack, index, nearer, table);
+        let k = step.k;
         if k == 0 {
             return Route {
                 stack,
@@ -97,6 +106,7 @@ pub(crate) fn route_from(
         }
         let child = turning::turned(kind, n, stack, k);
         stack = child;
+        index = step.index;
         turns[taken] = k;
         taken += 1;
     }

@@ -10,7 +10,7 @@ use lib.IntN.{ℤ}
 use lib.ListN.{length, length-append}
 use borrow.Author.Tests.{leb-true, le-leb, eqb-true, eq-eqb, ne-eqb}
 use Rattle.base.specs.Words.{unless, all}
-use Rattle.base.proofs.Tests.{unless-zero, and-right, and-both, test-cases, never}
+use Rattle.base.proofs.Tests.{unless-zero, and-right, and-both, eq-or-ne, never}
 use Rattle.graph.specs.Walks.{isMove}
 use Rattle.graph.proofs.Moves.{isMove-cases, isMove-first, isMove-rest}
 use Rattle.graph.proofs.Depths.{Depths, nearer-label}
@@ -19,9 +19,10 @@ use Rattle.stacks.specs.Index.{rankOf}
 use Rattle.stacks.specs.Turn.{isGroupSet, turnsIn, turnOf, turnsFrom, RoadBy, FewestBy}
 use Rattle.stacks.specs.Operations.{kindRefusal}
 use Rattle.stacks.proofs.Numbering.{rank-lt, rank-injective}
+use Rattle.stacks.proofs.TurnLaws.{turn-first, first-pos}
 use Rattle.stacks.proofs.Roads.{road-none, road-append}
 use Rattle.search.specs.Entries.{bytesFor, entryAt, unseen, nextEntry}
-use Rattle.search.specs.Plan.{planLimit, Route, entryOf, leadsTo, follow, isWanted, planStep, planRun, routeFrom, hasPlan, planRow, planRefusal}
+use Rattle.search.specs.Plan.{planLimit, Route, entryOf, leadsTo, turnTo, nearerEntry, follow, isWanted, planStep, planRun, routeFrom, hasPlan, planRow, planRefusal}
 use Rattle.search.proofs.Turning.{childAt, Moves, child-rank, moved-stack, moves-stack}
 use Rattle.search.proofs.Fewest.{depth, move-depths, depth-fewest}
 
@@ -143,15 +144,59 @@ module _ (kind n : ℕ) (wanted given : List ℤ) (groups : ℕ) (table : List �
       go true false k = k
       go false b k = k
 
+-- ---- the turn that leads to an entry. Lengths and arrival rest on these two laws, whichever of the turns that lead there is taken.
+
+module _ (kind n : ℕ) (table : List ℕ) (s : List ℤ) (v : ℕ) where
+  -- what is taken is a move, and it leads there
+  pub turn-taken : (moves : List ℕ) (k : ℕ) → k ≡ turnTo kind n table s v moves → (k ≡ 0 → ⊥)
+      → (isMove moves k ≡ true) × (leadsTo kind n table s v k ≡ true)
+  unfolding turnTo
+  turn-taken [] k e h = absurd (h e)
+  turn-taken (j ∷ ks) k e h = go (leadsTo kind n table s v j) refl (λ q. turn-taken ks k q h) e
+    where
+      rest : ℕ
+      rest = turnTo kind n table s v ks
+
+      go : (t : Bool) → leadsTo kind n table s v j ≡ t → (k ≡ rest → (isMove ks k ≡ true) × (leadsTo kind n table s v k ≡ true))
+          → k ≡ cond t j rest → (isMove (j ∷ ks) k ≡ true) × (leadsTo kind n table s v k ≡ true)
+      go true l f q = rw q (isMove-first j ks, l)
+      go false l f q = let r = f q in (isMove-rest j ks k (r .0), r .1)
+
+  -- one is taken where some move leads there, as 0 is no move
+  turn-there : (moves : List ℕ) (j : ℕ) → (isMove moves 0 ≡ true → ⊥) → isMove moves j ≡ true → leadsTo kind n table s v j ≡ true
+      → turnTo kind n table s v moves ≡ 0 → ⊥
+  unfolding turnTo isMove
+  turn-there [] j none m l e = absurd (false≢true m)
+  turn-there (k ∷ ks) j none m l e =
+      go (leadsTo kind n table s v k) refl (isMove-cases k ks j m) (λ i. turn-there ks j (λ z. none (isMove-rest k ks 0 z)) i l) e
+    where
+      rest : ℕ
+      rest = turnTo kind n table s v ks
+
+      go : (t : Bool) → leadsTo kind n table s v k ≡ t → (j ≡ k) ⊎ (isMove ks j ≡ true) → (isMove ks j ≡ true → rest ≡ 0 → ⊥) → cond t k rest ≡ 0 → ⊥
+      go true q i f z = none (subst (λ (x : ℕ). isMove (k ∷ ks) x ≡ true) z (isMove-first k ks))
+      go false q (inl i) f z = never (ap (leadsTo kind n table s v) (sym i) ∙ l) q
+      go false q (inr i) f z = f i z
+
 -- ---- a plan in the making, whatever the table holds
 
 -- the route with one more turn
 abbrev onward : ℕ → ℕ → Route → Route
 onward kind k route = record { stack = turnOf kind k (route .stack); turns = route .turns ++ (k ∷ []) }
 
--- turn k leads from s to a child whose entry is one nearer
-abbrev leadsOn : ℕ → ℕ → List ℕ → List ℤ → ℕ → Bool
-leadsOn kind n table s k = leadsTo kind n table s (nextEntry (nextEntry (entryOf kind n table s))) k
+module _ (kind n : ℕ) (table moves : List ℕ) (route : Route) where
+  -- the turn that is taken from here
+  abbrev turnNearer : ℕ
+  turnNearer = turnTo kind n table (route .stack) (nearerEntry kind n table (route .stack)) moves
+
+  -- it is followed, and where none is taken the route stays
+  pub follow-turn : (k : ℕ) → k ≡ turnNearer → (k ≡ 0 → ⊥) → follow kind n table moves route ≡ onward kind k route
+  unfolding follow
+  follow-turn k e h = rw (← e, ne-eqb k 0 h)
+
+  pub follow-none : 0 ≡ turnNearer → follow kind n table moves route ≡ route
+  unfolding follow
+  follow-none e = rw (← e)
 
 -- a route from the given stack, of at most m moves
 abbrev pub RouteWithin : ℕ → List ℕ → List ℤ → ℕ → Route → Type 0
@@ -164,17 +209,21 @@ module _ (kind n : ℕ) (moves table : List ℕ) (wanted given : List ℤ) where
   onward-within k m route t u =
       (road-append (u .0) (record { turns = and-both (isMove moves k) true t refl; arrives = refl }), rw length-append (omega (arith, u .1)))
 
-  follow-within : (ks : List ℕ) (m : ℕ) (route : Route) → ((k : ℕ) → isMove ks k ≡ true → isMove moves k ≡ true)
-      → RouteWithin kind moves given m route → RouteWithin kind moves given (suc m) (follow kind n table ks route)
-  unfolding follow
-  follow-within [] m route t u = (u .0, omega (arith, u .1))
-  follow-within (k ∷ ks) m route t u =
-      go (leadsOn kind n table (route .stack) k) (follow-within ks m route (λ j i. t j (isMove-rest k ks j i)) u)
+  follow-within : (m : ℕ) (route : Route) → RouteWithin kind moves given m route
+      → RouteWithin kind moves given (suc m) (follow kind n table moves route)
+  follow-within m route u = go (eq-or-ne k 0)
     where
-      go : (b : Bool) → RouteWithin kind moves given (suc m) (follow kind n table ks route)
-          → RouteWithin kind moves given (suc m) (cond b (onward kind k route) (follow kind n table ks route))
-      go true r = onward-within k m route (t k (isMove-first k ks)) u
-      go false r = r
+      s : List ℤ
+      s = route .stack
+
+      k : ℕ
+      k = turnNearer kind n table moves route
+
+      go : (k ≡ 0) ⊎ (k ≡ 0 → ⊥) → RouteWithin kind moves given (suc m) (follow kind n table moves route)
+      go (inl e) = rw (follow-none kind n table moves route (sym e)) (u .0, omega (arith, u .1))
+      go (inr h) =
+          rw (follow-turn kind n table moves route k refl h)
+          (onward-within k m route (turn-taken kind n table s (nearerEntry kind n table s) moves k refl h .0) u)
 
   step-within : (m : ℕ) (route : Route) → RouteWithin kind moves given m route
       → RouteWithin kind moves given (suc m) (planStep kind n table wanted moves route)
@@ -183,7 +232,7 @@ module _ (kind n : ℕ) (moves table : List ℕ) (wanted given : List ℤ) where
     where
       go : (b : Bool) → RouteWithin kind moves given (suc m) (cond b route (follow kind n table moves route))
       go true = (u .0, omega (arith, u .1))
-      go false = follow-within moves m route (λ k i. i) u
+      go false = follow-within m route u
 
   run-within : (left m : ℕ) (route : Route) → RouteWithin kind moves given m route
       → RouteWithin kind moves given (left + m) (planRun kind n table wanted moves left route)
@@ -216,32 +265,6 @@ route-arrives kind n {moves} table wanted given in-range laws goal start plan =
 
 -- ---- over a right table
 
--- where some turn of the list leads on, the first that does is followed
-follow-first : (kind n : ℕ) (table : List ℕ) (ks : List ℕ) (route : Route) (j : ℕ) → isMove ks j ≡ true
-    → leadsOn kind n table (route .stack) j ≡ true
-    → (k : ℕ) × (isMove ks k ≡ true) × (leadsOn kind n table (route .stack) k ≡ true) × (follow kind n table ks route ≡ onward kind k route)
-unfolding follow isMove
-follow-first kind n table [] route j m l = absurd (false≢true m)
-follow-first kind n table (k ∷ ks) route j m l =
-    go (test-cases (leads k)) (isMove-cases k ks j m) (λ i. follow-first kind n table ks route j i l)
-  where
-    leads : ℕ → Bool
-    leads = leadsOn kind n table (route .stack)
-
-    go : (leads k ≡ true) ⊎ (leads k ≡ false) → (j ≡ k) ⊎ (isMove ks j ≡ true)
-        → (isMove ks j ≡ true → (i : ℕ) × (isMove ks i ≡ true) × (leads i ≡ true) × (follow kind n table ks route ≡ onward kind i route))
-        → (i : ℕ) × (isMove (k ∷ ks) i ≡ true) × (leads i ≡ true)
-        × (cond (leads k) (onward kind k route) (follow kind n table ks route) ≡ onward kind i route)
-    go (inl e) i rest = (k, isMove-first k ks, e, ap (λ (b : Bool). cond b (onward kind k route) (follow kind n table ks route)) e)
-    go (inr e) (inl i) rest = never (sym (ap leads i) ∙ l) e
-    go (inr e) (inr i) rest =
-        let r = rest i in (
-          r .0,
-          isMove-rest k ks (r .0) (r .1),
-          r .2,
-          ap (λ (b : Bool). cond b (onward kind k route) (follow kind n table ks route)) e ∙ r .3,
-        )
-
 -- each entry of a stack that has a road is the fewest moves modulo 3
 abbrev pub RightTable : ℕ → ℕ → List ℕ → List ℤ → ℕ → List ℕ → Type 0
 RightTable kind n moves wanted b table =
@@ -267,22 +290,22 @@ module _ (kind n : ℕ) (wanted : List ℤ) (b : ℕ) (table : List ℕ) (in-ran
       child-near k m = omega (arith, depths .grows k (rankOf kind n s) m (rank-lt kind n s in-range stack), child-far k)
 
       -- a move leads on just where it leads one nearer
-      leads-nearer : (k : ℕ) → isMove moves k ≡ true → leadsOn kind n table s k ≡ true → suc (far (turnOf kind k s)) ≡ far s
-      unfolding leadsTo entryOf nextEntry
+      leads-nearer : (k : ℕ) → isMove moves k ≡ true → leadsTo kind n table s (nearerEntry kind n table s) k ≡ true → suc (far (turnOf kind k s)) ≡ far s
+      unfolding leadsTo nearerEntry entryOf nextEntry
       leads-nearer k m l =
-          let e = eqb-true (entryOf kind n table (turnOf kind k s)) (nextEntry (nextEntry (entryOf kind n table s))) l in
+          let e = eqb-true (entryOf kind n table (turnOf kind k s)) (nearerEntry kind n table s) l in
           let c = child-far k in
           let here = right s stack (omega arith) in
           let there = right (turnOf kind k s) (moved-stack kind n in-range laws k s m stack) (child-near k m) in
           let nearer = nearer-label depths k (rankOf kind n s) m (rank-lt kind n s in-range stack) (omega arith) in
           omega arith
 
-      nearer-leads : (k : ℕ) → isMove moves k ≡ true → suc (far (turnOf kind k s)) ≡ far s → leadsOn kind n table s k ≡ true
-      unfolding leadsTo entryOf nextEntry
+      nearer-leads : (k : ℕ) → isMove moves k ≡ true → suc (far (turnOf kind k s)) ≡ far s → leadsTo kind n table s (nearerEntry kind n table s) k ≡ true
+      unfolding leadsTo nearerEntry entryOf nextEntry
       nearer-leads k m e =
           let here = right s stack (omega arith) in
           let there = right (turnOf kind k s) (moved-stack kind n in-range laws k s m stack) (child-near k m) in
-          eq-eqb (entryOf kind n table (turnOf kind k s)) (nextEntry (nextEntry (entryOf kind n table s))) (omega arith)
+          eq-eqb (entryOf kind n table (turnOf kind k s)) (nearerEntry kind n table s) (omega arith)
 
       -- some move leads nearer, unless the stack is the wanted one
       nearer-move : 0 < far s → (k : ℕ) × (isMove moves k ≡ true) × (suc (far (turnOf kind k s)) ≡ far s)
@@ -311,18 +334,21 @@ module _ (kind n : ℕ) (wanted : List ℤ) (b : ℕ) (table : List ℕ) (in-ran
       s : List ℤ
       s = route .stack
 
-      next : Route
-      next = follow kind n table moves route
+      near-entry : ℕ
+      near-entry = nearerEntry kind n table s
 
-      go : (t : Bool) → isWanted kind n table wanted s ≡ t → Nearer 1 route (cond t route next)
+      go : (t : Bool) → isWanted kind n table wanted s ≡ t → Nearer 1 route (cond t route (follow kind n table moves route))
       go true e = (stack, omega (arith, wanted-near s stack e), refl)
       go false e =
           let away : far s ≡ 0 → ⊥ = λ z. never (near-wanted s stack z) e in
           let c = nearer-move s stack near (omega arith) in
-          let f = follow-first kind n table moves route (c .0) (c .1) (nearer-leads s stack near (c .0) (c .1) (c .2)) in
-          let nearer = leads-nearer s stack near (f .0) (f .1) (f .2) in
-          subst (Nearer 1 route) (sym (f .3))
-          (moved-stack kind n in-range laws (f .0) s (f .1) stack, omega arith, omega (arith, length-append (route .turns) (f .0 ∷ [])))
+          let none : isMove moves 0 ≡ true → ⊥ = λ m. omega (arith, turn-first kind n 0 (laws .turns 0 m), first-pos kind) in
+          let k : ℕ = turnNearer kind n table moves route in
+          let some : k ≡ 0 → ⊥ = turn-there kind n table s near-entry moves (c .0) none (c .1) (nearer-leads s stack near (c .0) (c .1) (c .2)) in
+          let t = turn-taken kind n table s near-entry moves k refl some in
+          let nearer = leads-nearer s stack near k (t .0) (t .1) in
+          subst (Nearer 1 route) (sym (follow-turn kind n table moves route k refl some))
+          (moved-stack kind n in-range laws k s (t .0) stack, omega arith, omega (arith, length-append (route .turns) (k ∷ [])))
 
   run-nearer : (left : ℕ) (route : Route) → isStack kind n (route .stack) ≡ true → far (route .stack) ≤ planLimit
       → Nearer left route (planRun kind n table wanted moves left route)

@@ -1,7 +1,7 @@
 -- Plan: what it leaves in the turn list, and its answer.
 use mathlib.Core.Bool.{Bool, not, _&&_, cond}
 use mathlib.Core.List.{List, [], _∷_, _++_}
-use Prim.Native.Nat.{ℕ, zero, suc, _+_}
+use Prim.Native.Nat.{ℕ, zero, suc}
 use lib.Dec.{leb, eqb}
 use lib.IntN.{ℤ}
 use lib.ListN.{length, drop}
@@ -31,21 +31,28 @@ module _ (kind n : ℕ) (table : List ℕ) where
   unfoldable pub leadsTo : List ℤ → ℕ → ℕ → Bool
   leadsTo s v k = eqb (entryOf (turnOf kind k s)) v
 
-  -- the route with the first turn of the list that leads one nearer, unchanged where none does
+  -- the first turn of the list that leads from s to a child with entry v, 0 where none does
+  unfoldable pub turnTo : List ℤ → ℕ → List ℕ → ℕ
+  turnTo s v [] = 0
+  turnTo s v (k ∷ ks) = cond (leadsTo s v k) k (turnTo s v ks)
+
+  -- the entry of the stacks that are one nearer than s: (v + 2) mod 3 where that of s is v
+  unfoldable pub nearerEntry : List ℤ → ℕ
+  nearerEntry s = nextEntry (nextEntry (entryOf s))
+
+  -- the route with the turn that leads one nearer, unchanged where none does
   unfoldable pub follow : List ℕ → Route → Route
-  follow [] route = route
-  follow (k ∷ ks) route =
+  follow moves route =
       let s = route .stack in
-      cond (leadsTo s (nextEntry (nextEntry (entryOf s))) k)
-      (record { stack = turnOf kind k s; turns = route .turns ++ (k ∷ []) })
-      (follow ks route)
+      let k = turnTo s (nearerEntry s) moves in
+      cond (eqb k 0) route (record { stack = turnOf kind k s; turns = route .turns ++ (k ∷ []) })
 
   module _ (wanted : List ℤ) where
     unfoldable pub isWanted : List ℤ → Bool
     isWanted s = eqb (rankOf kind n s) (rankOf kind n wanted)
 
     module _ (moves : List ℕ) where
-      -- it ends at the wanted stack; before it, the first move whose child has entry (v + 2) mod 3
+      -- it ends at the wanted stack
       unfoldable pub planStep : Route → Route
       planStep route = cond (isWanted (route .stack)) route (follow moves route)
 

@@ -108,7 +108,7 @@ unfolding Plan.planRow Plan.planRefusal Plan.hasPlan Plan.planOf
 plans = tt
 
 routes : Unit {0}
-unfolding Plan.entryOf Plan.leadsTo Plan.follow Plan.isWanted Plan.planStep Plan.planRun Plan.routeFrom
+unfolding Plan.entryOf Plan.leadsTo Plan.turnTo Plan.nearerEntry Plan.follow Plan.isWanted Plan.planStep Plan.planRun Plan.routeFrom
 routes = tt
 
 builds : Unit {0}

@@ -10,17 +10,17 @@ use lib.Seq.{length-take-le, getD-take}
 use Rattle.base.specs.Words.{all}
 use Rattle.stacks.specs.Turn.{isTurn}
 use Rattle.stacks.proofs.TurnLaws.{turn-stack}
+use Rattle.search.specs.Plan.{turnTo}
 use Rattle.perm.specs.Moves.{mostMoves}
 use Rattle.perm.proofs.Sizes.{move-low}
-use Rattle.plan.specs.Routes.{firstTo}
-use Rattle.plan.proofs.Routes.{entry-inside, tried-all, tried-hit, tried-miss}
+use Rattle.plan.proofs.Routes.{entry-inside, no-turn, tried-all, tried-hit, tried-miss}
 use Rattle.plan.proofs.route.turn_to.Statement.{statement}
 use Rattle.plan.proofs.route.turn_to.Tie as tie
 
 abbrev Inv-loop : tie.InvT-loop
 Inv-loop kind n index v table stack turns count i₀ i =
     (length turns ≡ mostMoves) × (count ≤ mostMoves) × (i ≤ count) × (all (isTurn kind n) (take count turns) ≡ true)
-    × (firstTo kind n table stack v (drop i (take count turns)) ≡ firstTo kind n table stack v (take count turns))
+    × (turnTo kind n table stack v (drop i (take count turns)) ≡ turnTo kind n table stack v (take count turns))
 
 abbrev μ-loop : tie.MeasureT-loop
 μ-loop kind n index v table stack turns count i₀ i = count - i
@@ -58,9 +58,12 @@ returns c =
     let s = l .before .before .before .args in
     let count = s .moves .count in
     let ks : List ℕ = take count (s .moves .turns) in
-    tried-hit (s .kind) (s .n) (s .table .now) (s .t4) (s .v) ks (l .loop .i) (l .loop .inv .4)
-    (omega (arith, length-take-le count (s .moves .turns) (omega arith))) _ (sym (getD-take count (s .moves .turns) (l .loop .i) 0 (omega arith)))
-    (c .before .before .rank-turned .result) (c .before .before .rank-turned .ensures) (c .before .get-entry .result) (c .before .get-entry .ensures) (c .if1 .taken)
+    let child = c .before .before .rank-turned in (
+      tried-hit (s .kind) (s .n) (s .table .now) (s .t4) (s .v) ks (l .loop .i) (l .loop .inv .4)
+          (omega (arith, length-take-le count (s .moves .turns) (omega arith))) _ (sym (getD-take count (s .moves .turns) (l .loop .i) 0 (omega arith)))
+          (child .result) (child .ensures) (c .before .get-entry .result) (c .before .get-entry .ensures) (c .if1 .taken),
+      child .ensures,
+    )
 
 add-i : tie.Need-add-i Inv-loop μ-loop
 add-i c = omega arith
@@ -89,9 +92,11 @@ returns-2 c =
     let l = c .before in
     let s = l .before .before .before .args in
     let count = s .moves .count in
-    let ks : List ℕ = take count (s .moves .turns) in
-    tried-all (s .kind) (s .n) (s .table .now) (s .t4) (s .v) ks (l .loop .i) (l .loop .inv .4)
-    (omega (arith, length-take-le count (s .moves .turns) (omega arith)))
+    let ks : List ℕ = take count (s .moves .turns) in (
+      tried-all (s .kind) (s .n) (s .table .now) (s .t4) (s .v) ks (l .loop .i) (l .loop .inv .4)
+          (omega (arith, length-take-le count (s .moves .turns) (omega arith))),
+      no-turn (s .kind) (s .n) (s .t4) (s .index) (l .before .before .before .pre .1 .2),
+    )
 
 pub turn-to-spec : {M : Type 1} → statement M
 turn-to-spec =
