@@ -30,8 +30,8 @@
 extern "C" {
 #endif
 
-/* Rises with every change of a function, a struct or a number that is declared here. */
-#define HOKRUND_VERSION 3
+/* Rises with every change of a function, of what it does, of a struct or of a number that is declared here. */
+#define HOKRUND_VERSION 4
 
 /* Kinds: plain panes 1 to n, with n from 1 to 12; coated panes, minus for coat down, with n from 1 to 10. */
 #define HOKRUND_PLAIN 0
@@ -256,9 +256,10 @@ HokrundAnswer hokrund_build_table(uint8_t kind, uint8_t n, HokrundStack wanted, 
 HokrundEntry hokrund_read_entry(uint8_t kind, uint8_t n, const uint8_t *table, size_t length, uint32_t index);
 
 /* Plan: turns of the set that take the given stack to the wanted one come to the front of list, and turns is how many; the rest of list
- * stays. From the table of a finished build for the same wanted stack and set no list of turns of the set is shorter, no stack is refused 15,
- * and a stack is refused 20 where no list of turns of the set arrives; by the full set there is no such stack. From any other table of that
- * length an accepted plan still arrives by turns of the set, but need not be the shortest.
+ * stays. Where several turns of the set lead one nearer by the table, the largest is taken. From the table of a finished build for the same
+ * wanted stack and set no list of turns of the set is shorter, no stack is refused 15, and a stack is refused 20 where no list of turns of the
+ * set arrives; by the full set there is no such stack. From any other table of that length an accepted plan still arrives by turns of the set,
+ * but need not be the shortest.
  * Refused 1, 2, 3 for wanted, 3 for given, 21, 10 when length is not HOKRUND_TABLE_BYTES(N), 10 when slots is under HOKRUND_TURN_LIST, 20,
  * 15: the wanted stack's entry is not 0, no turn of the set leads nearer, or 254 do not suffice. */
 HokrundPlanned hokrund_plan(uint8_t kind, uint8_t n, HokrundStack wanted, HokrundStack given, uint32_t groups, const uint8_t *table,

@@ -290,12 +290,13 @@ static bool is_even(HokrundStack stack)
     return exchanges % 2 == 0;
 }
 
-/* The even orders have a road and the odd ones none. Counts and plan are those of a search over the orders themselves. */
+/* The even orders have a road and the odd ones none. Counts and plan are those of a search over the orders themselves, which takes the largest
+ * turn that leads one nearer. */
 static void even_orders(void)
 {
     static const unsigned long counts[] = {1, 3, 6, 12, 21, 33, 51, 78, 118, 180, 276, 423, 648, 990, 1489, 2255, 3370, 4951, 6972, 9573,
                                            12865, 16290, 19734, 22035, 21490, 19349, 16320, 11542, 6525, 2758, 939, 102, 26, 12, 3};
-    static const char turns[] = "4549454549549545495495454954954595";
+    static const char turns[] = "9595959545945459545959459545945959";
     static uint32_t nine_logs[NINE_WORDS];
     HokrundStack far = {{8, 6, 9, 7, 5, 2, 4, 1, 3}}, odd = {{2, 1, 3, 4, 5, 6, 7, 8, 9}};
     uint8_t list[HOKRUND_TURN_LIST];

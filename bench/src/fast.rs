@@ -331,7 +331,7 @@ fn plan<const COATED: bool>(
             let index = rank::<COATED>(n, &child);
             (entry_at(table, index) == nearer).then_some((k, child, index))
         };
-        let next = sizes[..count].iter().find_map(leads);
+        let next = sizes[..count].iter().rev().find_map(leads);
         let (Some((k, child, index)), true) = (next, len < MOST_TURNS) else { return Err(15) };
         turns[len] = k as u8;
         len += 1;

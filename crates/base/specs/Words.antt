@@ -4,13 +4,14 @@
 --   tally p xs         how many elements p holds of
 --   filter p xs        those elements, in their order
 --   total xs           the sum of a list
+--   largest xs         the largest number of a list, 0 of none
 --   fact n             n!
 --   from a n           the n numbers a, a + 1, ..
 --   firstFrom p a n    the first of them that passes a test, and a + n where none does
 --   without i xs       xs with the element at place i taken out
 use mathlib.Core.Bool.{Bool, true, false, _&&_, cond}
 use mathlib.Core.List.{List, [], _∷_, _++_}
-use Prim.Native.Nat.{ℕ, zero, suc, _+_, _*_}
+use Prim.Native.Nat.{ℕ, zero, suc, _+_, _*_, max}
 use lib.ListN.{take, drop}
 
 abbrev pub unless : Bool → ℕ → ℕ → ℕ
@@ -36,6 +37,10 @@ module _ {A : Type 0} where
 unfoldable pub total : List ℕ → ℕ
 total [] = 0
 total (x ∷ xs) = x + total xs
+
+unfoldable pub largest : List ℕ → ℕ
+largest [] = 0
+largest (x ∷ xs) = max x (largest xs)
 
 unfoldable pub fact : ℕ → ℕ
 fact zero = 1

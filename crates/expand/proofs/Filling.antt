@@ -1,7 +1,7 @@
 -- The children of a stack as an array is filled with them, turn by turn of a set that is halved.
 use mathlib.Core.Path.{_≡_, sym, ap, _∙_}
 use mathlib.Core.Bool.{true, false}
-use mathlib.Core.List.{List, [], _∷_, _++_, append-nil}
+use mathlib.Core.List.{List, [], _∷_, _++_}
 use Prim.Native.Nat.{ℕ, suc, _+_, _-_, _/_, _^_, _<_, _≤_}
 use native.Mathlib.Omega.{arith}
 use lib.IntN.{ℤ}
@@ -13,7 +13,7 @@ use Rattle.stacks.specs.Turn.{firstTurn, lastTurn, lifts, turnsIn, turnOf}
 use Rattle.search.specs.Expand.{childrenOf}
 use Rattle.search.proofs.Children.{children-length}
 use Rattle.perm.specs.Moves.{mostMoves}
-use Rattle.perm.proofs.Sizes.{namedTo, named-none, named-more, filter-named, filter-unnamed, named-rest}
+use Rattle.perm.proofs.Sizes.{namedTo, named-none, named-with, named-without, named-rest}
 
 module _ (kind n groups v : ℕ) where
   -- the turns below k that the set names, their children, and zeros after them
@@ -36,10 +36,7 @@ module _ (kind n groups v : ℕ) where
     -- the set names k, whose child is r
     module _ (yes : lifts groups k ≡ true) where
       one-more : named (k + 1) ≡ named k ++ (k ∷ [])
-      one-more = named-more groups (firstTurn kind) k h ∙ ap (λ (ks : List ℕ). named k ++ ks) (filter-named groups k yes)
-
-      pub taken-count : i + 1 ≡ length (named (k + 1))
-      taken-count = omega (arith, ap length one-more, length-append (named k) (k ∷ []))
+      one-more = named-with groups (firstTurn kind) k h yes
 
       pub filled-taken : (r : ℕ) (stack : List ℤ) → i < mostMoves → stack ≡ stackAt kind n v → r ≡ rankOf kind n (turnOf kind k stack)
           → set children i r ≡ filledTo (k + 1)
@@ -56,11 +53,7 @@ module _ (kind n groups v : ℕ) where
     -- it does not
     module _ (no-turn : lifts groups k ≡ false) where
       none-more : named (k + 1) ≡ named k
-      none-more =
-          named-more groups (firstTurn kind) k h ∙ ap (λ (ks : List ℕ). named k ++ ks) (filter-unnamed groups k no-turn) ∙ append-nil (named k)
-
-      pub left-count : i ≡ length (named (k + 1))
-      left-count = at ∙ ap length (sym none-more)
+      none-more = named-without groups (firstTurn kind) k h no-turn
 
       pub filled-left : children ≡ filledTo (k + 1)
       unfolding filledTo

@@ -41,7 +41,6 @@ fn scan_of(kind: u8, n: u8, groups: u32, size: u32, room: u32, level: u8, j: u32
     ensures { λ r. ⌜ r ≡ scanFor kind n groups size room level j ⌝ }
 {
     let from = (level - 1) % 3;
-    let moves = groups::moves_in(kind, n, groups);
     Scan {
         kind,
         n,
@@ -49,7 +48,7 @@ fn scan_of(kind: u8, n: u8, groups: u32, size: u32, room: u32, level: u8, j: u32
         size,
         room,
         segments: geometry::segment_count_of(kind, n, size),
-        turns: moves.count,
+        turns: groups::turn_count(kind, n, groups),
         j,
         level,
         from,

@@ -1,15 +1,15 @@
 -- Laws of `isMove`: which numbers a list of moves holds.
-use mathlib.Core.Path.{_≡_, refl, sym, ap, subst}
+use mathlib.Core.Path.{_≡_, refl, sym, ap, _∙_, subst}
 use mathlib.Core.Logic.{_⊎_, inl, inr}
-use mathlib.Core.Bool.{Bool, true, false, _||_, cond, false≢true}
+use mathlib.Core.Bool.{Bool, true, false, _&&_, _||_, cond, false≢true}
 use mathlib.Core.List.{List, [], _∷_}
-use Prim.Native.Nat.{ℕ, zero, suc, _+_, _<_, _≤_}
+use Prim.Native.Nat.{ℕ, zero, suc, _+_, _<_, _≤_, max}
 use native.Mathlib.Omega.{arith}
 use lib.Dec.{eqb}
 use lib.ListN.{length, getD}
 use borrow.Author.Tests.{eqb-true, eq-eqb}
-use Rattle.base.specs.Words.{filter, from}
-use Rattle.base.proofs.Tests.{eq-or-ne}
+use Rattle.base.specs.Words.{filter, largest, from}
+use Rattle.base.proofs.Tests.{and-fails-right, lt-or-ge, eq-or-ne}
 use Rattle.graph.specs.Walks.{isMove}
 
 -- a move of a longer list is its first, or one of the rest
@@ -69,16 +69,46 @@ from-isMove a (suc n) k l h = go (λ i. from-isMove (suc a) n k i (omega arith))
     go rest (inl e) = subst (λ (x : ℕ). isMove (a ∷ from (suc a) n) x ≡ true) (sym e) (isMove-first a (from (suc a) n))
     go rest (inr e) = isMove-rest a (from (suc a) n) k (rest (omega arith))
 
--- what is left of a list of moves is a move of it
-pub filter-move : (p : ℕ → Bool) (ms : List ℕ) (k : ℕ) → isMove (filter p ms) k ≡ true → isMove ms k ≡ true
+-- what is left of a list of moves are those that pass the test
+pub isMove-filter : (p : ℕ → Bool) (ms : List ℕ) (k : ℕ) → isMove (filter p ms) k ≡ (isMove ms k && p k)
 unfolding filter isMove
-filter-move p [] k h = h
-filter-move p (m ∷ ms) k h = go (p m) (λ i. filter-move p ms k i) h
+isMove-filter p [] k = refl
+isMove-filter p (m ∷ ms) k = go (p m) refl (isMove-filter p ms k)
   where
-    left : (isMove (filter p ms) k ≡ true → isMove ms k ≡ true) → (k ≡ m) ⊎ (isMove (filter p ms) k ≡ true) → isMove (m ∷ ms) k ≡ true
-    left rest (inl e) = subst (λ (x : ℕ). isMove (m ∷ ms) x ≡ true) (sym e) (isMove-first m ms)
-    left rest (inr i) = isMove-rest m ms k (rest i)
+    rest : Type 0
+    rest = isMove (filter p ms) k ≡ (isMove ms k && p k)
 
-    go : (t : Bool) → (isMove (filter p ms) k ≡ true → isMove ms k ≡ true) → isMove (cond t (m ∷ filter p ms) (filter p ms)) k ≡ true → isMove (m ∷ ms) k ≡ true
-    go true rest i = left rest (isMove-cases m (filter p ms) k i)
-    go false rest i = isMove-rest m ms k (rest i)
+    kept : p m ≡ true → rest → (t : Bool) → eqb k m ≡ t → (t || isMove (filter p ms) k) ≡ ((t || isMove ms k) && p k)
+    kept e r true q = sym (ap p (eqb-true k m q) ∙ e)
+    kept e r false q = r
+
+    gone : p m ≡ false → rest → (t : Bool) → eqb k m ≡ t → isMove (filter p ms) k ≡ ((t || isMove ms k) && p k)
+    gone e r true q = let f = ap p (eqb-true k m q) ∙ e in r ∙ and-fails-right (isMove ms k) (p k) f ∙ sym f
+    gone e r false q = r
+
+    go : (t : Bool) → p m ≡ t → rest → isMove (cond t (m ∷ filter p ms) (filter p ms)) k ≡ ((eqb k m || isMove ms k) && p k)
+    go true e r = kept e r (eqb k m) refl
+    go false e r = gone e r (eqb k m) refl
+
+-- the largest move is a move, unless it is 0, and no move is larger
+pub largest-move : (ms : List ℕ) → (largest ms ≡ 0 → ⊥) → isMove ms (largest ms) ≡ true
+unfolding largest
+largest-move [] h = absurd (h refl)
+largest-move (m ∷ ms) h = go (largest-move ms) (lt-or-ge m (largest ms))
+  where
+    go : ((largest ms ≡ 0 → ⊥) → isMove ms (largest ms) ≡ true) → (m < largest ms) ⊎ (largest ms ≤ m) → isMove (m ∷ ms) (max m (largest ms)) ≡ true
+    go rest (inl l) =
+        let e : largest ms ≡ max m (largest ms) = omega arith in
+        subst (λ (k : ℕ). isMove (m ∷ ms) k ≡ true) e (isMove-rest m ms (largest ms) (rest (λ z. omega arith)))
+    go rest (inr l) =
+        let e : m ≡ max m (largest ms) = omega arith in
+        subst (λ (k : ℕ). isMove (m ∷ ms) k ≡ true) e (isMove-first m ms)
+
+pub move-largest : (ms : List ℕ) (k : ℕ) → isMove ms k ≡ true → k ≤ largest ms
+unfolding largest isMove
+move-largest [] k h = absurd (false≢true h)
+move-largest (m ∷ ms) k h = go (λ i. move-largest ms k i) (isMove-cases m ms k h)
+  where
+    go : (isMove ms k ≡ true → k ≤ largest ms) → (k ≡ m) ⊎ (isMove ms k ≡ true) → k ≤ max m (largest ms)
+    go rest (inl e) = omega arith
+    go rest (inr i) = omega (arith, rest i)

@@ -4,12 +4,11 @@ use mathlib.Core.Logic.{_⊎_, inl, inr}
 use mathlib.Core.Bool.{Bool, true, false, not, _&&_, _||_, cond}
 use mathlib.Core.List.{List, [], _∷_, _++_, append-nil}
 use Prim.Native.Nat.{ℕ, zero, suc, _+_, _-_, _/_, _%_, _^_, _≤_, _<_}
-use native.Mathlib.Nat.{le-refl, pow-suc, mod-lt, div-div-eq-div-mul}
+use native.Mathlib.Nat.{pow-suc, mod-lt, div-div-eq-div-mul}
 use native.Mathlib.Numerals.{add-one}
 use native.Mathlib.Omega.{arith}
 use lib.Dec.{leb, eqb}
-use lib.ListN.{length, getD, take, set, length-set}
-use lib.Seq.{take-suc, take-set-le, getD-set-same, length-take-le, getD-take}
+use lib.ListN.{length, getD, length-append}
 use borrow.Author.Tests.{le-leb, lt-leb, eq-eqb, ne-eqb}
 use Rattle.base.specs.Words.{all, filter, from}
 use Rattle.base.proofs.Counting.{all-at}
@@ -75,34 +74,35 @@ turns-some kind n =
     go (inr h) =
         le-leb (firstTurn kind) (lastTurn kind n) h ∙ sym (ap not (ne-eqb (suc (lastTurn kind n) - firstTurn kind) 0 (λ e. omega arith)))
 
--- one more move
-pub moved-more : (turns : List ℕ) (count k : ℕ) → count < length turns → take (count + 1) (set turns count k) ≡ take count turns ++ (k ∷ [])
-moved-more turns count k h =
-    ap (λ (m : ℕ). take m (set turns count k)) (add-one count)
-    ∙ take-suc (set turns count k) count 0 (rw (length-set turns count k) h)
-    ∙ ap (λ (xs : List ℕ). xs ++ (getD (set turns count k) count 0 ∷ [])) (take-set-le count turns count k (le-refl count))
-    ∙ ap (λ (x : ℕ). take count turns ++ (x ∷ [])) (getD-set-same turns count k 0 h)
-
--- with or without k, as the set says
-pub filter-named : (groups k : ℕ) → lifts groups k ≡ true → filter (lifts groups) (k ∷ []) ≡ k ∷ []
-unfolding filter
-filter-named groups k h = rw h
-
-pub filter-unnamed : (groups k : ℕ) → lifts groups k ≡ false → filter (lifts groups) (k ∷ []) ≡ []
-unfolding filter
-filter-unnamed groups k h = rw h
-
 -- the turns up to k that a set names
 abbrev pub namedTo : ℕ → ℕ → ℕ → List ℕ
 namedTo groups first k = filter (lifts groups) (from first (k - first))
 
-pub named-more : (groups first k : ℕ) → first ≤ k → namedTo groups first (k + 1) ≡ namedTo groups first k ++ filter (lifts groups) (k ∷ [])
+named-more : (groups first k : ℕ) → first ≤ k → namedTo groups first (k + 1) ≡ namedTo groups first k ++ filter (lifts groups) (k ∷ [])
 named-more groups first k h =
     let e : k + 1 - first ≡ suc (k - first) = omega arith in
     let s : first + (k - first) ≡ k = omega arith in
     ap (λ (m : ℕ). filter (lifts groups) (from first m)) e
     ∙ ap (filter (lifts groups)) (from-more first (k - first) ∙ ap (λ (x : ℕ). from first (k - first) ++ (x ∷ [])) s)
     ∙ filter-append (lifts groups) (from first (k - first)) (k ∷ [])
+
+-- with or without k, as the set says, and so they are one more or as many
+module _ (groups first k : ℕ) (h : first ≤ k) where
+  module _ (named : lifts groups k ≡ true) where
+    pub named-with : namedTo groups first (k + 1) ≡ namedTo groups first k ++ (k ∷ [])
+    unfolding filter
+    named-with = named-more groups first k h ∙ rw named
+
+    pub count-with : (i : ℕ) → i ≡ length (namedTo groups first k) → i + 1 ≡ length (namedTo groups first (k + 1))
+    count-with i e = omega (arith, ap length named-with, length-append (namedTo groups first k) (k ∷ []))
+
+  module _ (unnamed : lifts groups k ≡ false) where
+    pub named-without : namedTo groups first (k + 1) ≡ namedTo groups first k
+    unfolding filter
+    named-without = named-more groups first k h ∙ rw unnamed (append-nil (namedTo groups first k))
+
+    pub count-without : (i : ℕ) → i ≡ length (namedTo groups first k) → i ≡ length (namedTo groups first (k + 1))
+    count-without i e = e ∙ ap length (sym named-without)
 
 -- before the first turn none is named, and up to the last they all are
 pub named-none : (groups first : ℕ) → namedTo groups first first ≡ []
@@ -224,12 +224,3 @@ set-left kind n groups low h small =
             ap (λ (t : Bool). not t || isTurn kind n k) (sym y)
             ∙ ap fits (sym at)
             ∙ all-at fits (from 1 groupPlaces) (k - 1) 0 named (omega (arith, from-length 1 groupPlaces))
-
--- each of some moves is at most n
-pub move-low : (kind n : ℕ) (turns : List ℕ) (count i : ℕ) → count ≤ length turns → all (isTurn kind n) (take count turns) ≡ true → i < count
-    → getD turns i 0 ≤ n
-unfolding lastTurn
-move-low kind n turns count i within h l =
-    let ks : List ℕ = take count turns in
-    let turn = all-at (isTurn kind n) ks i 0 h (omega (arith, length-take-le count turns within)) in
-    omega (arith, turn-last kind n (getD ks i 0) turn, getD-take count turns i 0 l)

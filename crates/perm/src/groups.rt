@@ -1,27 +1,19 @@
 // Sets of group sizes, those that a frame lifts: size k is the bit of weight 2^(k - 1).
 ghost use mathlib.Core.Bool.{true, not, _||_};
-ghost use mathlib.Core.List.{[], _∷_, _++_};
 ghost use mathlib.Core.Path.{_≡_};
-ghost use Prim.Native.Nat.{_+_, _%_, _≤_, _<_};
+ghost use Prim.Native.Nat.{_%_, _≤_};
 ghost use lib.Dec.{eqb};
 ghost use lib.ListN.{length};
-ghost use Rattle.base.specs.Words.{all, filter, from};
+ghost use Rattle.base.specs.Words.{all, from};
 ghost use Rattle.stacks.specs.Stack.{isPaneCount};
 ghost use Rattle.stacks.specs.Turn.{isTurn, turnsOf, lifts, groupPlaces, isGroupSet, turnsIn, allGroups};
-ghost use Rattle.perm.specs.Moves.{mostMoves, listOf};
 use crate::kind;
 use stacks::PLACES;
 
 // As many moves as a search can have: no more than a stack has places.
 pub const MOST_MOVES: usize = PLACES;
 
-// The moves of a search, rising: the first count numbers.
-pub struct Moves {
-    pub turns: [u8; MOST_MOVES],
-    pub count: u32,
-}
-
-fn lifts(groups: u32, k: u8) -> bool
+pub fn lifts(groups: u32, k: u8) -> bool
     requires { ⌜ (1 ≤ k) × (k ≤ groupPlaces) ⌝ }
     ensures { λ r. ⌜ r ≡ lifts groups k ⌝ }
 {
@@ -83,34 +75,19 @@ pub fn all_groups(kind: u8, n: u8) -> u32
     (1 << last) - (1 << (first - 1))
 }
 
-// The moves, and turn k after them if the set names it.
-fn with_turn(moves: Moves, groups: u32, k: u8) -> Moves
-    requires { ⌜ (1 ≤ k) × (k ≤ groupPlaces) × (moves .count < mostMoves) ⌝ }
-    ensures { λ r. ⌜ (listOf r ≡ listOf moves ++ filter (lifts groups) (k ∷ [])) × (r .count ≤ moves .count + 1) ⌝ }
-{
-    if !lifts(groups, k) {
-        return moves;
-    }
-    let mut next = moves;
-    next.turns[moves.count as usize] = k;
-    next.count = moves.count + 1;
-    next
-}
-
-// The turns that a set names. The one place that reads a set for them.
-pub fn moves_in(kind: u8, n: u8, groups: u32) -> Moves
+// How many turns a set names.
+pub fn turn_count(kind: u8, n: u8, groups: u32) -> u32
     requires { ⌜ isPaneCount kind n ≡ true ⌝ }
-    ensures { λ r. ⌜ (listOf r ≡ turnsIn kind n groups) × (r .count ≤ mostMoves) ⌝ }
+    ensures { λ r. ⌜ r ≡ length (turnsIn kind n groups) ⌝ }
 {
-    let mut moves = Moves {
-        turns: [0u8; MOST_MOVES],
-        count: 0,
-    };
     let last = kind::last_turn(kind, n);
+    let mut count: u32 = 0;
     let mut k = kind::first_turn(kind);
     while k <= last {
-        moves = with_turn(moves, groups, k);
+        if lifts(groups, k) {
+            count += 1;
+        }
         k += 1;
     }
-    moves
+    count
 }

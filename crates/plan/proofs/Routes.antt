@@ -1,25 +1,28 @@
--- Routes as the code makes them: the search of a move through those not tried yet, and a run that goes on from where it has come to. All is
+-- Routes as the code makes them: the turns of a set tried from the last one down, and a run that goes on from where it has come to, which is
 -- said of any list of moves that are turns.
 use mathlib.Core.Path.{_≡_, refl, sym, ap, _∙_, subst}
-use mathlib.Core.Bool.{true}
-use mathlib.Core.List.{List, _∷_}
+use mathlib.Core.Logic.{_⊎_, inl, inr}
+use mathlib.Core.Bool.{Bool, true}
+use mathlib.Core.List.{List}
 use Prim.Native.Nat.{ℕ, zero, suc, _+_, _-_, _/_, _≤_, _<_}
 use native.Mathlib.Numerals.{add-one}
 use native.Mathlib.Omega.{arith}
 use lib.IntN.{ℤ}
-use lib.ListN.{drop-of-length-le, length, getD, take, drop, set, length-set}
-use lib.Seq.{drop-cons, take-suc-set, length-take-le}
-use borrow.Author.Tests.{eq-eqb, ne-eqb}
+use lib.ListN.{length, take, set, length-set}
+use lib.Seq.{take-suc-set, length-take-le}
+use borrow.Author.Tests.{eqb-true, eq-eqb, ne-eqb}
+use Rattle.base.proofs.Tests.{eq-or-ne}
+use Rattle.graph.specs.Walks.{isMove}
 use Rattle.stacks.specs.Index.{rankOf}
 use Rattle.stacks.specs.Stack.{isPaneCount, isStack, stackCount}
-use Rattle.stacks.specs.Turn.{turnOf}
+use Rattle.stacks.specs.Turn.{firstTurn, lastTurn, isTurn, lifts, turnsIn, turnOf}
 use Rattle.stacks.proofs.Numbering.{rank-lt}
-use Rattle.stacks.proofs.TurnLaws.{turn-last}
+use Rattle.stacks.proofs.TurnLaws.{turn-first, turn-last}
 use Rattle.search.specs.Entries.{bytesFor, entryAt, nextEntry}
 use Rattle.search.specs.Plan.{planLimit, Route, entryOf, leadsTo, turnTo, nearerEntry, follow, isWanted, planStep, planRun, routeFrom}
 use Rattle.search.proofs.EntryLaws.{byte-inside}
-use Rattle.search.proofs.PlanLaws.{turn-taken, follow-turn, follow-none, route-within}
-use Rattle.search.proofs.Turning.{Moves, moved-stack, moves-stack}
+use Rattle.search.proofs.PlanLaws.{turn-taken, turn-largest, follow-turn, follow-none, route-within}
+use Rattle.search.proofs.Turning.{in-set, turn-in-set, Moves, moved-stack, moves-stack}
 
 -- the entry of a stack stands in the table
 pub entry-inside : (kind n : ℕ) (s : List ℤ) (table : List ℕ) (i : ℕ) → isPaneCount kind n ≡ true → isStack kind n s ≡ true
@@ -32,47 +35,78 @@ pub no-turn : (kind n : ℕ) (s : List ℤ) (index : ℕ) → index ≡ rankOf k
 unfolding turnOf
 no-turn kind n s index e = e
 
--- ---- the first move that leads to an entry
+-- ---- the largest turn of a set that leads to an entry, tried from the last turn down
 
-module _ (kind n : ℕ) (table : List ℕ) (s : List ℤ) (v : ℕ) where
-  first-hit : (k : ℕ) (ks : List ℕ) → entryOf kind n table (turnOf kind k s) ≡ v → turnTo kind n table s v (k ∷ ks) ≡ k
-  unfolding turnTo leadsTo
-  first-hit k ks h = rw (eq-eqb (entryOf kind n table (turnOf kind k s)) v h)
+module _ (kind n groups : ℕ) (table : List ℕ) (s : List ℤ) (v : ℕ) where
+  abbrev moves : List ℕ
+  moves = turnsIn kind n groups
 
-  first-miss : (k : ℕ) (ks : List ℕ) → (entryOf kind n table (turnOf kind k s) ≡ v → ⊥)
-      → turnTo kind n table s v (k ∷ ks) ≡ turnTo kind n table s v ks
-  unfolding turnTo leadsTo
-  first-miss k ks h = rw (ne-eqb (entryOf kind n table (turnOf kind k s)) v h)
+  abbrev leads : ℕ → Bool
+  leads = leadsTo kind n table s v
 
-  -- what is found is a turn
-  pub turn-low : {moves : List ℕ} → Moves kind n moves → (k : ℕ) → k ≡ turnTo kind n table s v moves → (k ≡ 0 → ⊥) → k ≤ n
-  turn-low {moves} laws k e h = turn-last kind n k (laws .turns k (turn-taken kind n table s v moves k e h .0))
+  abbrev taken : ℕ
+  taken = turnTo kind n table s v moves
 
-  -- the first move is the first of those not tried yet: those from place i on
-  module _ (moves : List ℕ) (i : ℕ) (f : turnTo kind n table s v (drop i moves) ≡ turnTo kind n table s v moves) where
-    pub tried-all : length moves ≤ i → 0 ≡ turnTo kind n table s v moves
-    unfolding turnTo
-    tried-all h = rw (← f, drop-of-length-le moves h)
+  -- turn k leads there just where its child's entry, w, is v
+  module _ (k child w : ℕ) (c : child ≡ rankOf kind n (turnOf kind k s)) (e : w ≡ entryAt table child) where
+    entry-is : entryOf kind n table (turnOf kind k s) ≡ w
+    unfolding entryOf
+    entry-is = rw (e, c)
 
-    -- the next one is tried: its child's entry is w
-    module _ (l : i < length moves) (k : ℕ) (at : k ≡ getD moves i 0) (child : ℕ) (c : child ≡ rankOf kind n (turnOf kind k s)) (w : ℕ) (e : w ≡ entryAt table child) where
-      entry-is : entryOf kind n table (turnOf kind k s) ≡ w
-      unfolding entryOf
-      entry-is = rw (e, c)
+    pub read-leads : w ≡ v → leads k ≡ true
+    unfolding leadsTo
+    read-leads h = eq-eqb (entryOf kind n table (turnOf kind k s)) v (entry-is ∙ h)
 
-      untried : drop i moves ≡ k ∷ drop (i + 1) moves
-      untried = drop-cons moves i 0 l ∙ ap (λ (x : ℕ). x ∷ drop (suc i) moves) (sym at) ∙ ap (λ (m : ℕ). k ∷ drop m moves) (sym (add-one i))
+    pub leads-read : leads k ≡ true → w ≡ v
+    unfolding leadsTo
+    leads-read l = sym entry-is ∙ eqb-true (entryOf kind n table (turnOf kind k s)) v l
 
-      pub tried-hit : w ≡ v → k ≡ turnTo kind n table s v moves
-      tried-hit q = sym (first-hit k (drop (i + 1) moves) (entry-is ∙ q)) ∙ ap (turnTo kind n table s v) (sym untried) ∙ f
+  -- no turn above k leads there
+  abbrev pub NoneAbove : ℕ → Type 0
+  NoneAbove k = (j : ℕ) → isMove moves j ≡ true → leads j ≡ true → j ≤ k
 
-      pub tried-miss : (w ≡ v → ⊥) → turnTo kind n table s v (drop (i + 1) moves) ≡ turnTo kind n table s v moves
-      tried-miss q =
-          sym (first-miss k (drop (i + 1) moves) (λ r. q (sym entry-is ∙ r))) ∙ ap (turnTo kind n table s v) (sym untried) ∙ f
+  pub none-above-last : (k : ℕ) → k ≡ lastTurn kind n → (k ≤ n) × NoneAbove k
+  unfolding lastTurn
+  none-above-last k e = (omega arith, λ j m l. omega (arith, turn-last kind n j (in-set kind n groups j m .0)))
+
+  module _ (k : ℕ) (above : NoneAbove k) where
+    taken-low : taken ≤ k
+    taken-low = go (eq-or-ne taken 0)
+      where
+        go : (taken ≡ 0) ⊎ (taken ≡ 0 → ⊥) → taken ≤ k
+        go (inl e) = omega arith
+        go (inr h) = let t = turn-taken kind n table s v moves taken refl h in above taken (t .0) (t .1)
+
+    -- k is tried: the set names it and it leads there, or not
+    pub tried-hit : isTurn kind n k ≡ true → lifts groups k ≡ true → leads k ≡ true → k ≡ taken
+    tried-hit turn named hit =
+        omega (arith, taken-low, turn-largest kind n table s v moves k (turn-in-set kind n groups k turn named) hit)
+
+    pub tried-miss : (lifts groups k ≡ true → leads k ≡ true → ⊥) → NoneAbove (k - 1)
+    tried-miss miss j m l = go (eq-or-ne j k)
+      where
+        go : (j ≡ k) ⊎ (j ≡ k → ⊥) → j ≤ k - 1
+        go (inl e) = absurd (miss (ap (lifts groups) (sym e) ∙ in-set kind n groups j m .1) (ap leads (sym e) ∙ l))
+        go (inr h) = omega (arith, above j m l)
+
+    -- all are tried
+    pub tried-all : k < firstTurn kind → 0 ≡ taken
+    tried-all low = go (eq-or-ne taken 0)
+      where
+        go : (taken ≡ 0) ⊎ (taken ≡ 0 → ⊥) → 0 ≡ taken
+        go (inl e) = sym e
+        go (inr h) =
+            let t = turn-taken kind n table s v moves taken refl h in
+            absurd (omega (arith, taken-low, turn-first kind n taken (in-set kind n groups taken (t .0) .0)))
 
 -- ---- the route with the move that is found
 
--- the first move that leads there, by the entries as they are read
+-- what is found is a turn
+pub turn-low : (kind n : ℕ) (table : List ℕ) (s : List ℤ) (v : ℕ) {moves : List ℕ} → Moves kind n moves → (k : ℕ) → k ≡ turnTo kind n table s v moves
+    → (k ≡ 0 → ⊥) → k ≤ n
+turn-low kind n table s v {moves} laws k e h = turn-last kind n k (laws .turns k (turn-taken kind n table s v moves k e h .0))
+
+-- it leads one nearer, by the entries as they are read
 pub found-nearer : (kind n : ℕ) (table : List ℕ) (s : List ℤ) (moves : List ℕ) (index v next near k : ℕ) → index ≡ rankOf kind n s → v ≡ entryAt table index
     → next ≡ nextEntry v → near ≡ nextEntry next → k ≡ turnTo kind n table s near moves → k ≡ turnTo kind n table s (nearerEntry kind n table s) moves
 unfolding nearerEntry entryOf

@@ -7,10 +7,9 @@ ghost use Rattle.stacks.specs.Stack.{isPaneCount, isStack, stackCount};
 ghost use Rattle.stacks.specs.Turn.{turnsIn, turnOf};
 ghost use Rattle.search.specs.Entries.{bytesFor};
 ghost use Rattle.search.specs.Plan.{entryOf, turnTo, routeFrom};
-ghost use Rattle.perm.specs.Moves.{listOf, MovesFit};
 ghost use Rattle.plan.specs.Routes.{routeOf, StandsAt, LeadsFrom};
 use perm::groups;
-use perm::groups::Moves;
+use perm::kind;
 use perm::numbering;
 use perm::turning;
 use search::PLAN_LIMIT;
@@ -38,30 +37,30 @@ pub(crate) fn entry_of(kind: u8, n: u8, stack: [i8; PLACES], table: &[u8]) -> u8
     entry::get_entry(table, index)
 }
 
-// The first move that leads from the stack at an index to a child with entry v. Moves rise, so it is the smallest. Turn 0, which leads to the
-// stack itself, where none does.
+// The largest turn of the set that leads from the stack at an index to a child with entry v; turn 0, which leads to the stack itself, where
+// none does.
 fn turn_to(
     kind: u8,
     n: u8,
-    moves: Moves,
+    groups: u32,
     stack: [i8; PLACES],
     index: u32,
     v: u8,
     table: &[u8],
 ) -> Step
-    requires { ⌜ (MovesFit kind n moves) × (StandsAt kind n stack index (now table)) ⌝ }
-    ensures { λ r. ⌜ (r .k ≡ turnTo kind n (now (table .entry)) stack v (listOf moves)) × (r .index ≡ rankOf kind n (turnOf kind (r .k) stack)) ⌝ }
+    requires { ⌜ StandsAt kind n stack index (now table) ⌝ }
+    ensures { λ r. ⌜ (r .k ≡ turnTo kind n (now (table .entry)) stack v (turnsIn kind n groups)) × (r .index ≡ rankOf kind n (turnOf kind (r .k) stack)) ⌝ }
 {
-    let turns = moves.turns;
-    let count = moves.count;
-    let mut i: u32 = 0;
-    while i < count {
-        let k = turns[i as usize];
-        let child = numbering::rank_turned(kind, n, &stack, index, k);
-        if entry::get_entry(table, child) == v {
-            return Step { k, index: child };
+    let first = kind::first_turn(kind);
+    let mut k = kind::last_turn(kind, n);
+    while first <= k {
+        if groups::lifts(groups, k) {
+            let child = numbering::rank_turned(kind, n, &stack, index, k);
+            if entry::get_entry(table, child) == v {
+                return Step { k, index: child };
+            }
         }
-        i += 1;
+        k -= 1;
     }
     Step { k: 0, index }
 }
@@ -79,7 +78,6 @@ pub(crate) fn route_from(
     requires { ⌜ LeadsFrom kind n wanted given (now table) ⌝ }
     ensures { λ r. ⌜ (routeOf r ≡ routeFrom kind n (now (table .entry)) wanted (turnsIn kind n groups) given) × (length (routeOf r .turns) ≡ r .taken) ⌝ }
 {
-    let moves = groups::moves_in(kind, n, groups);
     let goal = numbering::rank(kind, n, wanted);
     let mut stack = given;
     let mut index = numbering::rank(kind, n, given);
@@ -95,7 +93,7 @@ pub(crate) fn route_from(
             };
         }
         let nearer = entry::next_entry(entry::next_entry(v));
-        let step = turn_to(kind, n, moves, stack, index, nearer, table);
+        let step = turn_to(kind, n, groups, stack, index, nearer, table);
         let k = step.k;
         if k == 0 {
             return Route {

@@ -1,7 +1,7 @@
 -- Laws of Plan: an accepted plan is a road to the wanted stack whatever the table holds, and over a right table it is there and has the fewest turns.
 use mathlib.Core.Path.{_≡_, refl, sym, ap, _∙_, subst}
 use mathlib.Core.Logic.{_⊎_, inl, inr}
-use mathlib.Core.Bool.{Bool, true, false, not, cond, false≢true}
+use mathlib.Core.Bool.{Bool, true, false, not, cond}
 use mathlib.Core.List.{List, [], _∷_, _++_}
 use Prim.Native.Nat.{ℕ, zero, suc, _+_, _-_, _%_, _<_, _≤_, zero-le}
 use native.Mathlib.Omega.{arith}
@@ -9,10 +9,10 @@ use lib.Dec.{leb, eqb}
 use lib.IntN.{ℤ}
 use lib.ListN.{length, length-append}
 use borrow.Author.Tests.{leb-true, le-leb, eqb-true, eq-eqb, ne-eqb}
-use Rattle.base.specs.Words.{unless, all}
-use Rattle.base.proofs.Tests.{unless-zero, and-right, and-both, eq-or-ne, never}
+use Rattle.base.specs.Words.{unless, all, filter}
+use Rattle.base.proofs.Tests.{unless-zero, and-left, and-right, and-both, eq-or-ne, never}
 use Rattle.graph.specs.Walks.{isMove}
-use Rattle.graph.proofs.Moves.{isMove-cases, isMove-first, isMove-rest}
+use Rattle.graph.proofs.Moves.{isMove-filter, largest-move, move-largest}
 use Rattle.graph.proofs.Depths.{Depths, nearer-label}
 use Rattle.stacks.specs.Stack.{isKind, isPaneCount, isStack, stackCount}
 use Rattle.stacks.specs.Index.{rankOf}
@@ -144,39 +144,34 @@ module _ (kind n : ℕ) (wanted given : List ℤ) (groups : ℕ) (table : List �
       go true false k = k
       go false b k = k
 
--- ---- the turn that leads to an entry. Lengths and arrival rest on these two laws, whichever of the turns that lead there is taken.
+-- ---- the turn that leads to an entry. Lengths and arrival rest on `turn-taken` and `turn-there`, which hold whichever turn that leads there is
+-- taken.
 
-module _ (kind n : ℕ) (table : List ℕ) (s : List ℤ) (v : ℕ) where
-  -- what is taken is a move, and it leads there
-  pub turn-taken : (moves : List ℕ) (k : ℕ) → k ≡ turnTo kind n table s v moves → (k ≡ 0 → ⊥)
-      → (isMove moves k ≡ true) × (leadsTo kind n table s v k ≡ true)
+module _ (kind n : ℕ) (table : List ℕ) (s : List ℤ) (v : ℕ) (moves : List ℕ) where
+  abbrev leads : ℕ → Bool
+  leads = leadsTo kind n table s v
+
+  abbrev leading : List ℕ
+  leading = filter leads moves
+
+  -- no move that leads there is larger than the one that is taken
+  pub turn-largest : (j : ℕ) → isMove moves j ≡ true → leads j ≡ true → j ≤ turnTo kind n table s v moves
   unfolding turnTo
-  turn-taken [] k e h = absurd (h e)
-  turn-taken (j ∷ ks) k e h = go (leadsTo kind n table s v j) refl (λ q. turn-taken ks k q h) e
-    where
-      rest : ℕ
-      rest = turnTo kind n table s v ks
+  turn-largest j m l = move-largest leading j (isMove-filter leads moves j ∙ and-both (isMove moves j) (leads j) m l)
 
-      go : (t : Bool) → leadsTo kind n table s v j ≡ t → (k ≡ rest → (isMove ks k ≡ true) × (leadsTo kind n table s v k ≡ true))
-          → k ≡ cond t j rest → (isMove (j ∷ ks) k ≡ true) × (leadsTo kind n table s v k ≡ true)
-      go true l f q = rw q (isMove-first j ks, l)
-      go false l f q = let r = f q in (isMove-rest j ks k (r .0), r .1)
+  -- what is taken is a move, and it leads there
+  pub turn-taken : (k : ℕ) → k ≡ turnTo kind n table s v moves → (k ≡ 0 → ⊥) → (isMove moves k ≡ true) × (leads k ≡ true)
+  unfolding turnTo
+  turn-taken k e h =
+      let left = subst (λ (x : ℕ). isMove leading x ≡ true) (sym e) (largest-move leading (λ z. h (e ∙ z))) in
+      let m = sym (isMove-filter leads moves k) ∙ left in
+      (and-left (isMove moves k) (leads k) m, and-right (isMove moves k) (leads k) m)
 
   -- one is taken where some move leads there, as 0 is no move
-  turn-there : (moves : List ℕ) (j : ℕ) → (isMove moves 0 ≡ true → ⊥) → isMove moves j ≡ true → leadsTo kind n table s v j ≡ true
-      → turnTo kind n table s v moves ≡ 0 → ⊥
-  unfolding turnTo isMove
-  turn-there [] j none m l e = absurd (false≢true m)
-  turn-there (k ∷ ks) j none m l e =
-      go (leadsTo kind n table s v k) refl (isMove-cases k ks j m) (λ i. turn-there ks j (λ z. none (isMove-rest k ks 0 z)) i l) e
-    where
-      rest : ℕ
-      rest = turnTo kind n table s v ks
-
-      go : (t : Bool) → leadsTo kind n table s v k ≡ t → (j ≡ k) ⊎ (isMove ks j ≡ true) → (isMove ks j ≡ true → rest ≡ 0 → ⊥) → cond t k rest ≡ 0 → ⊥
-      go true q i f z = none (subst (λ (x : ℕ). isMove (k ∷ ks) x ≡ true) z (isMove-first k ks))
-      go false q (inl i) f z = never (ap (leadsTo kind n table s v) (sym i) ∙ l) q
-      go false q (inr i) f z = f i z
+  turn-there : (j : ℕ) → (isMove moves 0 ≡ true → ⊥) → isMove moves j ≡ true → leads j ≡ true → turnTo kind n table s v moves ≡ 0 → ⊥
+  turn-there j none m l e =
+      let z : j ≡ 0 = omega (arith, turn-largest j m l) in
+      none (subst (λ (k : ℕ). isMove moves k ≡ true) z m)
 
 -- ---- a plan in the making, whatever the table holds
 

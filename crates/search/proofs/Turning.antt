@@ -1,18 +1,17 @@
 -- The stacks of a kind and n as a graph, as its search sees them: a vertex is an index, a move is one of a list of turns, and a road by
 -- these is a walk.
 use mathlib.Core.Path.{_≡_, refl, sym, ap, _∙_}
-use mathlib.Core.Bool.{true}
+use mathlib.Core.Bool.{true, _&&_}
 use mathlib.Core.List.{List, [], _∷_}
 use Prim.Native.Nat.{ℕ, suc, _-_, _<_, _≤_}
 use native.Mathlib.Nat.{le-trans}
 use native.Mathlib.Omega.{arith}
 use lib.IntN.{ℤ}
-use lib.ListN.{length, getD}
+use lib.ListN.{length}
 use Rattle.base.specs.Words.{all}
-use Rattle.base.proofs.Tests.{and-left, and-right, same-test}
+use Rattle.base.proofs.Tests.{and-left, and-right, and-both, same-test}
 use Rattle.graph.specs.Walks.{walk, isMove, Walk, Graph}
-use Rattle.graph.proofs.Moves.{isMove-from, from-isMove, listed-move, filter-move}
-use Rattle.base.proofs.Counting.{at-all}
+use Rattle.graph.proofs.Moves.{isMove-from, from-isMove, isMove-filter}
 use Rattle.base.proofs.Lists.{length-filter}
 use Rattle.stacks.specs.Stack.{stackPlaces, isPaneCount, isStack, stackCount}
 use Rattle.stacks.specs.Index.{rankOf, stackAt}
@@ -43,6 +42,20 @@ module _ (kind n k : ℕ) where
   pub turn-is-move : isTurn kind n k ≡ isMove (turnsOf kind n) k
   turn-is-move = same-test (isTurn kind n k) (isMove (turnsOf kind n) k) turn-move move-turn
 
+-- those of a set are the turns that it names
+module _ (kind n groups k : ℕ) where
+  is-in-set : isMove (turnsIn kind n groups) k ≡ (isMove (turnsOf kind n) k && lifts groups k)
+  unfolding turnsIn
+  is-in-set = isMove-filter (lifts groups) (turnsOf kind n) k
+
+  pub in-set : isMove (turnsIn kind n groups) k ≡ true → (isTurn kind n k ≡ true) × (lifts groups k ≡ true)
+  in-set m =
+      let h = sym is-in-set ∙ m in
+      (move-turn kind n k (and-left (isMove (turnsOf kind n) k) (lifts groups k) h), and-right (isMove (turnsOf kind n) k) (lifts groups k) h)
+
+  pub turn-in-set : isTurn kind n k ≡ true → lifts groups k ≡ true → isMove (turnsIn kind n groups) k ≡ true
+  turn-in-set h l = is-in-set ∙ and-both (isMove (turnsOf kind n) k) (lifts groups k) (turn-move kind n k h) l
+
 -- what the search and Plan need of a list of moves, and nothing else
 pub record Moves (kind n : ℕ) (moves : List ℕ) : Type 0 where
   -- each is a turn, and what undoes it is a move too
@@ -65,15 +78,10 @@ module _ (kind n : ℕ) (in-range : isPaneCount kind n ≡ true) where
   unfolding turnsIn undoOf
   set-turns groups =
       record {
-        turns = λ k m. move-turn kind n k (filter-move (lifts groups) (turnsOf kind n) k m);
+        turns = λ k m. in-set kind n groups k m .0;
         undone = λ k m. m;
         few = le-trans (length-filter (lifts groups) (turnsOf kind n)) (all-turns .few);
       }
-
-  pub each-turn : (groups : ℕ) → all (isTurn kind n) (turnsIn kind n groups) ≡ true
-  each-turn groups =
-      at-all (isTurn kind n) (turnsIn kind n groups) 0
-      (λ i h. set-turns groups .turns (getD (turnsIn kind n groups) i 0) (listed-move (turnsIn kind n groups) i h))
 
   -- a child of a stack's index is the index of the turned stack
   pub child-rank : (k : ℕ) (s : List ℤ) → isStack kind n s ≡ true → childAt kind n k (rankOf kind n s) ≡ rankOf kind n (turnOf kind k s)

@@ -5,7 +5,7 @@ use Prim.Native.Nat.{ℕ, zero, suc}
 use lib.Dec.{leb, eqb}
 use lib.IntN.{ℤ}
 use lib.ListN.{length, drop}
-use Rattle.base.specs.Words.{unless}
+use Rattle.base.specs.Words.{unless, filter, largest}
 use Rattle.stacks.specs.Index.{rankOf}
 use Rattle.stacks.specs.Stack.{isStack, stackCount}
 use Rattle.stacks.specs.Turn.{isGroupSet, turnsIn, turnOf}
@@ -31,10 +31,9 @@ module _ (kind n : ℕ) (table : List ℕ) where
   unfoldable pub leadsTo : List ℤ → ℕ → ℕ → Bool
   leadsTo s v k = eqb (entryOf (turnOf kind k s)) v
 
-  -- the first turn of the list that leads from s to a child with entry v, 0 where none does
+  -- of the moves that lead from s to a child with entry v the largest, 0 where none does
   unfoldable pub turnTo : List ℤ → ℕ → List ℕ → ℕ
-  turnTo s v [] = 0
-  turnTo s v (k ∷ ks) = cond (leadsTo s v k) k (turnTo s v ks)
+  turnTo s v moves = largest (filter (leadsTo s v) moves)
 
   -- the entry of the stacks that are one nearer than s: (v + 2) mod 3 where that of s is v
   unfoldable pub nearerEntry : List ℤ → ℕ
@@ -83,7 +82,7 @@ planRefusal kind n wanted given groups table slots rest =
     (unless (not (eqb (entryOf kind n table given) unseen)) 20
     (unless (hasPlan kind n table wanted (turnsIn kind n groups) given) 15 rest))
 
--- the moves are the turns of the set, rising, so that the first is the smallest k; the bytes of the list past the plan are unchanged
+-- the moves are the turns of the set; the bytes of the list past the plan are unchanged
 unfoldable pub planOf : ℕ → ℕ → List ℤ → List ℤ → ℕ → List ℕ → List ℕ → List ℕ × Planned
 planOf kind n wanted given groups table list =
     let r = planRefusal kind n wanted given groups table (length list) 0 in

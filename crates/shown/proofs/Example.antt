@@ -1,4 +1,4 @@
--- Document 01's example of the report, whole: its output computes from the definitions, and the theorems are applied to it.
+-- Document 01's example of the report, with the plans that document 02 takes: its output computes from the definitions, and the theorems are applied to it.
 use mathlib.Core.Path.{_≡_, refl, subst, _∙_}
 use mathlib.Core.List.{List, [], _∷_}
 use Prim.Native.Char.{code}
@@ -29,7 +29,7 @@ input = codes "000301020300000004\n030102\n010302\n010203\n010103\n"
 
 output : List ℕ
 unfolding codes
-output = codes "0000000001\n0100000002\n0200000002\n0300000001\nff03\n020302\n03020302\n00\nee03\n"
+output = codes "0000000001\n0100000002\n0200000002\n0300000001\nff03\n020302\n03030203\n00\nee03\n"
 
 report : List ℕ → List ℕ → List ℕ
 unfolding report-open

@@ -28,7 +28,7 @@ use Rattle.worked.specs.Cases
 use Rattle.worked.specs.PlainThree
 
 words : Unit {0}
-unfolding Walks.isMove Words.all Words.tally Words.filter Words.total Words.fact Words.from Words.without Words.firstFrom
+unfolding Walks.isMove Words.all Words.tally Words.filter Words.total Words.largest Words.fact Words.from Words.without Words.firstFrom
 words = tt
 
 stacks : Unit {0}

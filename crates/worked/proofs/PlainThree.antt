@@ -157,6 +157,9 @@ module _ (first second : ℕ) (words : ℕ → ℕ) where
           road = plans .arrives;
           fewest = plans .shortest;
           few = plans .few;
+          smaller = record { turns = refl; arrives = refl };
+          larger = record { turns = refl; arrives = refl };
+          takes-larger = refl;
           spoilt = refl;
           spoilt-road = full-road plain 3 refl (plan-arrives plain 3 (ordered 3) given all (0x90 ∷ 0xf5 ∷ []) (any slots planLimit) refl .0);
         }

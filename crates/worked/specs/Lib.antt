@@ -1,5 +1,5 @@
--- What the worked cases say. Read Starred beside document 01's "At the edges", PlainThree beside the promise of a build, and Pricing and Limited
--- beside document 02's F-1 and F-2.
+-- What the worked cases say. Read Starred beside document 01's "At the edges", PlainThree beside the promise of a build and
+-- document 02's F-3, and Pricing and Limited beside its F-1 and F-2.
 pub mod Cases
 pub mod Starred
 pub mod WholeTable

@@ -62,6 +62,10 @@ all = allGroups plain 3
 abbrev pub given : List ℤ
 given = places (up 3 ∷ up 1 ∷ up 2 ∷ [])
 
+-- plain 1 3 2
+abbrev pub tied : List ℤ
+tied = places (up 1 ∷ up 3 ∷ up 2 ∷ [])
+
 abbrev pub table : List ℕ
 table = 0x90 ∷ 0xf6 ∷ []
 
@@ -127,6 +131,10 @@ module _ (first second : ℕ) (words : ℕ → ℕ) where
     pub road : Road plain 3 (3 ∷ 2 ∷ []) given (ordered 3)
     pub fewest : Fewest plain 3 given (ordered 3) 2
     pub few : planOf plain 3 (ordered 3) given all table (any slots planLimit) .1 .turns ≤ 30
+    -- two shortest roads lead from 1 3 2: Plan takes the one that lifts the larger group first
+    pub smaller : Road plain 3 (2 ∷ 3 ∷ 2 ∷ []) tied (ordered 3)
+    pub larger : Road plain 3 (3 ∷ 2 ∷ 3 ∷ []) tied (ordered 3)
+    pub takes-larger : take 3 (planOf plain 3 (ordered 3) tied all table (any slots planLimit) .0) ≡ 3 ∷ 2 ∷ 3 ∷ []
     -- from a spoilt table, in which 3 1 2 has entry 1, the plan is longer, and arrives
     pub spoilt : planOf plain 3 (ordered 3) given all (0x90 ∷ 0xf5 ∷ []) (any slots planLimit) .1 ≡ record { refusal = 0; turns = 4 }
     pub spoilt-road : Road plain 3 (2 ∷ 3 ∷ 2 ∷ 3 ∷ []) given (ordered 3)

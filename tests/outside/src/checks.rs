@@ -138,7 +138,7 @@ pub fn examples(system: &dyn System) -> Checked {
         (answer.refusal, turns.to_vec(), rest.iter().all(|&byte| byte == 0xee))
     };
     check(equal("plan of 3 1 2", plan(fields.groups, &table, &[3, 1, 2]), (0, vec![3, 2], true)))?;
-    check(equal("plan of 1 3 2", plan(fields.groups, &table, &[1, 3, 2]), (0, vec![2, 3, 2], true)))?;
+    check(equal("plan of 1 3 2", plan(fields.groups, &table, &[1, 3, 2]), (0, vec![3, 2, 3], true)))?;
     check(equal("plan of 1 2 3", plan(fields.groups, &table, &[1, 2, 3]), (0, vec![], true)))?;
     check(equal("plan of 1 1 3", plan(fields.groups, &table, &[1, 1, 3]), (3, vec![], true)))?;
 

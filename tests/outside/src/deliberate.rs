@@ -362,7 +362,7 @@ fn plan3_by(groups: Groups, table: &[u8], given: [i8; 3]) -> Call {
 // A line's first size, last size and price.
 type Triple = (u8, u8, u32);
 
-// Prices of the plan 2, 3, 2.
+// Prices of the plan 3, 2, 3.
 fn prices3(tariffs: &[&[Triple]]) -> Vec<Call> {
     let plan = plan3(&TABLE3, [1, 3, 2], LIST);
     tariffs.iter().map(|lines| plan.priced(Tariff::of(lines))).collect()
@@ -590,10 +590,10 @@ fn followed(plans: &[Call]) -> bool {
     LONG.iter().enumerate().all(all)
 }
 
-// Twelve lines, a size each, and one line fewer or more counted. Only plain 12 can have them; the plan is turn 2.
+// Twelve lines, a size each, and one line fewer or more counted. Only plain 12 can have them; the plan is turn 12.
 fn line_counts() -> Vec<Call> {
     let (kind, n, wanted) = (PLAIN, 12, ordered(12));
-    let given = paper::turned(kind, &wanted, 2);
+    let given = paper::turned(kind, &wanted, 12);
     // Zeros are not touched until they are read, so the largest table costs nothing.
     let mut table = vec![0; paper::bytes_of(paper::count_of_stacks(kind, n))];
     paper::set_entry(&mut table, u64::from(paper::index(kind, n, &given)), 1);

@@ -41,8 +41,9 @@ FAULTS {
     CloseWithLogWaiting, CloseUnpassed, CloseKeepsPassed, CloseDeepestD, CloseAddsCount0, CloseByZero, CloseTakesLevel255,
     CloseStopsAtLevel31, CloseStopsAtLevel254, CloseFinishesAtLevel255, CloseOrderOf13And14, CloseDropsSet,
     // Read and Plan.
-    ReadBitsReversed, ReadOrderOf10And4, ReadTakesLongTable, PlanTakesLargest, PlanEndsAtZero, PlanTakes30Only, PlanTakes253Only,
-    PlanTakes255, PlanWritesRefused, PlanClearsRest, PlanSkipsWantedEntry, PlanOrderOf3And10, PlanTakesShortList, PlanTakesListOf30,
+    ReadBitsReversed, ReadOrderOf10And4, ReadTakesLongTable, PlanTakesSmallest, PlanTakesLargestOfSet, PlanEndsAtZero, PlanTakes30Only,
+    PlanTakes253Only, PlanTakes255, PlanWritesRefused, PlanClearsRest, PlanSkipsWantedEntry, PlanOrderOf3And10, PlanTakesShortList,
+    PlanTakesListOf30,
     // Its set, and the given stack's own 3.
     PlanTakesTurn1OfPlain, PlanTakesSizeAboveN, PlanTakesHighBits, PlanTakesEmptySet, PlanRefusesSetOfPlain1, PlanOrderOf3And21,
     PlanOrderOf21And10, PlanByEveryTurn, PlanSkipsLargest, PlanByNextSizes, PlanOrderOf10And20, PlanOrderOf20And15, PlanGives15ForUnseen,
@@ -56,7 +57,7 @@ FAULTS {
     // Its set, its list, and the given stack's own 3.
     PriceTakesTurn1OfPlain, PriceTakesSizeAboveN, PriceTakesHighBits, PriceTakesEmptySet, PriceRefusesSetOfPlain1, PriceOrderOf3And21,
     PriceOrderOf21And10, PriceByEveryTurn, PriceSkipsLargest, PriceByNextSizes, PriceOrderOf10And20, PriceOrderOf20And15,
-    PriceGives15ForUnseen, PriceGives20ForLost, PriceTakesWantedUnseen, PriceTakesListOf30,
+    PriceGives15ForUnseen, PriceGives20ForLost, PriceTakesWantedUnseen, PriceTakesListOf30, PriceTakesSmallest, PriceTakesLargestOfSet,
     // Its sum, its rounding, and what it leaves.
     PriceOfFirstTurn, PriceOfFirst30, PriceForgetsTurn254, PriceOfSizeBelow, PriceOfEachSizeOnce, PriceSumsIn16Bits, PriceSumsIn24Bits,
     PriceSumsIn27Bits, PricePenniesIn16Bits, PriceRoundsEachTurn, PriceRoundsDown, PriceRoundsUp, PriceRoundsHalvesDown,
@@ -482,7 +483,52 @@ impl Planning<'_> {
     fn has_wrong_length(&self, list: &[u8]) -> bool {
         self.table.len() != paper::bytes_of(paper::count_of_stacks(self.kind, self.n)) || list.len() < 254
     }
+
+    fn entry_of(&self, stack: &Stack) -> u8 {
+        paper::entry_at(self.table, u64::from(paper::index(self.kind, self.n, stack)))
+    }
+
+    // The turns by a rule, where they come to its end in no more than so many.
+    fn turns_by(&self, rule: &Rule, groups: Groups, most: usize) -> Option<Vec<u8>> {
+        let sizes: Vec<u8> = paper::sizes_of(groups).collect();
+        let mut at = *self.given;
+        let mut plan = Vec::new();
+        while if rule.ends_at_zero { self.entry_of(&at) != 0 } else { at != *self.wanted } {
+            let nearer = (self.entry_of(&at) + 2) % 3;
+            let leads = |&k: &u8| self.entry_of(&paper::turned(self.kind, &at, k)) == nearer;
+            let leading: Vec<u8> = sizes.iter().copied().filter(leads).collect();
+            let &k = (rule.taken)(&sizes, &leading).filter(|_| plan.len() < most)?;
+            plan.push(k);
+            at = paper::turned(self.kind, &at, k);
+        }
+        Some(plan)
+    }
+
+    // Where a plan is looked for: what a rule leaves in the list, which held this before, and its answer.
+    fn planned_by(&self, rule: &Rule, groups: Groups, planned: Planned, before: &[u8], list: &mut [u8]) -> Planned {
+        let looks = matches!(planned.refusal, 0 | 15);
+        if !looks || self.entry_of(self.wanted) != 0 || self.entry_of(self.given) == 3 {
+            return planned;
+        }
+        list.copy_from_slice(before);
+        let Some(plan) = self.turns_by(rule, groups, rule.most.min(list.len())) else {
+            return Planned { refusal: 15, turns: 0 };
+        };
+        list[..plan.len()].copy_from_slice(&plan);
+        Planned { refusal: 0, turns: plan.len() as u32 }
+    }
 }
+
+// How a plan is made: the turn that is taken, of the set's sizes and those that lead one nearer, both rising; where it ends; the most turns.
+struct Rule {
+    taken: for<'a> fn(&'a [u8], &'a [u8]) -> Option<&'a u8>,
+    ends_at_zero: bool,
+    most: usize,
+}
+
+const RULE: Rule = Rule { taken: |_, leading| leading.last(), ends_at_zero: false, most: 254 };
+const SMALLEST: Rule = Rule { taken: |_, leading| leading.first(), ..RULE };
+const LARGEST_OF_SET: Rule = Rule { taken: |sizes, _| sizes.last(), ..RULE };
 
 // Gives an unseen entry the label and one more in the count.
 fn mark(segment: &mut [u8], i: u64, label: u8, count: &mut u64) {
@@ -784,43 +830,27 @@ impl System for Faulty {
         if self.is(Fault::PlanOrderOf21And10) && answer.refusal == 21 && call.has_wrong_length(list) {
             answer.refusal = 10;
         }
+        let before = list.to_vec();
         let short = list.len().min(lent.len());
         list[..short].copy_from_slice(&lent[..short]);
-        let entry_of = |stack: &Stack| paper::entry_at(table, u64::from(paper::index(kind, n, stack)));
-        let walks = matches!(answer.refusal, 0 | 15);
-        let goal_entry = if walks { entry_of(&wanted) } else { 0 };
-        let given_entry = if walks { entry_of(&given) } else { 0 };
+        let rule = match self.0 {
+            Fault::PlanTakesSmallest => Some(SMALLEST),
+            Fault::PlanTakesLargestOfSet => Some(LARGEST_OF_SET),
+            Fault::PlanEndsAtZero => Some(Rule { ends_at_zero: true, ..RULE }),
+            Fault::PlanTakes255 => Some(Rule { most: 255, ..RULE }),
+            _ => None,
+        };
+        if let Some(rule) = rule {
+            return call.planned_by(&rule, taken, answer, &before, list);
+        }
+        let looks = matches!(answer.refusal, 0 | 15);
         match self.0 {
             Fault::PlanTakes30Only if answer.turns > 30 => answer = Planned { refusal: 15, turns: 0 },
             Fault::PlanTakes253Only if answer.turns > 253 => answer = Planned { refusal: 15, turns: 0 },
             Fault::PlanClearsRest if answer.refusal == 0 => list[answer.turns as usize..].fill(0),
             Fault::PlanWritesRefused if answer.refusal == 15 => list[0] ^= 1,
-            Fault::PlanSkipsWantedEntry if walks && given == wanted && goal_entry != 3 => {
+            Fault::PlanSkipsWantedEntry if looks && given == wanted && call.entry_of(&wanted) != 3 => {
                 answer = Planned { refusal: 0, turns: 0 }
-            }
-            Fault::PlanTakesLargest | Fault::PlanEndsAtZero | Fault::PlanTakes255
-                if walks && goal_entry == 0 && given_entry != 3 =>
-            {
-                let limit = if self.is(Fault::PlanTakes255) { 255 } else { 254 };
-                let mut at = given;
-                let mut plan = Vec::new();
-                loop {
-                    let there = if self.is(Fault::PlanEndsAtZero) { entry_of(&at) == 0 } else { at == wanted };
-                    if there {
-                        break;
-                    }
-                    let nearer = (entry_of(&at) + 2) % 3;
-                    let mut leading =
-                        paper::sizes_of(taken).filter(|&k| entry_of(&paper::turned(kind, &at, k)) == nearer);
-                    let k = if self.is(Fault::PlanTakesLargest) { leading.last() } else { leading.next() };
-                    let (Some(k), true) = (k, plan.len() < limit.min(list.len())) else {
-                        return answer;
-                    };
-                    plan.push(k);
-                    at = paper::turned(kind, &at, k);
-                }
-                list[..plan.len()].copy_from_slice(&plan);
-                answer = Planned { refusal: 0, turns: plan.len() as u32 };
             }
             _ => {}
         }
@@ -854,6 +884,14 @@ impl System for Faulty {
             planned.refusal = 10;
         }
         planned = self.unseen_otherwise(&PRICE_UNSEEN, planned, &call);
+        let rule = match self.0 {
+            Fault::PriceTakesSmallest => Some(SMALLEST),
+            Fault::PriceTakesLargestOfSet => Some(LARGEST_OF_SET),
+            _ => None,
+        };
+        if let Some(rule) = rule {
+            planned = call.planned_by(&rule, taken, planned, &before, &mut planned_list);
+        }
         let plan = &planned_list[..(planned.turns as usize).min(list.len())];
         let tariff = self.counted(tariff);
         let lines = &tariff.lines[..tariff.count.min(12) as usize];

@@ -574,7 +574,7 @@ impl Paper {
         while at != *wanted {
             refuse(15, plan.len() == self.limits.most_turns)?;
             let nearer = (entry_of(&at) + 2) % 3;
-            let k = sizes_of(groups).find(|&k| entry_of(&turned(kind, &at, k)) == nearer).ok_or(15)?;
+            let k = sizes_of(groups).filter(|&k| entry_of(&turned(kind, &at, k)) == nearer).max().ok_or(15)?;
             plan.push(k);
             at = turned(kind, &at, k);
         }

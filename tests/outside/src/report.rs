@@ -77,7 +77,7 @@ fn first(line: &[u8], limits: &Limits) -> Result<Started, u8> {
 }
 
 impl Started {
-    // The smallest turn that leads one nearer, until the wanted stack is reached.
+    // The largest turn that leads one nearer, until the wanted stack is reached.
     fn plan(&self, line: &[u8]) -> Result<Vec<u8>, u8> {
         let bytes = frame(line, LIMITS.characters)?;
         if bytes.len() != self.n as usize {
@@ -88,7 +88,7 @@ impl Started {
         let mut list = Vec::new();
         while stack != self.wanted {
             let nearer = |&k: &u8| away(&paper::turned(self.kind, &stack, k)) + 1 == away(&stack);
-            let k = paper::turns(self.kind, self.n).find(nearer).expect("some turn leads one nearer");
+            let k = paper::turns(self.kind, self.n).filter(nearer).max().expect("some turn leads one nearer");
             stack = paper::turned(self.kind, &stack, k);
             list.push(k);
         }

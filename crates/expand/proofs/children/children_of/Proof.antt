@@ -12,8 +12,8 @@ use Rattle.stacks.specs.Stack.{stackPlaces, isStack}
 use Rattle.stacks.specs.Turn.{firstTurn, lastTurn}
 use Rattle.stacks.proofs.Numbering.{unrank-stack, rank-unrank}
 use Rattle.stacks.proofs.TurnLaws.{first-pos}
-use Rattle.perm.proofs.Sizes.{named-none, last-twelve, first-last, lifts-is, still-turn, half-left, set-left}
-use Rattle.expand.proofs.Filling.{named, filledTo, filled-none, filled-taken, taken-count, filled-left, left-count, filled-all}
+use Rattle.perm.proofs.Sizes.{named-none, count-with, count-without, last-twelve, first-last, lifts-is, still-turn, half-left, set-left}
+use Rattle.expand.proofs.Filling.{named, filledTo, filled-none, filled-taken, filled-left, filled-all}
 use Rattle.expand.proofs.children.children_of.Statement.{statement}
 use Rattle.expand.proofs.children.children_of.Tie as tie
 
@@ -125,7 +125,7 @@ loop-again c =
       inv .4,
       half,
       omega (arith, w .4),
-      w .4 ∙ taken-count (a .kind) (a .n) (a .groups) (a .index) (l .loop .children) k (l .loop .i) (inv .8) (inv .1) (inv .7) yes,
+      w .4 ∙ count-with (a .groups) (firstTurn (a .kind)) k (inv .1) yes (l .loop .i) (inv .7),
       w .3
           ∙ filled-taken (a .kind) (a .n) (a .groups) (a .index) (l .loop .children) k (l .loop .i) (inv .8) (inv .1) (inv .7) yes (w .2 .result)
           (l .before .before .unrank .result)
@@ -142,7 +142,7 @@ loop-again c =
       inv .4,
       half,
       omega (arith, w .2),
-      w .2 ∙ left-count (a .kind) (a .n) (a .groups) (a .index) (l .loop .children) k (l .loop .i) (inv .8) (inv .1) (inv .7) unnamed,
+      w .2 ∙ count-without (a .groups) (firstTurn (a .kind)) k (inv .1) unnamed (l .loop .i) (inv .7),
       w .1 ∙ filled-left (a .kind) (a .n) (a .groups) (a .index) (l .loop .children) k (l .loop .i) (inv .8) (inv .1) (inv .7) unnamed,
     ))
     (c .if1 .came)

@@ -1,49 +1,45 @@
 -- `plan::route::route_from` meets its contract. The loop's invariant: the whole run goes on from the route that is made so far.
-use mathlib.Core.Path.{_≡_, refl, ap, _∙_}
+use mathlib.Core.Path.{_≡_, refl}
 use Prim.Native.Nat.{_-_}
 use native.Mathlib.Omega.{arith}
 use borrow.Author.Needs.{needs}
 use lib.ListN.{replicate}
-use Rattle.base.specs.Words.{all}
-use Rattle.stacks.specs.Turn.{isTurn, turnsIn}
+use Rattle.stacks.specs.Turn.{turnsIn}
 use Rattle.search.specs.Plan.{planLimit, turnTo, nearerEntry}
 use Rattle.search.proofs.EntryLaws.{entry-lt, next-lt}
-use Rattle.search.proofs.Turning.{set-turns, each-turn}
+use Rattle.search.proofs.Turning.{set-turns}
 use Rattle.plan.proofs.Routes.{entry-inside, turn-low, found-nearer, Travelled, travelled-start, travelled-length, travelled-arrived, travelled-stuck, travelled-step, travelled-end}
 use Rattle.plan.proofs.route.route_from.Statement.{statement}
 use Rattle.plan.proofs.route.route_from.Tie as tie
 
 abbrev Inv-loop : tie.InvT-loop
-Inv-loop kind n groups table moves goal stack₀ index₀ turns₀ taken₀ stack index turns taken =
+Inv-loop kind n groups table goal stack₀ index₀ turns₀ taken₀ stack index turns taken =
     Travelled kind n (turnsIn kind n groups) table goal stack₀ stack index turns taken
 
 abbrev μ-loop : tie.MeasureT-loop
-μ-loop kind n groups table moves goal stack₀ index₀ turns₀ taken₀ stack index turns taken = planLimit - taken
-
-moves-in-requires : tie.Need-moves-in-requires Inv-loop μ-loop
-moves-in-requires c κs = c .before .pre .0
+μ-loop kind n groups table goal stack₀ index₀ turns₀ taken₀ stack index turns taken = planLimit - taken
 
 rank-requires : tie.Need-rank-requires Inv-loop μ-loop
-rank-requires c κs = (c .before .before .pre .0, c .before .before .pre .1)
+rank-requires c κs = (c .before .pre .0, c .before .pre .1)
 
 rank-requires-2 : tie.Need-rank-requires-2 Inv-loop μ-loop
-rank-requires-2 c κs = (c .before .before .before .pre .0, c .before .before .before .pre .2)
+rank-requires-2 c κs = (c .before .before .pre .0, c .before .before .pre .2)
 
 loop-holds : tie.Need-loop-holds Inv-loop μ-loop
 loop-holds c =
-    let s = c .before .before .before .before in
+    let s = c .before .before .before in
     travelled-start (s .args .kind) (s .args .n) (turnsIn (s .args .kind) (s .args .n) (s .args .groups)) (s .args .table .now) (c .before .rank .result) (s .args .given) (c .rank2 .result) (replicate planLimit 0) (s .pre .2) (c .rank2 .ensures) refl
 
 get-entry-requires : tie.Need-get-entry-requires Inv-loop μ-loop
 get-entry-requires c κs =
     let a = c .before in
-    let s = a .before .before .before .before .before in
+    let s = a .before .before .before .before in
     entry-inside (s .args .kind) (s .args .n) (a .loop .stack) (s .args .table .now) (a .loop .index) (s .pre .0) (a .loop .inv .is-stack) (s .pre .3) (a .loop .inv .at)
 
 returns : tie.Need-returns Inv-loop μ-loop
 returns c =
     let a = c .before .before .before in
-    let s = a .before .before .before .before .before .args in (
+    let s = a .before .before .before .before .args in (
       travelled-arrived (s .kind) (s .n) (a .loop .inv) (s .wanted) (a .before .before .rank .ensures) (c .if1 .taken),
       travelled-length (s .kind) (s .n) (a .loop .inv),
     )
@@ -51,7 +47,7 @@ returns c =
 next-entry-requires : tie.Need-next-entry-requires Inv-loop μ-loop
 next-entry-requires c κs =
     let a = c .before .before .before in
-    let s = a .before .before .before .before .before in
+    let s = a .before .before .before .before in
     rw (c .before .get-entry .ensures) (entry-lt (s .args .table .now) (a .loop .index))
 
 next-entry-requires-2 : tie.Need-next-entry-requires-2 Inv-loop μ-loop
@@ -60,42 +56,26 @@ next-entry-requires-2 c κs = omega (arith, c .next-entry .ensures, next-lt (c .
 turn-to-requires : tie.Need-turn-to-requires Inv-loop μ-loop
 turn-to-requires c κs =
     let a = c .before .before .before .before .before in
-    let s = a .before .before .before .before .before in
-    let moves = a .before .before .before .moves-in in (
-      record {
-        turns = ap (all (isTurn (s .args .kind) (s .args .n))) (moves .ensures .0) ∙ each-turn (s .args .kind) (s .args .n) (s .pre .0) (s .args .groups);
-        few = moves .ensures .1;
-      },
-      (s .pre .0, a .loop .inv .is-stack, a .loop .inv .at, s .pre .3),
-    )
-
--- the moves that are tried are the turns of the set
-by-set : (c : tie.After-turn-to Inv-loop μ-loop)
-    → let a = c .before .before .before .before .before .before in
-    let s = a .before .before .before .before .before .args in
-    c .turn-to .result .k ≡ turnTo (s .kind) (s .n) (s .table .now) (a .loop .stack) (c .before .next-entry2 .result) (turnsIn (s .kind) (s .n) (s .groups))
-by-set c =
-    let a = c .before .before .before .before .before .before in
-    let s = a .before .before .before .before .before .args in
-    c .turn-to .ensures .0 ∙ ap (turnTo (s .kind) (s .n) (s .table .now) (a .loop .stack) (c .before .next-entry2 .result)) (a .before .before .before .moves-in .ensures .0)
+    let s = a .before .before .before .before in
+    (s .pre .0, a .loop .inv .is-stack, a .loop .inv .at, s .pre .3)
 
 -- what is found is the turn that leads one nearer
 found : (c : tie.After-turn-to Inv-loop μ-loop)
     → let a = c .before .before .before .before .before .before in
-    let s = a .before .before .before .before .before .args in
+    let s = a .before .before .before .before .args in
     c .turn-to .result .k ≡ turnTo (s .kind) (s .n) (s .table .now) (a .loop .stack) (nearerEntry (s .kind) (s .n) (s .table .now) (a .loop .stack)) (turnsIn (s .kind) (s .n) (s .groups))
 found c =
     let a = c .before .before .before .before .before .before in
-    let s = a .before .before .before .before .before .args in
+    let s = a .before .before .before .before .args in
     let v = c .before .before .before .before .get-entry in
     found-nearer (s .kind) (s .n) (s .table .now) (a .loop .stack) (turnsIn (s .kind) (s .n) (s .groups)) (a .loop .index)
     (v .result) (c .before .before .next-entry .result) (c .before .next-entry2 .result) (c .turn-to .result .k)
-    (a .loop .inv .at) (v .ensures) (c .before .before .next-entry .ensures) (c .before .next-entry2 .ensures) (by-set c)
+    (a .loop .inv .at) (v .ensures) (c .before .before .next-entry .ensures) (c .before .next-entry2 .ensures) (c .turn-to .ensures .0)
 
 returns-2 : tie.Need-returns-2 Inv-loop μ-loop
 returns-2 c =
     let a = c .before .before .before .before .before .before .before in
-    let s = a .before .before .before .before .before in (
+    let s = a .before .before .before .before in (
       travelled-stuck (s .args .kind) (s .args .n) (a .loop .inv) (set-turns (s .args .kind) (s .args .n) (s .pre .0) (s .args .groups))
           (c .before .turn-to .result .k) (c .before .before .before .before .if1 .left) (found (c .before)) (c .if2 .taken) (s .args .wanted) (a .before .before .rank .ensures),
       travelled-length (s .args .kind) (s .args .n) (a .loop .inv),
@@ -104,11 +84,11 @@ returns-2 c =
 turned-requires : tie.Need-turned-requires Inv-loop μ-loop
 turned-requires c κs =
     let a = c .before .before .before .before .before .before .before in
-    let s = a .before .before .before .before .before in (
+    let s = a .before .before .before .before in (
       s .pre .0,
       a .loop .inv .is-stack,
       turn-low (s .args .kind) (s .args .n) (s .args .table .now) (a .loop .stack) (c .before .before .next-entry2 .result) (set-turns (s .args .kind) (s .args .n) (s .pre .0) (s .args .groups))
-          (c .before .turn-to .result .k) (by-set (c .before)) (c .if2 .left),
+          (c .before .turn-to .result .k) (c .before .turn-to .ensures .0) (c .if2 .left),
     )
 
 array-write-turns : tie.Need-array-write-turns Inv-loop μ-loop
@@ -123,7 +103,7 @@ loop-less c = omega arith
 loop-again : tie.Need-loop-again Inv-loop μ-loop
 loop-again c =
     let a = c .before .before .before .before .before .before .before .before in
-    let s = a .before .before .before .before .before in
+    let s = a .before .before .before .before in
     let step = c .before .before .turn-to in
     travelled-step (s .args .kind) (s .args .n) (a .loop .inv) (set-turns (s .args .kind) (s .args .n) (s .pre .0) (s .args .groups))
     (step .result .k) (c .before .before .before .before .before .if1 .left) (found (c .before .before)) (s .pre .0)
@@ -132,7 +112,7 @@ loop-again c =
 returns-3 : tie.Need-returns-3 Inv-loop μ-loop
 returns-3 c =
     let a = c .before in
-    let s = a .before .before .before .before .before .args in (
+    let s = a .before .before .before .before .args in (
       travelled-end (s .kind) (s .n) (a .loop .inv)
           (s .wanted) (a .before .before .rank .ensures) (omega arith),
       travelled-length (s .kind) (s .n) (a .loop .inv),
@@ -144,7 +124,6 @@ route-from-spec =
     (tie.spec
     Inv-loop
     μ-loop
-    moves-in-requires
     rank-requires
     rank-requires-2
     loop-holds

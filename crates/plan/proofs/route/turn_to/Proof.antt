@@ -1,101 +1,94 @@
--- `plan::route::turn_to` meets its contract. The loop's invariant: the first move that leads there is the first of those not tried yet.
-use mathlib.Core.Path.{_≡_, refl, sym}
-use mathlib.Core.Bool.{true}
-use mathlib.Core.List.{List}
-use Prim.Native.Nat.{ℕ, _-_, _≤_}
+-- `plan::route::turn_to` meets its contract. The loop's invariant: no turn of the set above k leads there.
+use mathlib.Core.Logic.{⊎-elim}
+use mathlib.Core.Path.{sym, _∙_}
+use Prim.Native.Nat.{_≤_}
 use native.Mathlib.Omega.{arith}
 use borrow.Author.Needs.{needs}
-use lib.ListN.{length, take, drop}
-use lib.Seq.{length-take-le, getD-take}
-use Rattle.base.specs.Words.{all}
-use Rattle.stacks.specs.Turn.{isTurn}
-use Rattle.stacks.proofs.TurnLaws.{turn-stack}
-use Rattle.search.specs.Plan.{turnTo}
-use Rattle.perm.specs.Moves.{mostMoves}
-use Rattle.perm.proofs.Sizes.{move-low}
-use Rattle.plan.proofs.Routes.{entry-inside, no-turn, tried-all, tried-hit, tried-miss}
+use Rattle.base.proofs.Tests.{never}
+use Rattle.stacks.proofs.KindLaws.{panes-twelve}
+use Rattle.stacks.proofs.TurnLaws.{first-pos, turn-between, turn-stack}
+use Rattle.plan.proofs.Routes.{entry-inside, no-turn, read-leads, leads-read, NoneAbove, none-above-last, tried-hit, tried-miss, tried-all}
 use Rattle.plan.proofs.route.turn_to.Statement.{statement}
 use Rattle.plan.proofs.route.turn_to.Tie as tie
 
 abbrev Inv-loop : tie.InvT-loop
-Inv-loop kind n index v table stack turns count i₀ i =
-    (length turns ≡ mostMoves) × (count ≤ mostMoves) × (i ≤ count) × (all (isTurn kind n) (take count turns) ≡ true)
-    × (turnTo kind n table stack v (drop i (take count turns)) ≡ turnTo kind n table stack v (take count turns))
+Inv-loop kind n groups index v table stack first k₀ k = (k ≤ n) × NoneAbove kind n groups table stack v k
 
 abbrev μ-loop : tie.MeasureT-loop
-μ-loop kind n index v table stack turns count i₀ i = count - i
+μ-loop kind n groups index v table stack first k₀ k = k
+
+first-turn-requires : tie.Need-first-turn-requires Inv-loop μ-loop
+first-turn-requires c κs = search needs
+
+last-turn-requires : tie.Need-last-turn-requires Inv-loop μ-loop
+last-turn-requires c κs = search needs
 
 loop-holds : tie.Need-loop-holds Inv-loop μ-loop
 loop-holds c =
-    let s = c .before .before in
-    let long : length (s .args .moves .turns) ≡ mostMoves = search needs in
-    (long, s .pre .0 .few, omega arith, s .pre .0 .turns, refl)
+    let s = c .before .before .before .args in
+    none-above-last (s .kind) (s .n) (s .groups) (s .table .now) (s .t4) (s .v) (c .last-turn .result) (c .last-turn .ensures)
 
-cast-k : tie.Need-cast-k Inv-loop μ-loop
-cast-k c = search needs
-
-array-read-k : tie.Need-array-read-k Inv-loop μ-loop
-array-read-k c = omega arith
+lifts-requires : tie.Need-lifts-requires Inv-loop μ-loop
+lifts-requires c κs =
+    let l = c .before in
+    let s = l .before .before .before .before in (
+      omega (arith, l .loop .inv .0, l .before .before .first-turn .ensures, first-pos (s .args .kind)),
+      omega (arith, l .loop .inv .0, panes-twelve (s .args .kind) (s .args .n) (s .pre .0)),
+    )
 
 rank-turned-requires : tie.Need-rank-turned-requires Inv-loop μ-loop
 rank-turned-requires c κs =
-    let l = c .before .before in
-    let s = l .before .before .before in
-    let inv = l .loop .inv in
-    (s .pre .1 .0, s .pre .1 .1, s .pre .1 .2, move-low (s .args .kind) (s .args .n) (s .args .moves .turns) (s .args .moves .count) (l .loop .i) (omega arith) (inv .3) (omega arith))
+    let l = c .before .before .before .before in
+    let s = l .before .before .before .before in
+    (s .pre .0, s .pre .1, s .pre .2, omega (arith, l .loop .inv .0))
 
 get-entry-requires : tie.Need-get-entry-requires Inv-loop μ-loop
 get-entry-requires c κs =
-    let l = c .before .before .before in
-    let s = l .before .before .before in
-    let low = move-low (s .args .kind) (s .args .n) (s .args .moves .turns) (s .args .moves .count) (l .loop .i) (omega arith) (l .loop .inv .3) (omega arith) in
-    entry-inside (s .args .kind) (s .args .n) _ (s .args .table .now) (c .rank-turned .result) (s .pre .1 .0)
-    (turn-stack (s .args .kind) (s .args .n) (s .pre .1 .0) _ (s .args .t4) low (s .pre .1 .1)) (s .pre .1 .3) (c .rank-turned .ensures)
+    let l = c .before .before .before .before .before in
+    let s = l .before .before .before .before in
+    entry-inside (s .args .kind) (s .args .n) _ (s .args .table .now) (c .rank-turned .result) (s .pre .0)
+    (turn-stack (s .args .kind) (s .args .n) (s .pre .0) _ (s .args .t4) (omega (arith, l .loop .inv .0)) (s .pre .1)) (s .pre .3) (c .rank-turned .ensures)
 
 returns : tie.Need-returns Inv-loop μ-loop
 returns c =
-    let l = c .before .before .before .before .before in
-    let s = l .before .before .before .args in
-    let count = s .moves .count in
-    let ks : List ℕ = take count (s .moves .turns) in
-    let child = c .before .before .rank-turned in (
-      tried-hit (s .kind) (s .n) (s .table .now) (s .t4) (s .v) ks (l .loop .i) (l .loop .inv .4)
-          (omega (arith, length-take-le count (s .moves .turns) (omega arith))) _ (sym (getD-take count (s .moves .turns) (l .loop .i) 0 (omega arith)))
-          (child .result) (child .ensures) (c .before .get-entry .result) (c .before .get-entry .ensures) (c .if1 .taken),
+    let l = c .before .before .before .before .before .before .before in
+    let s = l .before .before .before .before .args in
+    let child = c .before .before .rank-turned in
+    let entry = c .before .get-entry in
+    let named = c .before .before .before .before .before .lifts in (
+      tried-hit (s .kind) (s .n) (s .groups) (s .table .now) (s .t4) (s .v) _ (l .loop .inv .1)
+          (turn-between (s .kind) (s .n) (l .loop .k) (omega (arith, l .before .before .first-turn .ensures)) (l .loop .inv .0))
+          (sym (named .ensures) ∙ c .before .before .before .before .if1 .taken)
+          (read-leads (s .kind) (s .n) (s .groups) (s .table .now) (s .t4) (s .v) _ (child .result) (entry .result) (child .ensures) (entry .ensures) (c .if2 .taken)),
       child .ensures,
     )
 
-add-i : tie.Need-add-i Inv-loop μ-loop
-add-i c = omega arith
+sub-k : tie.Need-sub-k Inv-loop μ-loop
+sub-k c =
+    let l = c .before .before .before in
+    omega (arith, l .before .before .first-turn .ensures, first-pos (l .before .before .before .before .args .kind))
 
 loop-less : tie.Need-loop-less Inv-loop μ-loop
-loop-less c = omega arith
+loop-less c = omega (arith, sub-k c)
 
 loop-again : tie.Need-loop-again Inv-loop μ-loop
 loop-again c =
-    let l = c .before .before .before .before .before in
-    let s = l .before .before .before .args in
-    let count = s .moves .count in
-    let ks : List ℕ = take count (s .moves .turns) in
-    let inv = l .loop .inv in (
-      inv .0,
-      inv .1,
-      omega arith,
-      inv .3,
-      tried-miss (s .kind) (s .n) (s .table .now) (s .t4) (s .v) ks (l .loop .i) (inv .4)
-          (omega (arith, length-take-le count (s .moves .turns) (omega arith))) _ (sym (getD-take count (s .moves .turns) (l .loop .i) 0 (omega arith)))
-          (c .before .before .rank-turned .result) (c .before .before .rank-turned .ensures) (c .before .get-entry .result) (c .before .get-entry .ensures) (c .if1 .left),
+    let l = c .before .before .before in
+    let s = l .before .before .before .before .args in (
+      omega (arith, l .loop .inv .0),
+      tried-miss (s .kind) (s .n) (s .groups) (s .table .now) (s .t4) (s .v) (l .loop .k) (l .loop .inv .1)
+          (λ named leads. ⊎-elim
+          (λ w. w .4 .left (leads-read (s .kind) (s .n) (s .groups) (s .table .now) (s .t4) (s .v) _ (w .2 .result) (w .3 .result) (w .2 .ensures) (w .3 .ensures) leads))
+          (λ w. never named (sym (c .before .lifts .ensures) ∙ w .left))
+          (c .if1 .came)),
     )
 
 returns-2 : tie.Need-returns-2 Inv-loop μ-loop
 returns-2 c =
     let l = c .before in
-    let s = l .before .before .before .args in
-    let count = s .moves .count in
-    let ks : List ℕ = take count (s .moves .turns) in (
-      tried-all (s .kind) (s .n) (s .table .now) (s .t4) (s .v) ks (l .loop .i) (l .loop .inv .4)
-          (omega (arith, length-take-le count (s .moves .turns) (omega arith))),
-      no-turn (s .kind) (s .n) (s .t4) (s .index) (l .before .before .before .pre .1 .2),
+    let s = l .before .before .before .before in (
+      tried-all (s .args .kind) (s .args .n) (s .args .groups) (s .args .table .now) (s .args .t4) (s .args .v) (l .loop .k) (l .loop .inv .1) (omega (arith, l .before .before .first-turn .ensures)),
+      no-turn (s .args .kind) (s .args .n) (s .args .t4) (s .args .index) (s .pre .2),
     )
 
 pub turn-to-spec : {M : Type 1} → statement M
@@ -104,13 +97,14 @@ turn-to-spec =
     (tie.spec
     Inv-loop
     μ-loop
+    first-turn-requires
+    last-turn-requires
     loop-holds
-    cast-k
-    array-read-k
+    lifts-requires
     rank-turned-requires
     get-entry-requires
     returns
-    add-i
+    sub-k
     loop-less
     loop-again
     returns-2)
