@@ -22,20 +22,29 @@ pub fn build_differs(refusal: u8, phase: Phase, deepest: usize) -> u64 {
     0
 }
 
-// The entry of a stack at d turns, or without a road.
-fn entry_for(d: u8) -> u8 {
-    if d == UNSEEN { 3 } else { d % 3 }
+// The entry that is due at each number of turns, the same every three turns, and without a road.
+fn due_entries() -> [u8; COUNT_PLACES] {
+    let mut due = [3u8; COUNT_PLACES];
+    due[0] = 0;
+    due[1] = 1;
+    due[2] = 2;
+    let mut d: usize = 3;
+    while d < UNSEEN as usize {
+        due[d] = due[d - 3];
+        d += 1;
+    }
+    due
 }
 
 // 1 where the stack at index i has another entry than is due to it, else 0.
-fn entry_differs(kind: u8, n: u8, table: &[u8], i: u32, d: u8) -> u64
+fn entry_differs(kind: u8, n: u8, table: &[u8], i: u32, d: u8, due: &[u8; COUNT_PLACES]) -> u64
     ensures { λ r. ⌜ r ≤ 1 ⌝ }
 {
     let read = plan::read::read_entry(kind, n, table, i);
     if read.refusal != 0 {
         return 1;
     }
-    if read.entry != entry_for(d) {
+    if read.entry != due[d as usize] {
         return 1;
     }
     0
@@ -44,10 +53,11 @@ fn entry_differs(kind: u8, n: u8, table: &[u8], i: u32, d: u8) -> u64
 pub fn entries(kind: u8, n: u8, table: &[u8], bytes: &[u8]) -> u64
     requires { ⌜ length (now bytes) ≤ 1048576 ⌝ }
 {
+    let due = due_entries();
     let mut differ: u64 = 0;
     let mut i: usize = 0;
     while i < bytes.len() {
-        differ += entry_differs(kind, n, table, i as u32, bytes[i]);
+        differ += entry_differs(kind, n, table, i as u32, bytes[i], &due);
         i += 1;
     }
     differ

@@ -1,6 +1,6 @@
 // The longest plan. A table of plain 7 marks one road by turns 2, 6 and 7 and nothing else: no stack of it has another of them for a
 // neighbour but the one before and the one after, so that Plan goes the whole road.
-ghost use Prim.Native.Nat.{_≤_};
+ghost use Prim.Native.Nat.{_≤_, _<_};
 use perm::operations;
 use stacks::PLACES;
 use tariff::LINE_LIMIT;
@@ -54,25 +54,29 @@ fn next_stack(stack: [i8; PLACES], table: &[u8]) -> [i8; PLACES] {
     turned(stack, 7)
 }
 
-// Marks a stack that is so many turns from the wanted one.
-fn mark(stack: [i8; PLACES], table: &mut [u8], turns: u32) {
+// Marks a stack, if the table has a place for it.
+fn mark(stack: [i8; PLACES], table: &mut [u8], label: u8)
+    requires { ⌜ label < 3 ⌝ }
+{
     let place = operations::index_of_stack(0, 7, stack);
     let index = place.index;
     if table.len() <= (index / 4) as usize {
         return;
     }
-    entry::set_entry(table, index, (turns % 3) as u8);
+    entry::set_entry(table, index, label);
 }
 
 // Marks a road of so many turns, and answers the stack at its end.
 fn lay(table: &mut [u8], last: u32) -> [i8; PLACES] {
     let mut stack = build::ordered(7);
-    mark(stack, table, 0);
+    let mut label: u8 = 0;
+    mark(stack, table, label);
     let mut turns: u32 = 0;
     while turns < last {
         let next = next_stack(stack, table);
         turns += 1;
-        mark(next, table, turns);
+        label = entry::next_entry(label);
+        mark(next, table, label);
         stack = next;
     }
     stack

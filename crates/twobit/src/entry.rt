@@ -1,15 +1,21 @@
-// Two-bit entries in bytes: reading, setting, marking and blanking.
+// Two-bit entries in bytes: their succession, reading, setting, marking and blanking.
 ghost use mathlib.Core.Path.{_≡_};
 ghost use Prim.Native.Nat.{_<_, _/_};
 ghost use lib.ListN.{length, replicate};
 ghost use Rattle.search.specs.Entries.{entryAt, setEntry, nextEntry};
 ghost use Rattle.twobit.specs.Mark.{Marked};
 
+// A match on a number must have a default, the `_`: the contract lets nothing above 3 come to it.
 pub fn next_entry(v: u8) -> u8
     requires { ⌜ v < 4 ⌝ }
     ensures { λ r. ⌜ r ≡ nextEntry v ⌝ }
 {
-    (v + 1) % 3
+    match v {
+        0 => 1,
+        1 => 2,
+        2 => 0,
+        3 | _ => 1,
+    }
 }
 
 pub fn get_entry(bytes: &[u8], i: u32) -> u8

@@ -5,4 +5,5 @@ pub mod WholeTable
 pub mod PlainThree
 pub mod Pricing
 pub mod Limited
+pub mod Succession
 pub mod Cited

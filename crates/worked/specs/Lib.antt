@@ -1,8 +1,9 @@
 -- What the worked cases say. Read Starred beside document 01's "At the edges", PlainThree beside the promise of a build and
--- document 02's F-3, and Pricing and Limited beside its F-1 and F-2.
+-- document 02's F-3, and Pricing, Limited and Succession beside its F-1, F-2 and F-4.
 pub mod Cases
 pub mod Starred
 pub mod WholeTable
 pub mod PlainThree
 pub mod Pricing
 pub mod Limited
+pub mod Succession

@@ -6,10 +6,13 @@ use Rattle.bytewise.proofs.compare.entries.Statement.{statement}
 use Rattle.bytewise.proofs.compare.entries.Tie as tie
 
 abbrev Inv-loop : tie.InvT-loop
-Inv-loop kind n table bytes differ₀ i₀ differ i = (i ≤ length bytes) × (differ ≤ i)
+Inv-loop kind n table bytes due differ₀ i₀ differ i = (i ≤ length bytes) × (differ ≤ i)
 
 abbrev μ-loop : tie.MeasureT-loop
-μ-loop kind n table bytes differ₀ i₀ differ i = length bytes - i
+μ-loop kind n table bytes due differ₀ i₀ differ i = length bytes - i
+
+due-entries-requires : tie.Need-due-entries-requires Inv-loop μ-loop
+due-entries-requires c κs = search needs
 
 loop-holds : tie.Need-loop-holds Inv-loop μ-loop
 loop-holds c = search needs
@@ -44,6 +47,7 @@ entries-spec =
     (tie.spec
     Inv-loop
     μ-loop
+    due-entries-requires
     loop-holds
     cast-entry-differs
     shared-slice-read-entry-differs
