@@ -14,6 +14,7 @@ enum { KIND = HOKRUND_COATED, PANES = 4, S = 64, C = 16 };
 
 static uint8_t table[HOKRUND_TABLE_BYTES(N)];
 static uint32_t logs[HOKRUND_LOG_WORDS(G, C)];
+static uint8_t changed[HOKRUND_CHANGED_BYTES(S)];
 
 static void accepted(uint8_t refusal)
 {
@@ -34,10 +35,11 @@ static void show(HokrundStack stack)
 /* Fills the table for the frame that lifts these sizes. Where some stack needs exactly 255 turns, it ends in a job that close refuses. */
 static HokrundJob build(HokrundStack wanted, uint32_t groups)
 {
-    HokrundAnswer built = hokrund_build_table(KIND, PANES, wanted, groups, S, C, table, sizeof table, logs, HOKRUND_LOG_WORDS(G, C));
+    HokrundAnswer built = hokrund_build_table(KIND, PANES, wanted, groups, S, C, table, sizeof table, logs, HOKRUND_LOG_WORDS(G, C), changed,
+                                              sizeof changed);
     accepted(built.refusal);
     if (built.job.phase != HOKRUND_FINISHED)
-        accepted(hokrund_close(built.job).refusal);
+        accepted(hokrund_close(built.job, HOKRUND_FORWARD).refusal);
     return built.job;
 }
 

@@ -1,4 +1,5 @@
-/* Builds the table of plain 3 for the wanted stack 1 2 3 call by call, in two segments of S = 4, and plans document 01's frames from it.
+/* Builds the table of plain 3 for the wanted stack 1 2 3 call by call, in two segments of S = 4, its late levels reverse, and plans document 01's
+ * frames from it.
  *   rt staticlib hokrund
  *   cc -std=c99 -Iinclude examples/plan3.c target/staticlib/libhokrund.a -o target/plan3
  *   target/plan3 | cmp - examples/plan3.out */
@@ -16,10 +17,12 @@ enum { KIND = HOKRUND_PLAIN, PANES = 3, S = 4, C = 16 };
 /* The segments stand in the table itself. */
 static uint8_t table[HOKRUND_TABLE_BYTES(N)];
 static uint32_t logs[HOKRUND_LOG_WORDS(G, C)];
+static uint8_t changed[HOKRUND_CHANGED_BYTES(S)];
 
-/* Two arguments each, a pointer and its length: segment j, and the whole log area. */
+/* Two arguments each, a pointer and its length: segment j, the whole log area, and the changed list of segment b. */
 #define SEGMENT(j) table + HOKRUND_SEGMENT_START(S, j), HOKRUND_SEGMENT_BYTES(HOKRUND_SEGMENT_STACKS(N, S, j))
 #define LOGS logs, HOKRUND_LOG_WORDS(G, C)
+#define CHANGED(b) changed, HOKRUND_CHANGED_BYTES(HOKRUND_SEGMENT_STACKS(N, S, b))
 
 static HokrundJob next(uint8_t refusal, HokrundJob job)
 {
@@ -35,24 +38,41 @@ static HokrundJob next_of(HokrundAnswer answer)
     return next(answer.refusal, answer.job);
 }
 
+static HokrundJob go_forward(HokrundJob job)
+{
+    for (uint32_t j = 0; j < G; j++) {
+        while (job.passed[j] < HOKRUND_SEGMENT_STACKS(N, S, j)) {
+            HokrundExpanded e = hokrund_expand(job, j, SEGMENT(j), LOGS);
+            job = next(e.refusal, e.job);
+            if (e.waits)
+                job = next_of(hokrund_settle(job, e.on, SEGMENT(e.on), LOGS));
+        }
+    }
+    for (uint32_t j = 0; j < G; j++)
+        job = next_of(hokrund_settle(job, j, SEGMENT(j), LOGS));
+    return job;
+}
+
+static HokrundJob go_reverse(HokrundJob job)
+{
+    for (uint32_t b = 0; b < G; b++) {
+        job = next_of(hokrund_load(job, b, SEGMENT(b), CHANGED(b)));
+        for (uint32_t j = 0; j < G; j++)
+            job = next_of(hokrund_sweep(job, j, SEGMENT(j), CHANGED(b)));
+    }
+    return job;
+}
+
 static void build(HokrundStack wanted)
 {
     HokrundJob job = next_of(hokrund_begin(KIND, PANES, wanted, GROUPS, S, C));
     for (uint32_t j = 0; j < G; j++)
         job = next_of(hokrund_blank(job, j, SEGMENT(j)));
-    job = next_of(hokrund_close(job));
+    job = next_of(hokrund_close(job, HOKRUND_FORWARD));
     while (job.phase != HOKRUND_FINISHED) {
-        for (uint32_t j = 0; j < G; j++) {
-            while (job.passed[j] < HOKRUND_SEGMENT_STACKS(N, S, j)) {
-                HokrundExpanded e = hokrund_expand(job, j, SEGMENT(j), LOGS);
-                job = next(e.refusal, e.job);
-                if (e.waits)
-                    job = next_of(hokrund_settle(job, e.on, SEGMENT(e.on), LOGS));
-            }
-        }
-        for (uint32_t j = 0; j < G; j++)
-            job = next_of(hokrund_settle(job, j, SEGMENT(j), LOGS));
-        job = next_of(hokrund_close(job));
+        job = job.way == HOKRUND_REVERSE ? go_reverse(job) : go_forward(job);
+        /* Few stacks are unseen after level 2. */
+        job = next_of(hokrund_close(job, job.level < 2 ? HOKRUND_FORWARD : HOKRUND_REVERSE));
     }
 }
 

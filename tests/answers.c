@@ -1,5 +1,5 @@
 /* What the header says of the library beside its declarations, met by calls: every refusal by its name, the limits of a coherent job, of a set
- * of sizes, of a plan and of a tariff, the order of the stacks and where an entry stands. C99 and C++98. */
+ * of sizes, of a plan and of a tariff, the order of the stacks, where an entry stands, and levels by either way. C99 and C++98. */
 #include "hokrund.h"
 #include <stdio.h>
 #include <stdlib.h>
@@ -11,6 +11,7 @@
 #define N HOKRUND_STACKS(KIND, PANES)
 #define G HOKRUND_SEGMENT_COUNT(N, S)
 #define WORDS HOKRUND_LOG_WORDS(G, C)
+#define LIST_BYTES HOKRUND_CHANGED_BYTES(HOKRUND_SEGMENT_STACKS(N, S, 0))
 #define GROUPS HOKRUND_ALL_GROUPS(KIND, PANES)
 /* A set of one size. */
 #define SIZE(k) ((uint32_t)1 << ((k) - 1))
@@ -18,6 +19,7 @@
 static const HokrundStack wanted = {{1, 2, 3}}, other = {{3, 1, 2}}, none = {{1, 1, 3}};
 static uint8_t table[HOKRUND_TABLE_BYTES(N)];
 static uint32_t logs[WORDS];
+static uint8_t changed[LIST_BYTES];
 static int differences = 0;
 
 static void same(const char *what, unsigned long found, unsigned long expected)
@@ -31,6 +33,11 @@ static void same(const char *what, unsigned long found, unsigned long expected)
 static HokrundJob begun(void)
 {
     return hokrund_begin(KIND, PANES, wanted, GROUPS, S, C).job;
+}
+
+static HokrundAnswer build(uint32_t groups, size_t length, size_t words, size_t bytes)
+{
+    return hokrund_build_table(KIND, PANES, wanted, groups, S, C, table, length, logs, words, changed, bytes);
 }
 
 static HokrundJob in_phase(uint8_t phase, uint8_t level)
@@ -50,6 +57,22 @@ static HokrundJob passed_at(uint8_t level)
     return job;
 }
 
+/* A job in a reverse level, with nothing loaded. */
+static HokrundJob reverse_at(uint8_t level)
+{
+    HokrundJob job = in_phase(HOKRUND_LEVEL, level);
+    job.way = HOKRUND_REVERSE;
+    return job;
+}
+
+/* Every segment is swept against every segment. */
+static HokrundJob swept(HokrundJob job)
+{
+    for (uint32_t b = 0; b < G; b++)
+        job.swept[b] = ((uint64_t)1 << G) - 1;
+    return job;
+}
+
 static void stack_refusals(void)
 {
     same("KIND", hokrund_index_of_stack(2, PANES, wanted).refusal, HOKRUND_REFUSED_KIND);
@@ -62,7 +85,8 @@ static void stack_refusals(void)
 
 static void job_refusals(void)
 {
-    HokrundJob job = begun(), last = passed_at(255), waits = passed_at(1);
+    HokrundJob job = begun(), last = passed_at(255), waits = passed_at(1), reverse = reverse_at(1);
+    HokrundJob loaded = hokrund_load(reverse, 0, table, 1, changed, LIST_BYTES).job;
     last.counts[255] = 1;
     waits.waiting[1] = 1;
     logs[C] = 2;
@@ -74,8 +98,19 @@ static void job_refusals(void)
     same("LENGTH", hokrund_blank(job, 0, table, 2).refusal, HOKRUND_REFUSED_LENGTH);
     same("PASSED", hokrund_blank(hokrund_blank(job, 0, table, 1).job, 0, table, 1).refusal, HOKRUND_REFUSED_PASSED);
     same("OFFSET", hokrund_settle(waits, 1, table + 1, 1, logs, WORDS).refusal, HOKRUND_REFUSED_OFFSET);
-    same("NOT_READY", hokrund_close(waits).refusal, HOKRUND_REFUSED_NOT_READY);
-    same("LAST_LEVEL", hokrund_close(last).refusal, HOKRUND_REFUSED_LAST_LEVEL);
+    same("NOT_READY", hokrund_close(waits, HOKRUND_FORWARD).refusal, HOKRUND_REFUSED_NOT_READY);
+    same("LAST_LEVEL", hokrund_close(last, HOKRUND_FORWARD).refusal, HOKRUND_REFUSED_LAST_LEVEL);
+    same("PHASE, expand", hokrund_expand(reverse, 0, table, 1, logs, WORDS).refusal, HOKRUND_REFUSED_PHASE);
+    same("PHASE, settle", hokrund_settle(reverse, 0, table, 1, logs, WORDS).refusal, HOKRUND_REFUSED_PHASE);
+    same("PHASE, load", hokrund_load(passed_at(1), 0, table, 1, changed, LIST_BYTES).refusal, HOKRUND_REFUSED_PHASE);
+    same("PHASE, sweep", hokrund_sweep(passed_at(1), 0, table, 1, changed, LIST_BYTES).refusal, HOKRUND_REFUSED_PHASE);
+    same("SEGMENT, load", hokrund_load(reverse, G, table, 1, changed, LIST_BYTES).refusal, HOKRUND_REFUSED_SEGMENT);
+    same("LENGTH, load", hokrund_load(reverse, 0, table, 1, changed, LIST_BYTES - 1).refusal, HOKRUND_REFUSED_LENGTH);
+    same("NOT_LOADED", hokrund_sweep(reverse, 0, table, 1, changed, LIST_BYTES).refusal, HOKRUND_REFUSED_NOT_LOADED);
+    same("LENGTH, sweep", hokrund_sweep(loaded, 0, table, 1, changed, LIST_BYTES - 1).refusal, HOKRUND_REFUSED_LENGTH);
+    loaded = hokrund_sweep(loaded, 1, table + 1, 1, changed, LIST_BYTES).job;
+    same("PASSED, sweep", hokrund_sweep(loaded, 1, table + 1, 1, changed, LIST_BYTES).refusal, HOKRUND_REFUSED_PASSED);
+    same("NOT_READY, reverse", hokrund_close(loaded, HOKRUND_FORWARD).refusal, HOKRUND_REFUSED_NOT_READY);
 }
 
 /* Each limit of a coherent job: there, and one past it. Look is refused in no phase. */
@@ -116,6 +151,24 @@ static void coherence(void)
     past.waiting[G] = 1;
     limit("waiting past the last segment", at, past);
     past = at;
+    at.way = HOKRUND_REVERSE;
+    past.way = HOKRUND_REVERSE + 1;
+    limit("way", at, past);
+    past = at;
+    at.loaded = G - 1;
+    past.loaded = G;
+    limit("loaded", at, past);
+    at.loaded = HOKRUND_NO_SEGMENT;
+    past.loaded = HOKRUND_NO_SEGMENT + 1;
+    limit("nothing loaded", at, past);
+    past = at;
+    at.swept[G - 1] = (uint64_t)1 << (G - 1);
+    past.swept[G - 1] = (uint64_t)1 << G;
+    limit("swept", at, past);
+    past = at;
+    past.swept[G] = 1;
+    limit("swept past the last segment", at, past);
+    past = at;
     at.counts[255] = (uint64_t)1 << 60;
     past.counts[255] = ((uint64_t)1 << 60) + 1;
     limit("count", at, past);
@@ -126,12 +179,96 @@ static void last_levels(void)
 {
     HokrundJob job = passed_at(254);
     job.counts[254] = 1;
-    job = hokrund_close(job).job;
+    job = hokrund_close(job, HOKRUND_FORWARD).job;
     same("phase after level 254", job.phase, HOKRUND_LEVEL);
     same("level after level 254", job.level, 255);
-    job = hokrund_close(passed_at(255)).job;
+    job = hokrund_close(passed_at(255), HOKRUND_FORWARD).job;
     same("phase after level 255", job.phase, HOKRUND_FINISHED);
     same("deepest after level 255", job.level, 254);
+}
+
+/* The way that close is told, from any level, by any number; a finished job keeps it too, and nothing is loaded or swept then. */
+static void closed(HokrundJob job, uint8_t phase)
+{
+    static const uint8_t told[] = {HOKRUND_FORWARD, HOKRUND_REVERSE, 2, 255};
+    for (int i = 0; i < 4; i++) {
+        HokrundAnswer a = hokrund_close(job, told[i]);
+        same("closed", a.refusal, HOKRUND_ACCEPTED);
+        same("closed, phase", a.job.phase, phase);
+        same("closed, way", a.job.way, told[i] == HOKRUND_FORWARD ? HOKRUND_FORWARD : HOKRUND_REVERSE);
+        same("closed, loaded", a.job.loaded, HOKRUND_NO_SEGMENT);
+        for (uint32_t b = 0; b < HOKRUND_SEGMENTS; b++)
+            same("closed, swept", a.job.swept[b], 0);
+    }
+}
+
+static void ways(void)
+{
+    HokrundJob blanked = passed_at(1), forward = passed_at(1), reverse = swept(reverse_at(1));
+    blanked.phase = HOKRUND_BLANKING;
+    blanked.level = 0;
+    closed(blanked, HOKRUND_LEVEL);
+    closed(forward, HOKRUND_FINISHED);
+    closed(swept(forward), HOKRUND_FINISHED);
+    reverse.loaded = 1;
+    closed(reverse, HOKRUND_FINISHED);
+    reverse.counts[1] = 1;
+    closed(reverse, HOKRUND_LEVEL);
+    reverse.swept[1] = 1;
+    same("a pair is left", hokrund_close(reverse, HOKRUND_REVERSE).refusal, HOKRUND_REFUSED_NOT_READY);
+}
+
+/* Level 1 reverse: the wanted stack is the first of segment 0, and a child of the third there and of the second of segment 1. */
+static void reverse_level(void)
+{
+    HokrundJob job = reverse_at(1);
+    table[0] = 0xfc;
+    table[1] = 0xff;
+    changed[0] = 0xff;
+    job = hokrund_load(job, 0, table, 1, changed, LIST_BYTES).job;
+    same("loaded", job.loaded, 0);
+    same("changed list", changed[0], 0x01);
+    job = hokrund_sweep(job, 0, table, 1, changed, LIST_BYTES).job;
+    job = hokrund_sweep(job, 1, table + 1, 1, changed, LIST_BYTES).job;
+    same("swept segment 0", table[0], 0xdc);
+    same("swept segment 1", table[1], 0xf7);
+    same("swept", job.swept[0], 3);
+    same("count of a reverse level", job.counts[1], 2);
+    changed[0] = 0xff;
+    job = hokrund_load(job, 1, table + 1, 1, changed, LIST_BYTES).job;
+    same("changed list of segment 1", changed[0], 0);
+    changed[0] = 0xfc;
+    job = hokrund_sweep(job, 0, table, 1, changed, LIST_BYTES).job;
+    same("swept by spare bits", table[0], 0xdc);
+    same("counted by spare bits", job.counts[1], 2);
+}
+
+/* A whole build with every level reverse leaves what build_table leaves. */
+static void reverse_build(void)
+{
+    HokrundAnswer built = build(GROUPS, sizeof table, WORDS, LIST_BYTES);
+    const uint8_t right[] = {table[0], table[1]};
+    HokrundJob job = begun();
+    for (uint32_t j = 0; j < G; j++)
+        job = hokrund_blank(job, j, table + j, 1).job;
+    job = hokrund_close(job, HOKRUND_REVERSE).job;
+    while (job.phase == HOKRUND_LEVEL) {
+        for (uint32_t b = 0; b < G; b++) {
+            job = hokrund_load(job, b, table + b, 1, changed, LIST_BYTES).job;
+            for (uint32_t j = 0; j < G; j++)
+                job = hokrund_sweep(job, j, table + j, 1, changed, LIST_BYTES).job;
+        }
+        HokrundAnswer a = hokrund_close(job, HOKRUND_REVERSE);
+        same("reverse, closed", a.refusal, HOKRUND_ACCEPTED);
+        if (a.refusal != HOKRUND_ACCEPTED)
+            return;
+        job = a.job;
+    }
+    same("reverse, deepest", job.level, built.job.level);
+    for (int d = 0; d < HOKRUND_LEVELS; d++)
+        same("reverse, count", job.counts[d], built.job.counts[d]);
+    for (size_t i = 0; i < sizeof table; i++)
+        same("reverse, entries", table[i], right[i]);
 }
 
 /* Level 255 where it brings stacks. The wanted stack's entry is 2, that of level 254; turn 2 leads to stack 2 and turn 3 to stack 5. */
@@ -147,7 +284,7 @@ static void level_255(uint32_t groups, uint8_t first, unsigned long brought)
     same("marked at level 255", table[0], first);
     same("settled at level 255", table[1], 0xf3);
     same("count of level 255", job.counts[255], brought);
-    same("closed at level 255", hokrund_close(job).refusal, HOKRUND_REFUSED_LAST_LEVEL);
+    same("closed at level 255", hokrund_close(job, HOKRUND_FORWARD).refusal, HOKRUND_REFUSED_LAST_LEVEL);
     same("expanded at level 255", hokrund_expand(job, 0, table, 1, logs, WORDS).refusal, HOKRUND_REFUSED_PASSED);
 }
 
@@ -191,7 +328,7 @@ static void order(uint8_t kind, uint8_t n)
 static void level(void)
 {
     HokrundJob job = hokrund_blank(hokrund_blank(begun(), 0, table, 1).job, 1, table + 1, 1).job;
-    job = hokrund_close(job).job;
+    job = hokrund_close(job, HOKRUND_FORWARD).job;
     HokrundExpanded e = hokrund_expand(job, 0, table, 1, logs, WORDS);
     same("expanded", e.refusal, HOKRUND_ACCEPTED);
     same("waits", e.waits, false);
@@ -209,7 +346,7 @@ static HokrundPlanned plan(HokrundStack given, uint32_t groups, size_t length, s
 static void tables(void)
 {
     const size_t slots = HOKRUND_TURN_LIST;
-    HokrundAnswer built = hokrund_build_table(KIND, PANES, wanted, GROUPS, S, C, table, sizeof table, logs, WORDS);
+    HokrundAnswer built = build(GROUPS, sizeof table, WORDS, LIST_BYTES);
     same("built", built.refusal, HOKRUND_ACCEPTED);
     same("phase", built.job.phase, HOKRUND_FINISHED);
     same("deepest", built.job.level, 3);
@@ -218,8 +355,10 @@ static void tables(void)
     same("spare entries", table[1] >> 4, 15);
     same("planned", plan(other, GROUPS, sizeof table, slots).turns, 2);
     same("another set", plan(other, SIZE(3), sizeof table, slots).refusal, HOKRUND_REFUSED_NO_PLAN);
-    same("table", hokrund_build_table(KIND, PANES, wanted, GROUPS, S, C, table, 1, logs, WORDS).refusal, HOKRUND_REFUSED_LENGTH);
-    same("log", hokrund_build_table(KIND, PANES, wanted, GROUPS, S, C, table, 2, logs, C).refusal, HOKRUND_REFUSED_LENGTH);
+    same("table", build(GROUPS, 1, WORDS, LIST_BYTES).refusal, HOKRUND_REFUSED_LENGTH);
+    same("log", build(GROUPS, sizeof table, C, LIST_BYTES).refusal, HOKRUND_REFUSED_LENGTH);
+    same("changed list", build(GROUPS, sizeof table, WORDS, LIST_BYTES - 1).refusal, HOKRUND_REFUSED_LENGTH);
+    same("refused, loaded", build(GROUPS, 1, WORDS, LIST_BYTES).job.loaded, HOKRUND_NO_SEGMENT);
     same("list", plan(other, GROUPS, sizeof table, slots - 1).refusal, HOKRUND_REFUSED_LENGTH);
     table[0] = table[1] = 255;
     same("unseen", hokrund_read_entry(KIND, PANES, table, sizeof table, 0).entry, HOKRUND_UNSEEN);
@@ -228,22 +367,29 @@ static void tables(void)
     same("NO_PLAN", plan(other, GROUPS, sizeof table, slots).refusal, HOKRUND_REFUSED_NO_PLAN);
 }
 
-/* Where several refusals apply: 21 comes after every 3 and before the rest, 20 after every 10 and before 15 and a tariff's. No stack is seen. */
+/* Where several refusals apply: 21 comes after every 3 and before the rest, 20 after every 10 and before 15 and a tariff's, 22 after 9 and before
+ * 10, 11 after every 10. No stack is seen. */
 static void first_refusals(void)
 {
+    HokrundJob reverse = reverse_at(1), loaded = swept(reverse);
     HokrundTariff tariff = {HOKRUND_LINES + 1, {{0, 0, 0}}};
     uint8_t list[HOKRUND_TURN_LIST];
     table[0] = table[1] = 255;
     same("3, 21", hokrund_begin(KIND, PANES, none, 0, S, C).refusal, HOKRUND_REFUSED_STACK);
     same("21, 5", hokrund_begin(KIND, PANES, wanted, 0, 6, C).refusal, HOKRUND_REFUSED_GROUPS);
     same("21, 6", hokrund_begin(KIND, PANES, wanted, 0, S, 15).refusal, HOKRUND_REFUSED_GROUPS);
-    same("21, 10, build", hokrund_build_table(KIND, PANES, wanted, 0, S, C, table, 1, logs, C).refusal, HOKRUND_REFUSED_GROUPS);
+    same("21, 10, build", build(0, 1, C, 0).refusal, HOKRUND_REFUSED_GROUPS);
     same("3, 21, plan", plan(none, 0, sizeof table, sizeof list).refusal, HOKRUND_REFUSED_STACK);
     same("21, 10, table", plan(other, 0, 1, sizeof list).refusal, HOKRUND_REFUSED_GROUPS);
     same("21, 10, list", plan(other, 0, sizeof table, sizeof list - 1).refusal, HOKRUND_REFUSED_GROUPS);
     same("10, 20, table", plan(other, GROUPS, 1, sizeof list).refusal, HOKRUND_REFUSED_LENGTH);
     same("10, 20, list", plan(other, GROUPS, sizeof table, sizeof list - 1).refusal, HOKRUND_REFUSED_LENGTH);
     same("20, 15", plan(wanted, GROUPS, sizeof table, sizeof list).refusal, HOKRUND_REFUSED_NO_ROAD);
+    loaded.loaded = 0;
+    same("9, 22", hokrund_sweep(reverse, G, table, 1, changed, LIST_BYTES).refusal, HOKRUND_REFUSED_SEGMENT);
+    same("22, 10", hokrund_sweep(reverse, 0, table, 2, changed, 0).refusal, HOKRUND_REFUSED_NOT_LOADED);
+    same("10, 11", hokrund_sweep(loaded, 0, table, 2, changed, LIST_BYTES).refusal, HOKRUND_REFUSED_LENGTH);
+    same("10, 11, list", hokrund_sweep(loaded, 0, table, 1, changed, 0).refusal, HOKRUND_REFUSED_LENGTH);
     same("20, 17", hokrund_price(KIND, PANES, wanted, other, GROUPS, table, sizeof table, list, sizeof list, tariff).refusal,
          HOKRUND_REFUSED_NO_ROAD);
 }
@@ -253,7 +399,7 @@ static void one_size(void)
 {
     const size_t slots = HOKRUND_TURN_LIST;
     HokrundStack reversed = {{3, 2, 1}};
-    HokrundAnswer built = hokrund_build_table(KIND, PANES, wanted, SIZE(3), S, C, table, sizeof table, logs, WORDS);
+    HokrundAnswer built = build(SIZE(3), sizeof table, WORDS, LIST_BYTES);
     same("one size, built", built.refusal, HOKRUND_ACCEPTED);
     same("one size, phase", built.job.phase, HOKRUND_FINISHED);
     same("one size, deepest", built.job.level, 1);
@@ -272,6 +418,7 @@ static void one_size(void)
 #define NINE_SIZE 40000
 #define NINE_ROOM 256
 #define NINE_WORDS HOKRUND_LOG_WORDS(HOKRUND_SEGMENT_COUNT(NINE, NINE_SIZE), NINE_ROOM)
+#define NINE_LIST HOKRUND_CHANGED_BYTES(NINE_SIZE)
 
 static const HokrundStack nine = {{1, 2, 3, 4, 5, 6, 7, 8, 9}};
 static uint8_t nine_table[HOKRUND_TABLE_BYTES(NINE)];
@@ -298,10 +445,11 @@ static void even_orders(void)
                                            12865, 16290, 19734, 22035, 21490, 19349, 16320, 11542, 6525, 2758, 939, 102, 26, 12, 3};
     static const char turns[] = "9595959545945459545959459545945959";
     static uint32_t nine_logs[NINE_WORDS];
+    static uint8_t nine_list[NINE_LIST];
     HokrundStack far = {{8, 6, 9, 7, 5, 2, 4, 1, 3}}, odd = {{2, 1, 3, 4, 5, 6, 7, 8, 9}};
     uint8_t list[HOKRUND_TURN_LIST];
     HokrundAnswer built = hokrund_build_table(HOKRUND_PLAIN, 9, nine, EVEN, NINE_SIZE, NINE_ROOM, nine_table, sizeof nine_table, nine_logs,
-                                              NINE_WORDS);
+                                              NINE_WORDS, nine_list, NINE_LIST);
     same("even, built", built.refusal, HOKRUND_ACCEPTED);
     same("even, phase", built.job.phase, HOKRUND_FINISHED);
     same("even, deepest", built.job.level, 34);
@@ -372,7 +520,7 @@ static void line(const char *what, uint32_t count, uint8_t first, uint8_t last, 
 static void prices(void)
 {
     HokrundTariff tariff = {2, {{1, 2, 1250}, {3, 3, 1250}}};
-    hokrund_build_table(KIND, PANES, wanted, GROUPS, S, C, table, sizeof table, logs, WORDS);
+    build(GROUPS, sizeof table, WORDS, LIST_BYTES);
     same("price", pennies("priced", tariff, HOKRUND_ACCEPTED), 3);
     line("one line", 1, 1, PANES, HOKRUND_MOST_PRICE, HOKRUND_ACCEPTED);
     line("LINE, price", 1, 1, PANES, HOKRUND_MOST_PRICE + 1, HOKRUND_REFUSED_LINE);
@@ -391,6 +539,9 @@ int main(void)
     job_refusals();
     coherence();
     last_levels();
+    ways();
+    reverse_level();
+    reverse_build();
     level_255(GROUPS, 0xce, 2);
     level_255(SIZE(3), 0xfe, 1);
     for (uint8_t n = 1; n <= 12; n++)

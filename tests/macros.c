@@ -68,6 +68,8 @@ static void segments(int kind, int n, uint32_t size)
         same("m", kind, n, j, HOKRUND_SEGMENT_STACKS(HOKRUND_STACKS(kind, n), size, j), m);
         same("m of ints", kind, n, j, HOKRUND_SEGMENT_STACKS(HOKRUND_STACKS(kind, n), (int)size, (int)j), m);
         same("bytes", kind, n, j, HOKRUND_SEGMENT_BYTES(m), m / 4 + (m % 4 != 0));
+        same("changed list", kind, n, j, HOKRUND_CHANGED_BYTES(m), m / 8 + (m % 8 != 0));
+        same("changed list of ints", kind, n, j, HOKRUND_CHANGED_BYTES((int)m), m / 8 + (m % 8 != 0));
         same("start", kind, n, j, HOKRUND_SEGMENT_START(size, j), bytes);
         same("start of ints", kind, n, j, HOKRUND_SEGMENT_START((int)size, (int)j), bytes);
         left -= m;
@@ -92,7 +94,7 @@ static void sizes(int kind, int n)
     segments(kind, n, 67108864);
 }
 
-/* As constants: the sizes of arrays, and of the largest table and log area. */
+/* As constants: the sizes of arrays, and of the largest table, log area and changed list. */
 #define ARRAY(count) sizeof(char[count])
 static const uint64_t plain[] = {
     ARRAY(HOKRUND_STACKS(HOKRUND_PLAIN, 1)), ARRAY(HOKRUND_STACKS(HOKRUND_PLAIN, 2)), ARRAY(HOKRUND_STACKS(HOKRUND_PLAIN, 3)),
@@ -127,16 +129,21 @@ static void constants(void)
             same("groups as a constant", kind, n, 0, sets[kind][n], groups(kind, n) + 1);
     same("table as a constant", 1, 10, 0, ARRAY(HOKRUND_TABLE_BYTES(HOKRUND_STACKS(HOKRUND_COATED, 10))), all / 4);
     same("log as a constant", 1, 10, 0, ARRAY(HOKRUND_LOG_WORDS(64, 1048576)), (uint64_t)64 * 1048576);
+    same("changed list as a constant", 1, 10, 35, ARRAY(HOKRUND_CHANGED_BYTES(LARGEST_STACKS(35))), 8388608);
     same("m as a constant", 1, 10, 35, ARRAY(LARGEST_STACKS(35)), 67108864);
     same("the last m as a constant", 1, 10, 55, ARRAY(LARGEST_STACKS(LARGEST_COUNT - 1)), all % 67108864);
 }
 
-/* What the structs hold, and the least turn list. */
+/* What the structs hold, and the least turn list; the changed lists of few stacks. */
 static void held(void)
 {
     HokrundJob *job = 0;
+    for (int m = 0; m <= 24; m++)
+        same("changed list of few", 0, m, 0, HOKRUND_CHANGED_BYTES(m), (m > 0) + (m > 8) + (m > 16));
     same("levels", 0, 0, 0, sizeof job->counts / sizeof job->counts[0], 256);
     same("segments", 0, 0, 0, sizeof job->passed / sizeof job->passed[0], 64);
+    same("pairs", 0, 0, 0, 8 * sizeof job->swept, 64 * 64);
+    same("no segment", 0, 0, 0, HOKRUND_NO_SEGMENT, HOKRUND_SEGMENTS);
     same("places", 0, 0, 0, sizeof job->wanted.places, 12);
     same("turn list", 0, 0, 0, HOKRUND_TURN_LIST, 254);
 }

@@ -3,7 +3,7 @@
 use std::fmt;
 use std::time::Instant;
 
-use outside::build::{ordered, size_for, Build, Fields, Order};
+use outside::build::{ordered, size_for, Build, Fields, FORWARD_RISING};
 use outside::linked::{Library, JOB_BYTES};
 use outside::rng::Rng;
 use outside::system::*;
@@ -103,6 +103,22 @@ impl Subject {
     }
 }
 
+// The ways of a whole build's levels.
+#[derive(Clone, Copy, PartialEq, Debug)]
+pub enum Ways {
+    Forward,
+    Chosen,
+}
+
+pub const WAYS: [Ways; 2] = [Ways::Forward, Ways::Chosen];
+
+impl Ways {
+    // The word that names them on the command line.
+    pub fn word(self) -> String {
+        format!("{self:?}").to_lowercase()
+    }
+}
+
 // What a build lends, ready before the clock starts.
 pub enum Lent {
     TwoBits { system: Box<dyn System>, build: Box<Build> },
@@ -148,19 +164,32 @@ impl Subject {
             return Lent::Queue { turns: vec![fill; stacks], queue: vec![u32::from(fill); stacks] };
         };
         let fields = self.fields();
-        let Fields { kind, n, wanted, groups, size, room } = fields;
         let measures = fields.measures().expect("the subject is right");
-        let job = system.begin(kind, n, wanted, groups, size, room).job;
+        let job = fields.begin(system.as_ref()).job;
         let segments = (0..measures.segments).map(|j| vec![fill; measures.bytes_of(j)]).collect();
-        let logs = vec![u32::from(fill); measures.log_numbers()];
-        Lent::TwoBits { system, build: Box::new(Build { job, measures, segments, logs }) }
+        let (logs, list) = (vec![u32::from(fill); measures.log_numbers()], vec![fill; measures.list_bytes_of(0)]);
+        Lent::TwoBits { system, build: Box::new(Build { job, measures, segments, logs, list }) }
+    }
+
+    // Runs Build the whole table of the proved library, which chooses the way of each level, or the same calls with every level forward.
+    pub fn drive(&self, ways: Ways) -> Built {
+        let Lent::TwoBits { system, mut build } = self.lend(Method::Library, false) else { unreachable!() };
+        if ways == Ways::Forward {
+            let (finished, took) = timed(|| build.drive(system.as_ref(), |_| FORWARD));
+            finished.expect("no call of a build in order is refused");
+            return Built { took, counts: build.job.counts, cells: build.table() };
+        }
+        let (fields, mut cells) = (self.fields(), build.table());
+        let Build { logs, list, .. } = build.as_mut();
+        let (answer, took) = timed(|| fields.build_table(system.as_ref(), &mut cells, logs, list));
+        Built { took, counts: answer.job.counts, cells }
     }
 
     // Runs the build; the time is that of the calls alone.
     pub fn build(&self, lent: Lent) -> Built {
         match lent {
             Lent::TwoBits { system, mut build } => {
-                let (finished, took) = timed(|| build.finish(system.as_ref(), Order::Rising, &mut Rng::new(1)));
+                let (finished, took) = timed(|| build.finish(system.as_ref(), FORWARD_RISING, &mut Rng::new(1)));
                 finished.expect("no call of a build in order is refused");
                 Built { took, counts: build.job.counts, cells: build.table() }
             }

@@ -1,6 +1,6 @@
 // Before anything is measured: methods (b) and (c) give what documents 01 and 02 say.
 
-use outside::build::{Build, Order, Refused};
+use outside::build::{Build, Refused, FORWARD_RISING};
 use outside::cases::{Family, FAMILIES};
 use outside::checks;
 use outside::compare::{compare, Tally};
@@ -17,6 +17,7 @@ pub fn check(seed: u64) -> Result<(), String> {
     println!("numbering: {}", checks::numbering(&Fast)?);
     println!("builds: {}", checks::builds(&Fast, seed)?);
     println!("limited sets: {}", checks::limited(&Fast, seed)?);
+    println!("reverse levels: {}", checks::reverse(&Fast, seed)?);
     println!("deep builds: {}", checks::deep(&Fast, &checks::DEEP)?);
     println!("last level: {}", checks::late(&Fast)?);
     println!("diameters: {}", checks::diameters(&Fast, 10, 8)?);
@@ -63,13 +64,13 @@ fn children_by_entries(subject: &Subject) -> Result<u64, String> {
     let refused = |(refusal, call): Refused| format!("{subject}: {call} refused {refusal}");
     let mut rng = Rng::new(1);
     let mut build = Build::begin(&Fast, &subject.fields(), &mut rng).map_err(|refusal| refused((refusal, "Begin")))?;
-    build.blank_all(&Fast, Order::Rising, &mut rng).map_err(refused)?;
+    build.blank_all(&Fast, FORWARD_RISING, &mut rng).map_err(refused)?;
     let mut children = 0;
     while let Phase::Level(d) = build.job.phase {
         let table = build.table();
         let expanded = (0..subject.stacks()).filter(|&i| paper::entry_at(&table, i) == (d - 1) % 3).count();
         children += expanded as u64 * paper::turns(subject.kind, subject.n).count() as u64;
-        build.level(&Fast, Order::Rising, &mut rng).map_err(refused)?;
+        build.level(&Fast, FORWARD_RISING, &mut rng).map_err(refused)?;
     }
     match subject.children(Method::Fast, &build.job.counts) {
         right if right == children => Ok(children),

@@ -1,5 +1,5 @@
 // Method (b): the paper's method in plain efficient Rust, with the operations and answers of documents 01 and 02.
-// A stack is unranked once when it is expanded; each child is turned and ranked.
+// A stack is unranked once when it is expanded or swept; each child is turned and ranked.
 
 use outside::system::*;
 
@@ -146,8 +146,17 @@ impl Shape {
         self.stacks_of(j).div_ceil(4) as usize
     }
 
+    fn list_bytes_of(&self, b: u32) -> usize {
+        self.stacks_of(b).div_ceil(8) as usize
+    }
+
     fn log_numbers(&self) -> usize {
         self.segments as usize * self.room as usize
+    }
+
+    // All segments, each as its bit.
+    fn all(&self) -> u64 {
+        u64::MAX >> (SEGMENTS as u32 - self.segments)
     }
 }
 
@@ -182,11 +191,18 @@ fn coherent(job: &Job) -> Result<Shape, u8> {
         Phase::NoPhase(..) => false,
     };
     let (inside, beyond) = (0..shape.segments, shape.segments as usize..SEGMENTS);
+    let fits = |j: u32| {
+        let place = j as usize;
+        job.passed[place] <= shape.stacks_of(j)
+            && job.waiting[place] <= shape.room
+            && job.swept[place] & !shape.all() == 0
+    };
     let right = phase
-        && inside
-            .into_iter()
-            .all(|j| job.passed[j as usize] <= shape.stacks_of(j) && job.waiting[j as usize] <= shape.room)
-        && job.passed[beyond.clone()].iter().chain(&job.waiting[beyond]).all(|&number| number == 0)
+        && matches!(job.way, FORWARD | REVERSE)
+        && (job.loaded == NO_SEGMENT || u32::from(job.loaded) < shape.segments)
+        && inside.into_iter().all(fits)
+        && job.passed[beyond.clone()].iter().chain(&job.waiting[beyond.clone()]).all(|&number| number == 0)
+        && job.swept[beyond].iter().all(|&row| row == 0)
         && job.counts.iter().all(|&count| count <= MOST_COUNT);
     if right {
         Ok(shape)
@@ -195,17 +211,23 @@ fn coherent(job: &Job) -> Result<Shape, u8> {
     }
 }
 
-// The shape and level of a job that may expand or settle segment j with these buffers.
-fn levelled(job: &Job, j: u32, segment: &[u8], logs: &[u32]) -> Result<(Shape, u8), u8> {
+// The shape and level of a job in a level of this way that has a segment j.
+fn levelled(job: &Job, way: u8, j: u32) -> Result<(Shape, u8), u8> {
     let shape = coherent(job)?;
-    let Phase::Level(d) = job.phase else { return Err(8) };
-    if j >= shape.segments {
-        return Err(9);
+    match job.phase {
+        Phase::Level(d) if job.way == way && j < shape.segments => Ok((shape, d)),
+        Phase::Level(_) if job.way == way => Err(9),
+        _ => Err(8),
     }
-    if segment.len() != shape.bytes_of(j) || logs.len() != shape.log_numbers() {
-        return Err(10);
+}
+
+// Goes on where all lengths are right.
+fn fitting(lengths: &[(usize, usize)]) -> Result<(), u8> {
+    if lengths.iter().all(|(length, right)| length == right) {
+        Ok(())
+    } else {
+        Err(10)
     }
-    Ok((shape, d))
 }
 
 // ---- Entries
@@ -296,6 +318,28 @@ fn expand<const COATED: bool>(
     on
 }
 
+// Marks each unseen stack with a child in segment b whose bit is set; how many.
+fn sweep<const COATED: bool>(job: &Job, shape: Shape, d: u8, j: u32, segment: &mut [u8], list: &[u8]) -> u64 {
+    let n = job.n as usize;
+    let (sizes, children) = sizes_of(job.groups);
+    let (start, stacks) = (u32::from(job.loaded) * shape.size, shape.stacks_of(u32::from(job.loaded)));
+    let end = shape.stacks_of(j);
+    let mut marked = 0;
+    let mut i = next_with(segment, 0, end, UNSEEN);
+    while i < end {
+        let stack = unrank::<COATED>(n, j * shape.size + i);
+        let is_set = |&k: &usize| {
+            let offset = rank::<COATED>(n, &flip::<COATED>(&stack, k)).wrapping_sub(start);
+            offset < stacks && list[(offset / 8) as usize] >> (offset % 8) & 1 == 1
+        };
+        if sizes[..children].iter().any(is_set) {
+            marked += mark(segment, i, d % 3);
+        }
+        i = next_with(segment, i + 1, end, UNSEEN);
+    }
+    marked
+}
+
 // The lowest other segment whose free log places these children outnumber.
 fn full_log(job: &Job, shape: Shape, j: u32, places: &[(u32, u32)]) -> Option<u32> {
     let falling = |t: u32| places.iter().filter(|(other, _)| *other == t).count() as u32;
@@ -371,7 +415,8 @@ impl Fast {
     }
 
     fn try_expand(job: &Job, j: u32, segment: &mut [u8], logs: &mut [u32]) -> Result<(Job, Option<u32>), u8> {
-        let (shape, d) = levelled(job, j, segment, logs)?;
+        let (shape, d) = levelled(job, FORWARD, j)?;
+        fitting(&[(segment.len(), shape.bytes_of(j)), (logs.len(), shape.log_numbers())])?;
         if job.passed[j as usize] == shape.stacks_of(j) {
             return Err(11);
         }
@@ -382,7 +427,8 @@ impl Fast {
     }
 
     fn try_settle(job: &Job, j: u32, segment: &mut [u8], logs: &[u32]) -> Result<Job, u8> {
-        let (shape, d) = levelled(job, j, segment, logs)?;
+        let (shape, d) = levelled(job, FORWARD, j)?;
+        fitting(&[(segment.len(), shape.bytes_of(j)), (logs.len(), shape.log_numbers())])?;
         let start = j as usize * shape.room as usize;
         let waiting = &logs[start..start + job.waiting[j as usize] as usize];
         let stacks = shape.stacks_of(j);
@@ -395,16 +441,23 @@ impl Fast {
         Ok(after)
     }
 
-    fn try_close(job: &Job) -> Result<Job, u8> {
+    fn try_close(job: &Job, way: u8) -> Result<Job, u8> {
         let shape = coherent(job)?;
         if let Phase::Finished(_) = job.phase {
             return Err(8);
         }
-        let ready = |j: u32| job.passed[j as usize] == shape.stacks_of(j) && job.waiting[j as usize] == 0;
-        if !(0..shape.segments).all(ready) {
+        let passed = |j: u32| job.passed[j as usize] == shape.stacks_of(j) && job.waiting[j as usize] == 0;
+        let swept = |b: u32| job.swept[b as usize] == shape.all();
+        let ready = match job.phase {
+            Phase::Level(_) if job.way == REVERSE => (0..shape.segments).all(swept),
+            _ => (0..shape.segments).all(passed),
+        };
+        if !ready {
             return Err(13);
         }
-        let mut after = Job { passed: [0; SEGMENTS], ..*job };
+        let way = if way == FORWARD { FORWARD } else { REVERSE };
+        let (passed, swept) = ([0; SEGMENTS], [0; SEGMENTS]);
+        let mut after = Job { way, loaded: NO_SEGMENT, passed, swept, ..*job };
         match job.phase {
             Phase::Level(d) if job.counts[d as usize] == 0 => after.phase = Phase::Finished(d - 1),
             Phase::Level(LAST_LEVEL) => return Err(14),
@@ -414,6 +467,37 @@ impl Fast {
                 after.counts[0] = 1;
             }
         }
+        Ok(after)
+    }
+
+    fn try_load(job: &Job, b: u32, segment: &[u8], list: &mut [u8]) -> Result<Job, u8> {
+        let (shape, d) = levelled(job, REVERSE, b)?;
+        fitting(&[(segment.len(), shape.bytes_of(b)), (list.len(), shape.list_bytes_of(b))])?;
+        let (nearer, stacks) = ((d - 1) % 3, shape.stacks_of(b));
+        list.fill(0);
+        let mut i = next_with(segment, 0, stacks, nearer);
+        while i < stacks {
+            list[(i / 8) as usize] |= 1 << (i % 8);
+            i = next_with(segment, i + 1, stacks, nearer);
+        }
+        Ok(Job { loaded: b as u8, ..*job })
+    }
+
+    fn try_sweep(job: &Job, j: u32, segment: &mut [u8], list: &[u8]) -> Result<Job, u8> {
+        let (shape, d) = levelled(job, REVERSE, j)?;
+        if job.loaded == NO_SEGMENT {
+            return Err(22);
+        }
+        let right = shape.list_bytes_of(u32::from(job.loaded));
+        fitting(&[(segment.len(), shape.bytes_of(j)), (list.len(), right)])?;
+        let mut after = *job;
+        let row = &mut after.swept[job.loaded as usize];
+        if *row >> j & 1 == 1 {
+            return Err(11);
+        }
+        *row |= 1 << j;
+        let sweep = if job.kind == 0 { sweep::<false> } else { sweep::<true> };
+        after.counts[d as usize] += sweep(job, shape, d, j, segment, list);
         Ok(after)
     }
 }
@@ -499,8 +583,16 @@ impl System for Fast {
         }
     }
 
-    fn close(&self, job: &Job) -> Answer {
-        answer(Fast::try_close(job), job)
+    fn close(&self, job: &Job, way: u8) -> Answer {
+        answer(Fast::try_close(job, way), job)
+    }
+
+    fn load(&self, job: &Job, b: u32, segment: &[u8], list: &mut [u8]) -> Answer {
+        answer(Fast::try_load(job, b, segment, list), job)
+    }
+
+    fn sweep(&self, job: &Job, j: u32, segment: &mut [u8], list: &[u8]) -> Answer {
+        answer(Fast::try_sweep(job, j, segment, list), job)
     }
 
     fn read_entry(&self, kind: u8, n: u8, table: &[u8], index: u32) -> Entry {

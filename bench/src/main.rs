@@ -1,9 +1,10 @@
 // The benchmark's command line. It prints tables in Markdown.
 //
 //   bench/run [mode] [options]
-//   tables             (the default) whole builds by wall time and by instructions, and single calls
+//   tables             (the default) whole builds by wall time and by instructions, by either way of their levels, and single calls
 //   check              methods (b) and (c) against the outside tests; prints what was checked
-//   one METHOD BUILD   one build only, for a profiler; METHOD is library, fast, queue or none (set-up alone)
+//   one METHOD BUILD   one build only, for a profiler; METHOD is library, fast, queue, forward or chosen (the library's own loop with every level
+//                      forward, or with the ways that it chooses) or none (set-up alone)
 //   --builds LIST      the builds timed (plain9,plain10,plain11,coated7,coated8)
 //   --counted LIST     the builds counted in instructions by valgrind (plain8,plain9,coated6,coated7); none for none
 //   --segments G       about so many segments, which gives S (16)
@@ -13,7 +14,7 @@
 
 use std::process::{Command, ExitCode};
 
-use builds::{Built, Method, Subject, METHODS};
+use builds::{Built, Method, Subject, METHODS, WAYS};
 use calls::Calls;
 
 mod builds;
@@ -159,10 +160,10 @@ fn timed(options: &Options) -> Result<(), String> {
 // ---- Whole builds by instructions
 
 // Instructions of one build run by this program under callgrind; none where valgrind cannot be run.
-fn instructions(options: &Options, method: &str, subject: &Subject) -> Option<u64> {
+fn instructions(method: &str, subject: &Subject) -> Option<u64> {
     let this = std::env::current_exe().ok()?;
     let build = subject.to_string().replace(' ', "");
-    let (segments, room) = (options.segments.to_string(), options.room.to_string());
+    let (segments, room) = (subject.segments.to_string(), subject.room.to_string());
     let output = Command::new("valgrind")
         .args(["--tool=callgrind", "--callgrind-out-file=/dev/null"])
         .arg(this)
@@ -174,18 +175,22 @@ fn instructions(options: &Options, method: &str, subject: &Subject) -> Option<u6
     line.rsplit(' ').next()?.parse().ok()
 }
 
+// The same without the set-up.
+fn taken(method: &str, subject: &Subject) -> Result<u64, String> {
+    let counts = instructions(method, subject).zip(instructions("none", subject));
+    counts.map(|(whole, set_up)| whole.saturating_sub(set_up)).ok_or("valgrind did not run".to_string())
+}
+
 fn counted(options: &Options) -> Result<(), String> {
     println!("### Whole builds, instructions by valgrind, set-up taken off\n");
     println!("| build | method | children | instructions | a child | (a) / this |");
     println!("|---|---|--:|--:|--:|--:|");
     for build in &options.counted {
         let subject = options.subject(*build);
-        let set_up = instructions(options, "none", &subject).ok_or("valgrind did not run")?;
         let mut library = 0.0;
         for method in METHODS {
-            let whole = instructions(options, &method.word(), &subject).ok_or("valgrind did not run")?;
+            let taken = taken(&method.word(), &subject)?;
             let children = subject.children(method, &subject.build(subject.lend(method, false)).counts);
-            let taken = whole.saturating_sub(set_up);
             if method == Method::Library {
                 library = taken as f64;
             }
@@ -193,6 +198,23 @@ fn counted(options: &Options) -> Result<(), String> {
             let ratio = ratio(library, taken as f64);
             println!("| {subject} | {} | {children} | {taken} | {per_child:.1} | {ratio} |", method.name());
         }
+    }
+    println!();
+    Ok(())
+}
+
+// Build the whole table, which chooses the way of each level, beside the same calls with every level forward.
+fn by_either_way(options: &Options) -> Result<(), String> {
+    println!("### Whole builds of (a) by its own loop, instructions by valgrind, set-up taken off\n");
+    println!("| build | segments | every level forward | ways chosen | chosen / forward |");
+    println!("|---|--:|--:|--:|--:|");
+    for (build, segments) in options.counted.iter().flat_map(|build| [1, 2, 4, 16].map(|segments| (build, segments))) {
+        let subject = Subject { segments, ..options.subject(*build) };
+        let [forward, chosen] = WAYS.map(|ways| subject.drive(ways));
+        check::same(&subject, (Method::Library, &forward), (Method::Library, &chosen))?;
+        let [forward, chosen] = WAYS.map(|ways| taken(&ways.word(), &subject));
+        let (forward, chosen) = (forward?, chosen?);
+        println!("| {subject} | {segments} | {forward} | {chosen} | {:.3} |", chosen as f64 / forward as f64);
     }
     println!();
     Ok(())
@@ -228,6 +250,11 @@ fn one(options: &Options, method: &str, build: &str) -> Result<(), String> {
         drop(subject.lend(Method::Fast, false));
         return Ok(());
     }
+    if let Some(ways) = WAYS.into_iter().find(|ways| ways.word() == method) {
+        let built = subject.drive(ways);
+        println!("{subject}, {ways:?}: {} stacks", built.counts.iter().sum::<u64>());
+        return Ok(());
+    }
     let known = METHODS.into_iter().find(|known| known.word() == method).ok_or(format!("no method {method}"))?;
     let built = subject.build(subject.lend(known, false));
     println!("{subject} by {}: {} children", known.name(), subject.children(known, &built.counts));
@@ -241,6 +268,7 @@ fn tables(options: &Options) -> Result<(), String> {
     timed(options)?;
     if !options.counted.is_empty() {
         counted(options)?;
+        by_either_way(options)?;
     }
     called(options);
     Ok(())

@@ -1,15 +1,16 @@
--- Laws of `tally`, the count of the elements that pass a test, of `all`, of `total`, and of a list with one element taken out.
+-- Laws of `tally`, the count of the elements that pass a test, of `all`, `any`, `filter` and `total`, and of a list with one element taken out.
 use mathlib.Core.Path.{_≡_, refl, sym, ap, ap₂, _∙_, subst}
-use mathlib.Core.Bool.{Bool, true, false, _&&_, cond, and-true, and-assoc, and-comm}
+use mathlib.Core.Logic.{_⊎_, inl, inr}
+use mathlib.Core.Bool.{Bool, true, false, _&&_, _||_, cond, and-true, and-assoc, and-comm, false≢true}
 use mathlib.Core.List.{List, [], _∷_, _++_, map, reverse, reverse-cons}
 use Prim.Native.Nat.{ℕ, zero, suc, _+_, _≤_, _<_}
 use native.Mathlib.Nat.{zero-add, add-zero, add-suc, suc-add, add-assoc, le-refl, le-of-suc-le-suc, not-suc-le-zero}
 use native.Mathlib.Numerals.{one-add}
 use native.Mathlib.Omega.{arith}
 use lib.ListN.{length, getD, take, replicate}
-use Rattle.base.proofs.Tests.{and-left, and-right, and-both}
+use Rattle.base.proofs.Tests.{and-left, and-right, and-both, or-right, or-cases}
 use Rattle.base.proofs.Lists.{from-length, getD-from}
-use Rattle.base.specs.Words.{all, tally, total, from, without}
+use Rattle.base.specs.Words.{all, any, tally, filter, total, from, without}
 
 module _ {A : Type 0} (p : A → Bool) where
   pub tally-append : (xs ys : List A) → tally p (xs ++ ys) ≡ tally p xs + tally p ys
@@ -137,6 +138,78 @@ below-all p n h = at-all p (from 0 n) 0 (λ i l. go i (rw from-length at l))
   where
     go : (i : ℕ) → i < n → p (getD (from 0 n) i 0) ≡ true
     go i l = subst (λ (x : ℕ). p x ≡ true) (sym (getD-from 0 n i 0 l ∙ zero-add i)) (h i l)
+
+-- ---- some element of a list, and what a test leaves of it
+
+module _ {A : Type 0} (p : A → Bool) where
+  pub any-append : (xs ys : List A) → any p (xs ++ ys) ≡ (any p xs || any p ys)
+  unfolding any
+  any-append [] ys = refl
+  any-append (x ∷ xs) ys = go (p x) (any-append xs ys)
+    where
+      go : (t : Bool) → any p (xs ++ ys) ≡ (any p xs || any p ys) → (t || any p (xs ++ ys)) ≡ ((t || any p xs) || any p ys)
+      go true h = refl
+      go false h = h
+
+  module _ (a : A) where
+    pub any-at : (xs : List A) (i : ℕ) → i < length xs → p (getD xs i a) ≡ true → any p xs ≡ true
+    unfolding any
+    any-at [] i l h = absurd (not-suc-le-zero l)
+    any-at (x ∷ xs) zero l h = ap (λ (t : Bool). t || any p xs) h
+    any-at (x ∷ xs) (suc i) l h = or-right (p x) (any p xs) (any-at xs i (le-of-suc-le-suc l) h)
+
+    pub any-some : (xs : List A) → any p xs ≡ true → (i : ℕ) × (i < length xs) × (p (getD xs i a) ≡ true)
+    unfolding any
+    any-some [] h = absurd (false≢true h)
+    any-some (x ∷ xs) h = go (or-cases (p x) (any p xs) h) (any-some xs)
+      where
+        go : (p x ≡ true) ⊎ (any p xs ≡ true) → (any p xs ≡ true → (i : ℕ) × (i < length xs) × (p (getD xs i a) ≡ true))
+            → (i : ℕ) × (i < suc (length xs)) × (p (getD (x ∷ xs) i a) ≡ true)
+        go (inl e) rest = (0, omega arith, e)
+        go (inr e) rest = let r = rest e in (suc (r .0), omega (arith, r .1), r .2)
+
+    -- what is left passes the test and stands in the list, and what passes it and stands in the list is left
+    pub filter-from : (xs : List A) (k : ℕ) → k < length (filter p xs)
+        → (i : ℕ) × (i < length xs) × (p (getD xs i a) ≡ true) × (getD (filter p xs) k a ≡ getD xs i a)
+    unfolding filter
+    filter-from [] k l = absurd (not-suc-le-zero l)
+    filter-from (x ∷ xs) k l = go (p x) refl k l (filter-from xs)
+      where
+        later : (k : ℕ) → ((i : ℕ) × (i < length xs) × (p (getD xs i a) ≡ true) × (getD (filter p xs) k a ≡ getD xs i a))
+            → (i : ℕ) × (i < suc (length xs)) × (p (getD (x ∷ xs) i a) ≡ true) × (getD (filter p xs) k a ≡ getD (x ∷ xs) i a)
+        later k r = (suc (r .0), omega (arith, r .1), r .2, r .3)
+
+        go : (t : Bool) → p x ≡ t → (k : ℕ) → k < length (cond t (x ∷ filter p xs) (filter p xs))
+            → ((k : ℕ) → k < length (filter p xs) → (i : ℕ) × (i < length xs) × (p (getD xs i a) ≡ true) × (getD (filter p xs) k a ≡ getD xs i a))
+            → (i : ℕ) × (i < suc (length xs)) × (p (getD (x ∷ xs) i a) ≡ true) × (getD (cond t (x ∷ filter p xs) (filter p xs)) k a ≡ getD (x ∷ xs) i a)
+        go true e zero l rest = (0, omega arith, e, refl)
+        go true e (suc k) l rest = later k (rest k (le-of-suc-le-suc l))
+        go false e k l rest = later k (rest k l)
+
+    pub filter-keeps : (xs : List A) (i : ℕ) → i < length xs → p (getD xs i a) ≡ true
+        → (k : ℕ) × (k < length (filter p xs)) × (getD (filter p xs) k a ≡ getD xs i a)
+    unfolding filter
+    filter-keeps [] i l h = absurd (not-suc-le-zero l)
+    filter-keeps (x ∷ xs) zero l h = rw h (0, omega arith, refl)
+    filter-keeps (x ∷ xs) (suc i) l h = go (p x) (filter-keeps xs i (le-of-suc-le-suc l) h)
+      where
+        go : (t : Bool) → ((k : ℕ) × (k < length (filter p xs)) × (getD (filter p xs) k a ≡ getD xs i a))
+            → (k : ℕ) × (k < length (cond t (x ∷ filter p xs) (filter p xs))) × (getD (cond t (x ∷ filter p xs) (filter p xs)) k a ≡ getD xs i a)
+        go true r = (suc (r .0), omega (arith, r .1), r .2)
+        go false r = r
+
+-- two tests that agree on a list
+module _ {A : Type 0} (p q : A → Bool) (a : A) where
+  pub any-same : (xs : List A) → ((i : ℕ) → i < length xs → p (getD xs i a) ≡ q (getD xs i a)) → any p xs ≡ any q xs
+  unfolding any
+  any-same [] same = refl
+  any-same (x ∷ xs) same = ap₂ (λ (s t : Bool). s || t) (same 0 (omega arith)) (any-same xs (λ i l. same (suc i) (omega arith)))
+
+  pub filter-same : (xs : List A) → ((i : ℕ) → i < length xs → p (getD xs i a) ≡ q (getD xs i a)) → filter p xs ≡ filter q xs
+  unfolding filter
+  filter-same [] same = refl
+  filter-same (x ∷ xs) same =
+      ap₂ (λ (t : Bool) (ys : List A). cond t (x ∷ ys) ys) (same 0 (omega arith)) (filter-same xs (λ i l. same (suc i) (omega arith)))
 
 pub total-append : (xs ys : List ℕ) → total (xs ++ ys) ≡ total xs + total ys
 unfolding total

@@ -4,3 +4,4 @@ pub mod Numbers
 pub mod Lists
 pub mod Counting
 pub mod Radix
+pub mod Bits

@@ -1,6 +1,7 @@
 -- The small words that every definition of the project is written with.
 --   unless ok r rest   the refusal r where ok fails, else what rest says: a row of these is an ordered list of refusals
 --   all p xs           p holds of each element
+--   any p xs           p holds of some element
 --   tally p xs         how many elements p holds of
 --   filter p xs        those elements, in their order
 --   total xs           the sum of a list
@@ -9,9 +10,10 @@
 --   from a n           the n numbers a, a + 1, ..
 --   firstFrom p a n    the first of them that passes a test, and a + n where none does
 --   without i xs       xs with the element at place i taken out
-use mathlib.Core.Bool.{Bool, true, false, _&&_, cond}
+--   bit s i            the bit of weight 2 ^ i
+use mathlib.Core.Bool.{Bool, true, false, _&&_, _||_, cond}
 use mathlib.Core.List.{List, [], _∷_, _++_}
-use Prim.Native.Nat.{ℕ, zero, suc, _+_, _*_, max}
+use Prim.Native.Nat.{ℕ, zero, suc, _+_, _*_, _/_, _%_, max}
 use lib.ListN.{take, drop}
 
 abbrev pub unless : Bool → ℕ → ℕ → ℕ
@@ -22,6 +24,10 @@ module _ {A : Type 0} where
   unfoldable pub all : (A → Bool) → List A → Bool
   all p [] = true
   all p (x ∷ xs) = p x && all p xs
+
+  unfoldable pub any : (A → Bool) → List A → Bool
+  any p [] = false
+  any p (x ∷ xs) = p x || any p xs
 
   unfoldable pub tally : (A → Bool) → List A → ℕ
   tally p [] = 0
@@ -53,3 +59,7 @@ from a (suc n) = a ∷ from (suc a) n
 unfoldable pub firstFrom : (ℕ → Bool) → ℕ → ℕ → ℕ
 firstFrom p a zero = a
 firstFrom p a (suc n) = cond (p a) a (firstFrom p (suc a) n)
+
+unfoldable pub bit : ℕ → ℕ → ℕ
+bit s zero = s % 2
+bit s (suc i) = bit (s / 2) i

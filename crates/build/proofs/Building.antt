@@ -8,12 +8,10 @@ use lib.IntN.{ℤ, pos}
 use lib.ListN.{length, replicate}
 use borrow.Author.Tests.{ne-eqb}
 use Rattle.search.specs.Begin.{begun, beginOf}
-use Rattle.search.specs.Build.{World}
-use Rattle.search.specs.Drive.{hasEnded, held, laid, buildRefusal, built, buildOf}
+use Rattle.search.specs.Drive.{Store, hasEnded, held, buildRefusal, ended, buildOf, storeOf}
 use Rattle.search.specs.JobState.{beginRefusal}
 use Rattle.stacks.specs.Stack.{stackPlaces}
 use Rattle.search.specs.Promise.{rightWords}
-use Rattle.search.specs.Segments.{joined}
 use Rattle.search.specs.declared.Answer.{Answer}
 use Rattle.search.specs.declared.Job.{Job}
 use Rattle.search.proofs.Coherence.{given-begin}
@@ -32,54 +30,61 @@ begin-zeros = go (eqb (beginRefusal 0 0 (replicate stackPlaces (pos 0)) 0 0 0) 0
     go true = refl
     go false = refl
 
-module _ (kind n : ℕ) (wanted : List ℤ) (groups S C : ℕ) (table₀ log₀ : List ℕ) where
-  -- what it leaves and answers where t says whether r, its refusal, is 0, and it ends in the world `end`
-  abbrev answered : Bool → ℕ → World → List ℕ × List ℕ × Answer
+module _ (kind n : ℕ) (wanted : List ℤ) (groups S C : ℕ) (table₀ log₀ list₀ : List ℕ) where
+  -- what is not refused
+  abbrev pub Accepted : Type 0
+  Accepted = Accepts kind n wanted groups S C (length table₀) (length log₀) (length list₀)
+
+  -- what it leaves and answers where t says whether r, its refusal, is 0, and it ends with the store `end`
+  abbrev answered : Bool → ℕ → Store → List ℕ × List ℕ × List ℕ × Answer
   answered t r end =
-      cond t (joined (end .segments), end .log, record { refusal = 0; job = end .job })
-      (table₀, log₀, record { refusal = r; job = begun 0 0 (replicate stackPlaces (pos 0)) 0 0 0 })
+      cond t (end .table, end .log, end .list, record { refusal = 0; job = end .job })
+      (table₀, log₀, list₀, record { refusal = r; job = begun 0 0 (replicate stackPlaces (pos 0)) 0 0 0 })
 
   -- the job that an accepted Begin answers
-  pub begin-accepted : Accepts kind n wanted groups S C (length table₀) (length log₀) → beginOf kind n wanted groups S C .job ≡ begun kind n wanted groups S C
+  pub begin-accepted : Accepted → beginOf kind n wanted groups S C .job ≡ begun kind n wanted groups S C
   unfolding beginOf
   begin-accepted accepts =
       ap (λ (r : ℕ). cond (eqb r 0) (begun kind n wanted groups S C) (begun 0 0 (replicate stackPlaces (pos 0)) 0 0 0)) (given-begin (termsWith kind n wanted groups S C) (accepts .given))
 
-  pub build-begins : (job : Job) → job ≡ begun kind n wanted groups S C → Accepts kind n wanted groups S C (length table₀) (length log₀)
-      → Driving kind n (job .wanted) groups S C table₀ log₀ job table₀ log₀
+  pub build-begins : (job : Job) → job ≡ begun kind n wanted groups S C → Accepted
+      → Driving kind n (job .wanted) groups S C table₀ log₀ list₀ (storeOf job table₀ log₀ list₀)
   unfolding begun
-  build-begins job e accepts = subst (λ (x : Job). Driving kind n (x .wanted) groups S C table₀ log₀ x table₀ log₀) (sym e) (driving-begins accepts)
+  build-begins job e accepts =
+      subst (λ (x : Job). Driving kind n (x .wanted) groups S C table₀ log₀ list₀ (storeOf x table₀ log₀ list₀)) (sym e) (driving-begins accepts)
 
   -- the job that it begins with has the wanted stack
-  pub build-wants : {first job : Job} {table log : List ℕ} → first ≡ begun kind n wanted groups S C
-      → Driving kind n (first .wanted) groups S C table₀ log₀ job table log → Driving kind n wanted groups S C table₀ log₀ job table log
+  pub build-wants : {first : Job} {s : Store} → first ≡ begun kind n wanted groups S C
+      → Driving kind n (first .wanted) groups S C table₀ log₀ list₀ s → Driving kind n wanted groups S C table₀ log₀ list₀ s
   unfolding begun
-  build-wants {job = job} {table = table} {log = log} e driving =
-      subst (λ (s : List ℤ). Driving kind n s groups S C table₀ log₀ job table log) (ap (λ (x : Job). x .wanted) e) driving
+  build-wants {s = s} e driving = subst (λ (w : List ℤ). Driving kind n w groups S C table₀ log₀ list₀ s) (ap (λ (x : Job). x .wanted) e) driving
 
   -- the buffers keep their lengths
-  module _ {job : Job} {table log : List ℕ} (accepts : Accepts kind n wanted groups S C (length table₀) (length log₀))
-      (driving : Driving kind n wanted groups S C table₀ log₀ job table log) where
-    pub table-kept : length table ≡ length table₀
-    table-kept = driving .long ∙ sym (accepts .bytes-fit)
+  module _ {s : Store} (accepts : Accepted) (driving : Driving kind n wanted groups S C table₀ log₀ list₀ s) where
+    pub table-kept : length (s .table) ≡ length table₀
+    table-kept = driving .stored .table-long ∙ sym (accepts .bytes-fit)
 
-    pub log-kept : length log ≡ length log₀
+    pub log-kept : length (s .log) ≡ length log₀
     unfolding held rightWords
-    log-kept = driving .invariant .shaped .log-length ∙ sym (accepts .words-fit)
+    log-kept = driving .stored .invariant .shaped .log-length ∙ sym (accepts .words-fit)
 
-  module _ (r : ℕ) (e : r ≡ buildRefusal kind n wanted groups S C (length table₀) (length log₀)) where
+    pub list-kept : length (s .list) ≡ length list₀
+    list-kept = driving .stored .list-long ∙ sym (accepts .list-fits)
+
+  module _ (r : ℕ) (e : r ≡ buildRefusal kind n wanted groups S C (length table₀) (length log₀) (length list₀)) where
     pub build-refused : (r ≡ 0 → ⊥) → (job : Job) → job ≡ begun 0 0 (replicate stackPlaces (pos 0)) 0 0 0
-        → (table₀, log₀, record { refusal = r; job = job }) ≡ buildOf kind n wanted groups S C table₀ log₀
+        → (table₀, log₀, list₀, record { refusal = r; job = job }) ≡ buildOf kind n wanted groups S C table₀ log₀ list₀
     unfolding buildOf
     build-refused h job q =
-        let end = built kind n wanted groups S C table₀ log₀ in
-        ap (λ (x : Job). (table₀, log₀, record { refusal = r; job = x })) q
+        let end = ended kind n wanted groups S C table₀ log₀ list₀ in
+        ap (λ (x : Job). (table₀, log₀, list₀, record { refusal = r; job = x })) q
         ∙ ap (λ (t : Bool). answered t r end) (sym (ne-eqb r 0 h))
         ∙ ap (λ (x : ℕ). answered (eqb x 0) x end) e
 
-    module _ (h : r ≡ 0) {job : Job} {table log : List ℕ} (driving : Driving kind n wanted groups S C table₀ log₀ job table log) where
-      pub build-ends : hasEnded job ≡ true → (table, log, record { refusal = 0; job = job }) ≡ buildOf kind n wanted groups S C table₀ log₀
-      unfolding buildOf laid
+    module _ (h : r ≡ 0) {s : Store} (driving : Driving kind n wanted groups S C table₀ log₀ list₀ s) where
+      pub build-ends : hasEnded (s .job) ≡ true
+          → (s .table, s .log, s .list, record { refusal = 0; job = s .job }) ≡ buildOf kind n wanted groups S C table₀ log₀ list₀
+      unfolding buildOf
       build-ends end =
-          ap (λ (t : List ℕ × List ℕ × Job). (t .0, t .1, record { refusal = 0; job = t .2 })) (sym (driving-ends driving end))
-          ∙ ap (λ (x : ℕ). answered (eqb x 0) x (built kind n wanted groups S C table₀ log₀)) (sym h ∙ e)
+          ap (λ (x : Store). (x .table, x .log, x .list, record { refusal = 0; job = x .job })) (sym (driving-ends driving end))
+          ∙ ap (λ (x : ℕ). answered (eqb x 0) x (ended kind n wanted groups S C table₀ log₀ list₀)) (sym h ∙ e)

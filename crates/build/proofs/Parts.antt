@@ -1,4 +1,4 @@
--- A segment's part of the whole table: where it lies, and what a call that is lent it leaves.
+-- A segment's part of the whole table and the front of the changed list: where they lie, and what a call that is lent them leaves.
 use mathlib.Core.Path.{_≡_, sym, ap, _∙_}
 use mathlib.Core.Bool.{true}
 use mathlib.Core.List.{List, _++_}
@@ -8,17 +8,21 @@ use native.Mathlib.Omega.{arith}
 use borrow.Rule.Slice.PartMut.{midOf, putMid, post-is}
 use lib.ListN.{length, take, drop}
 use Rattle.stacks.specs.Stack.{stackCount}
+use Rattle.search.specs.Changed.{listBytes}
+use Rattle.search.specs.Drive.{listBytesAt}
 use Rattle.search.specs.Entries.{bytesFor}
 use Rattle.search.specs.JobState.{stackCountOf, segmentCountOf, stackCountAt, isCoherent}
 use Rattle.search.specs.declared.Answer.{Answer}
 use Rattle.search.specs.declared.Expanded.{Expanded}
 use Rattle.search.specs.declared.Job.{Job}
 use Rattle.search.specs.Expand.{expandOf}
+use Rattle.search.specs.Load.{loadOf}
 use Rattle.search.specs.Segments.{segmentLimit, mostSize, stackCountIn}
+use Rattle.search.specs.Sweep.{sweepOf}
 use Rattle.search.proofs.Coherence.{begin-given, coherent-facts}
 use Rattle.search.proofs.CutLaws.{segment-within, cut-at, joined-replaced}
 use Rattle.search.proofs.SegmentLaws.{SegmentSizeFacts, segment-size-facts}
-use Rattle.build.specs.Part.{partOf, withPart, expandedIn}
+use Rattle.build.specs.Part.{partOf, withPart, expandedIn, loadedIn, sweptIn}
 
 pub sizes : (job : Job) → isCoherent job ≡ true → SegmentSizeFacts (stackCountOf job) (job .size)
 unfolding stackCountOf
@@ -29,6 +33,12 @@ sizes job coherent =
 -- as many segments of as many bytes as there may be: the table is below 2^30
 pub start-small : (size j : ℕ) → size ≤ mostSize → j ≤ segmentLimit → j * (size / 4) ≤ segmentLimit * 16777216
 start-small size j most few = mul-le-mul few (let b : size / 4 ≤ 16777216 = omega arith in b)
+
+-- no changed list is longer than that of segment 0
+pub list-within : (job : Job) (b front : ℕ) → front ≡ listBytes (stackCountIn (stackCount (job .kind) (job .n)) (job .size) b)
+    → (list : List ℕ) → length list ≡ listBytes (stackCountAt job 0) → front ≤ length list
+unfolding listBytes stackCountAt stackCountOf stackCountIn
+list-within job b front e list long = omega arith
 
 module _ (job : Job) (j : ℕ) (coherent : isCoherent job ≡ true) (inside : j < segmentCountOf job) where
   -- what the part's start and end ask for
@@ -76,3 +86,20 @@ module _ (job : Job) (j : ℕ) (coherent : isCoherent job ≡ true) (inside : j 
         ap (λ (o : List ℕ × List ℕ × Expanded). (putMid start (end - start) table (o .0), o .1, o .2))
         (e ∙ ap (λ (l : List ℕ). expandOf job j l log) part-is)
         ∙ ap (λ (l : List ℕ). (l, out .1, out .2)) (put-is (out .0))
+
+    module _ (list : List ℕ) (front : ℕ) (after : List ℕ) (answer : Answer) where
+      pub loaded-in : front ≡ listBytes (stackCountIn (stackCount (job .kind) (job .n)) (job .size) j)
+          → (after, answer) ≡ loadOf job j (midOf start (end - start) table) (take front list)
+          → _≡_ {A = List ℕ × Answer} (after ++ drop front list, answer) (loadedIn job j table list)
+      unfolding loadedIn listBytesAt stackCountAt stackCountOf
+      loaded-in fits e =
+          ap (λ (o : List ℕ × Answer). (o .0 ++ drop front list, o .1)) (e ∙ ap (λ (l : List ℕ). loadOf job j l (take front list)) part-is)
+          ∙ ap (λ (k : ℕ). let out = loadOf job j (partOf job j table) (take k list) in (out .0 ++ drop k list, out .1)) fits
+
+      pub swept-in : front ≡ listBytes (stackCountIn (stackCount (job .kind) (job .n)) (job .size) (job .loaded))
+          → (after, answer) ≡ sweepOf job j (midOf start (end - start) table) (take front list)
+          → (putMid start (end - start) table after, answer) ≡ sweptIn job j table list
+      unfolding sweptIn listBytesAt stackCountAt stackCountOf
+      swept-in fits e =
+          answered-in (λ segment. sweepOf job j segment (take front list)) after answer e
+          ∙ ap (λ (k : ℕ). let out = sweepOf job j (partOf job j table) (take k list) in (withPart job j table (out .0), out .1)) fits

@@ -1,2 +1,3 @@
--- What a call on one segment leaves in the whole table.
+-- What a call on one segment leaves in the whole table, and the driver's rule.
 pub mod Part
+pub mod Way

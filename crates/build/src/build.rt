@@ -12,6 +12,7 @@ use search::Answer;
 use search::Job;
 use search::LAST_LEVEL;
 use stacks::PLACES;
+use twobit::list;
 use twobit::segment;
 
 fn build_refusal(
@@ -23,8 +24,9 @@ fn build_refusal(
     room: u32,
     bytes: usize,
     words: usize,
+    listed: usize,
 ) -> u8
-    ensures { λ r. ⌜ r ≡ buildRefusal kind n wanted groups size room bytes words ⌝ }
+    ensures { λ r. ⌜ r ≡ buildRefusal kind n wanted groups size room bytes words listed ⌝ }
 {
     let refusal = coherence::begin_refusal(kind, n, wanted, groups, size, room);
     if refusal != 0 {
@@ -36,6 +38,10 @@ fn build_refusal(
     }
     let segments = segment::segment_count(count, size);
     if words != (segments as usize) * (room as usize) {
+        return 10;
+    }
+    let longest = segment::stack_count_in(count, size, 0);
+    if listed != list::list_bytes(longest) as usize {
         return 10;
     }
     0
@@ -61,6 +67,7 @@ fn has_ended(job: Job) -> bool
         return false;
     }
     let wanted = job.wanted;
+    let way = job.way;
     let refusal = close::close_refusal(
         job.kind,
         job.n,
@@ -69,14 +76,18 @@ fn has_ended(job: Job) -> bool
         job.size,
         job.room,
         phase,
+        way,
+        job.loaded,
         &job.passed,
         &job.waiting,
+        &job.swept,
         &job.counts,
     );
     refusal == 14
 }
 
-// A build from Begin to its end, in a table and a log area of the right lengths. Refused, both are as they were, and the job is one of zeros.
+// A build from Begin to its end, in a table, a log area and a changed list of the right lengths. Refused, they are as they were, and the job is
+// one of zeros.
 pub fn build_table(
     kind: u8,
     n: u8,
@@ -86,17 +97,28 @@ pub fn build_table(
     room: u32,
     table: &mut [u8],
     log: &mut [u32],
+    list: &mut [u8],
 ) -> Answer
-    ensures { λ r. ⌜ (now (table .exit), now (log .exit), r) ≡ buildOf kind n wanted groups size room (now (table .entry)) (now (log .entry)) ⌝ }
+    ensures { λ r. ⌜ (now (table .exit), now (log .exit), now (list .exit), r) ≡ buildOf kind n wanted groups size room (now (table .entry)) (now (log .entry)) (now (list .entry)) ⌝ }
 {
-    let refusal = build_refusal(kind, n, wanted, groups, size, room, table.len(), log.len());
+    let refusal = build_refusal(
+        kind,
+        n,
+        wanted,
+        groups,
+        size,
+        room,
+        table.len(),
+        log.len(),
+        list.len(),
+    );
     if refusal != 0 {
         let none = begun_job(0, 0, [0i8; PLACES], 0, 0, 0);
         return Answer { refusal, job: none };
     }
     let mut job = begun_job(kind, n, wanted, groups, size, room);
     while !has_ended(job) {
-        job = advance::advance(job, table, log);
+        job = advance::advance(job, table, log, list);
     }
     Answer { refusal: 0, job }
 }

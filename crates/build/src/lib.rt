@@ -3,3 +3,4 @@ mod advance;
 pub mod build;
 mod choose;
 mod part;
+mod way;

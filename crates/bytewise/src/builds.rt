@@ -89,7 +89,7 @@ fn compared_in(
 }
 
 // A build to the stack at index goal with the smallest log.
-pub fn compared(kind: u8, n: u8, groups: u32, goal: usize, size: u32, order: u8) -> Tally
+pub fn compared(kind: u8, n: u8, groups: u32, goal: usize, size: u32, order: u8, ways: u8) -> Tally
     requires { ⌜ n ≤ 12 ⌝ }
 {
     let mut table = [0u8; 1260];
@@ -104,6 +104,7 @@ pub fn compared(kind: u8, n: u8, groups: u32, goal: usize, size: u32, order: u8)
         size,
         16,
         order,
+        ways,
         &mut table,
         &mut log,
     );
@@ -118,6 +119,7 @@ pub fn compared_large(
     goal: usize,
     size: u32,
     order: u8,
+    ways: u8,
     step: usize,
 ) -> Tally
     requires { ⌜ (n ≤ 12) × (1 ≤ step) × (step ≤ 1000) ⌝ }
@@ -134,6 +136,7 @@ pub fn compared_large(
         size,
         1024,
         order,
+        ways,
         &mut table,
         &mut log,
     );
@@ -141,24 +144,24 @@ pub fn compared_large(
 }
 
 // In segments of three sizes, each in another order.
-fn compared_thrice(kind: u8, n: u8, groups: u32, goal: usize) -> Tally
+fn compared_thrice(kind: u8, n: u8, groups: u32, goal: usize, ways: u8) -> Tally
     requires { ⌜ n ≤ 12 ⌝ }
 {
-    let many = compared(kind, n, groups, goal, 4, 2);
-    let few = compared(kind, n, groups, goal, 20, 1);
-    let one = compared(kind, n, groups, goal, 48, 0);
+    let many = compared(kind, n, groups, goal, 4, 2, ways);
+    let few = compared(kind, n, groups, goal, 20, 1, ways);
+    let one = compared(kind, n, groups, goal, 48, 0, ways);
     tally::both(many, tally::both(few, one))
 }
 
 // Builds to every stack.
-pub fn compared_all(kind: u8, n: u8, groups: u32) -> Tally
+pub fn compared_all(kind: u8, n: u8, groups: u32, ways: u8) -> Tally
     requires { ⌜ n ≤ 12 ⌝ }
 {
     let stacks = stack::total(kind, n as usize);
     let mut sum = tally::nothing();
     let mut goal: usize = 0;
     while goal < stacks {
-        let more = compared_thrice(kind, n, groups, goal);
+        let more = compared_thrice(kind, n, groups, goal, ways);
         sum = tally::both(sum, more);
         goal += 1;
     }

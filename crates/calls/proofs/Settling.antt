@@ -1,6 +1,6 @@
 -- Marking by a log, step by step, and what an accepted Settle was given and leaves.
-use mathlib.Core.Path.{_≡_, refl, sym, ap, _∙_}
-use mathlib.Core.List.{List, [], _∷_}
+use mathlib.Core.Path.{_≡_, sym, ap, _∙_}
+use mathlib.Core.List.{List, []}
 use Prim.Native.Nat.{ℕ, _+_, _-_, _*_, _%_, _^_, _≤_, _<_}
 use native.Mathlib.Numerals.{add-one}
 use native.Mathlib.Omega.{arith}
@@ -23,8 +23,8 @@ use Rattle.search.proofs.EntryLaws.{byte-inside, next-level}
 use Rattle.search.proofs.SegmentLaws.{segment-starts, segment-stack, stackCountIn-le, log-length}
 use Rattle.twobit.specs.Mark.{marksOf}
 use Rattle.twobit.specs.declared.marking.Found.{Found}
-use Rattle.twobit.proofs.LeafMarks.{mark-level}
-use Rattle.job.proofs.Bounds.{Bounds, coherent-bounds, level-least, waiting-le, part-within}
+use Rattle.twobit.proofs.LeafMarks.{marks-level}
+use Rattle.job.proofs.Bounds.{Bounds, coherent-bounds, forward-least, waiting-le, part-within}
 use Rattle.calls.specs.Lent.{OffsetsFit}
 
 -- ---- marking
@@ -39,12 +39,6 @@ module _ (S j label : ℕ) (offsets : List ℕ) (i : ℕ) (marks : Marks) where
   unfolding markAll indexesOf
   marks-end h = rw (drop-of-length-le offsets h)
 
--- a level marks by its remainder alone
-marks-level : (S d : ℕ) (stacks : List ℕ) (marks : Marks) → markAll S (d % 3) stacks marks ≡ markAll S d stacks marks
-unfolding markAll
-marks-level S d [] marks = refl
-marks-level S d (v ∷ stacks) marks = ap (markAll S (d % 3) stacks) (mark-level S d v marks) ∙ marks-level S d stacks (markOne S d v marks)
-
 -- ---- an accepted Settle
 
 module _ (job : Job) (j : ℕ) (segment log : List ℕ) (accepted : settleRefusal job j (length segment) log ≡ 0) where
@@ -55,7 +49,7 @@ module _ (job : Job) (j : ℕ) (segment log : List ℕ) (accepted : settleRefusa
   bounds = coherent-bounds job (settle-given .called .coherent)
 
   pub level-some : (level : ℕ) → level ≡ levelOf (job .phase) → 1 ≤ level
-  level-some level l = rw l (level-least job (settle-given .called .coherent) (settle-given .called .in-phase))
+  level-some level l = rw l (forward-least job (settle-given .called .coherent) (settle-given .called .in-phase))
 
   module _ (offsets : List ℕ) (e : offsets ≡ pending job j log) where
     offsets-long : length offsets ≡ waitingOf job j

@@ -51,6 +51,7 @@ pub fn blank(job: Job, j: u32, segment: &mut [u8]) -> Answer
     let mut next = job;
     let wanted = job.wanted;
     let phase = job.phase;
+    let way = job.way;
     let standing = standing::standing_of(
         job.kind,
         job.n,
@@ -59,8 +60,11 @@ pub fn blank(job: Job, j: u32, segment: &mut [u8]) -> Answer
         job.size,
         job.room,
         phase,
+        way,
+        job.loaded,
         &next.passed,
         &next.waiting,
+        &next.swept,
         &next.counts,
         j,
     );

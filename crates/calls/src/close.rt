@@ -5,21 +5,24 @@ ghost use Prim.Native.Nat.{_+_, _-_, _≤_};
 ghost use lib.Dec.{eqb};
 ghost use lib.ListN.{length, getD, replicate};
 ghost use Rattle.job.specs.Standing.{jobWith};
-ghost use Rattle.calls.specs.Lent.{readyBy, pastLast};
+ghost use Rattle.calls.specs.Lent.{doneBy, rowWhole, sweptBy, readyBy, pastLast};
 ghost use Rattle.stacks.specs.Stack.{isPaneCount, stackCount};
 ghost use Rattle.search.specs.Close.{closeRefusal, nextPhase, nextCounts, closeOf};
-ghost use Rattle.search.specs.JobState.{countPlaces, lastLevel, levelOf, phaseFits, progressed};
+ghost use Rattle.search.specs.JobState.{countPlaces, lastLevel, noSegment, levelOf, phaseFits, progressed, directed};
 ghost use Rattle.search.specs.Segments.{segmentLimit, stackCountIn, isSegmentSize};
 ghost use Rattle.search.specs.declared.Phase.the-variants.{Level, Finished};
 use job::coherence;
+use job::geometry;
 use job::phase;
 use perm::kind;
 use search::Answer;
 use search::COUNT_PLACES;
 use search::Job;
 use search::LAST_LEVEL;
+use search::NO_SEGMENT;
 use search::Phase;
 use search::SEGMENT_LIMIT;
+use search::Way;
 use stacks::PLACES;
 use twobit::segment;
 
@@ -34,7 +37,7 @@ fn is_done(count: u32, size: u32, j: u32, passed: u32, waiting: u32) -> bool
 }
 
 // Each segment is done.
-fn is_ready<'a>(
+fn are_done<'a>(
     kind: u8,
     n: u8,
     size: u32,
@@ -42,7 +45,7 @@ fn is_ready<'a>(
     waiting: &'a [u32; SEGMENT_LIMIT],
 ) -> bool
     requires { ⌜ (isPaneCount kind n ≡ true) × (isSegmentSize (stackCount kind n) size ≡ true) ⌝ }
-    ensures { λ r. ⌜ r ≡ readyBy (stackCount kind n) size (now (passed .entry)) (now (waiting .entry)) ⌝ }
+    ensures { λ r. ⌜ r ≡ doneBy (stackCount kind n) size (now (passed .entry)) (now (waiting .entry)) ⌝ }
 {
     let count = kind::stack_count(kind, n);
     let segments = segment::segment_count(count, size);
@@ -54,6 +57,56 @@ fn is_ready<'a>(
         j += 1;
     }
     true
+}
+
+// Every segment is swept against the one whose number this is.
+pub fn is_swept_whole(segments: u32, row: u64) -> bool
+    requires { ⌜ segments ≤ segmentLimit ⌝ }
+    ensures { λ r. ⌜ r ≡ rowWhole segments row ⌝ }
+{
+    let mut j: u32 = 0;
+    while j < segments {
+        if (row >> j) % 2 != 1 {
+            return false;
+        }
+        j += 1;
+    }
+    true
+}
+
+// Each pair of segments is swept.
+fn are_swept(segments: u32, swept: &[u64; SEGMENT_LIMIT]) -> bool
+    requires { ⌜ segments ≤ segmentLimit ⌝ }
+    ensures { λ r. ⌜ r ≡ sweptBy segments (now (swept .entry)) ⌝ }
+{
+    let mut b: u32 = 0;
+    while b < segments {
+        if !is_swept_whole(segments, swept[b as usize]) {
+            return false;
+        }
+        b += 1;
+    }
+    true
+}
+
+// In a reverse level the pairs alone are asked for.
+fn is_ready<'a>(
+    kind: u8,
+    n: u8,
+    size: u32,
+    reverse: bool,
+    passed: &'a [u32; SEGMENT_LIMIT],
+    waiting: &'a [u32; SEGMENT_LIMIT],
+    swept: &'a [u64; SEGMENT_LIMIT],
+) -> bool
+    requires { ⌜ (isPaneCount kind n ≡ true) × (isSegmentSize (stackCount kind n) size ≡ true) ⌝ }
+    ensures { λ r. ⌜ r ≡ readyBy reverse (stackCount kind n) size (now (passed .entry)) (now (waiting .entry)) (now (swept .entry)) ⌝ }
+{
+    if reverse {
+        let segments = geometry::segment_count_of(kind, n, size);
+        return are_swept(segments, swept);
+    }
+    are_done(kind, n, size, passed, waiting)
 }
 
 // The last level is searched, and brought stacks: no level can follow it.
@@ -75,12 +128,15 @@ pub fn close_refusal<'a>(
     size: u32,
     room: u32,
     phase: Phase,
+    way: Way,
+    loaded: u8,
     passed: &'a [u32; SEGMENT_LIMIT],
     waiting: &'a [u32; SEGMENT_LIMIT],
+    swept: &'a [u64; SEGMENT_LIMIT],
     counts: &'a [u64; COUNT_PLACES],
 ) -> u8
     requires { ⌜ length (now counts) ≡ countPlaces ⌝ }
-    ensures { λ r. ⌜ r ≡ closeRefusal (jobWith kind n wanted groups size room phase (now (passed .entry)) (now (waiting .entry)) (now (counts .entry))) ⌝ }
+    ensures { λ r. ⌜ r ≡ closeRefusal (jobWith kind n wanted groups size room phase way loaded (now (passed .entry)) (now (waiting .entry)) (now (swept .entry)) (now (counts .entry))) ⌝ }
 {
     if !coherence::is_coherent(
         kind,
@@ -90,8 +146,10 @@ pub fn close_refusal<'a>(
         size,
         room,
         phase,
+        loaded,
         passed,
         waiting,
+        swept,
         counts,
     ) {
         return 7;
@@ -99,7 +157,8 @@ pub fn close_refusal<'a>(
     if phase::is_finished(phase) {
         return 8;
     }
-    if !is_ready(kind, n, size, passed, waiting) {
+    let reverse = phase::in_reverse(phase, way);
+    if !is_ready(kind, n, size, reverse, passed, waiting, swept) {
         return 13;
     }
     if is_past_last(phase, counts) {
@@ -139,9 +198,9 @@ fn next_counts(phase: Phase, counts: &mut [u64; COUNT_PLACES])
     }
 }
 
-// The job in another phase, with nothing passed.
-fn with_phase(job: Job, phase: Phase) -> Job
-    ensures { λ r. ⌜ r ≡ progressed job phase (replicate segmentLimit 0) (job .waiting) (job .counts) ⌝ }
+// The job in another phase, searched this way, with nothing passed, loaded or swept.
+fn with_phase(job: Job, phase: Phase, way: Way) -> Job
+    ensures { λ r. ⌜ r ≡ directed (progressed job phase (replicate segmentLimit 0) (job .waiting) (job .counts)) way noSegment (replicate segmentLimit 0) ⌝ }
 {
     let wanted = job.wanted;
     let waiting = job.waiting;
@@ -154,19 +213,23 @@ fn with_phase(job: Job, phase: Phase) -> Job
         size: job.size,
         room: job.room,
         phase,
+        way,
+        loaded: NO_SEGMENT,
         passed: [0u32; SEGMENT_LIMIT],
         waiting,
+        swept: [0u64; SEGMENT_LIMIT],
         counts,
     }
 }
 
-// Close. next is the one copy of the job; a job in another phase is written anew.
-pub fn close(job: Job) -> Answer
-    ensures { λ r. ⌜ r ≡ closeOf job ⌝ }
+// Close, told the way of the next level. next is the one copy of the job; a job in another phase is written anew.
+pub fn close(job: Job, way: Way) -> Answer
+    ensures { λ r. ⌜ r ≡ closeOf job way ⌝ }
 {
     let mut next = job;
     let wanted = job.wanted;
     let phase = job.phase;
+    let searched = job.way;
     let refusal = close_refusal(
         job.kind,
         job.n,
@@ -175,8 +238,11 @@ pub fn close(job: Job) -> Answer
         job.size,
         job.room,
         phase,
+        searched,
+        job.loaded,
         &next.passed,
         &next.waiting,
+        &next.swept,
         &next.counts,
     );
     if refusal != 0 {
@@ -184,7 +250,7 @@ pub fn close(job: Job) -> Answer
     }
     let after = next_phase(phase, &next.counts);
     next_counts(phase, &mut next.counts);
-    let closed = with_phase(next, after);
+    let closed = with_phase(next, after, way);
     Answer {
         refusal: 0,
         job: closed,

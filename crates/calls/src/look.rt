@@ -43,6 +43,7 @@ pub fn look<'a, 'b>(job: Job, j: u32, log: &'a [u32], number: &'b mut u8) -> &'a
 {
     let wanted = job.wanted;
     let phase = job.phase;
+    let way = job.way;
     let standing = standing::standing_of(
         job.kind,
         job.n,
@@ -51,8 +52,11 @@ pub fn look<'a, 'b>(job: Job, j: u32, log: &'a [u32], number: &'b mut u8) -> &'a
         job.size,
         job.room,
         phase,
+        way,
+        job.loaded,
         &job.passed,
         &job.waiting,
+        &job.swept,
         &job.counts,
         j,
     );

@@ -81,6 +81,7 @@ pub fn settle(job: Job, j: u32, segment: &mut [u8], log: &[u32]) -> Answer
     let mut next = job;
     let wanted = job.wanted;
     let phase = job.phase;
+    let way = job.way;
     let standing = standing::standing_of(
         job.kind,
         job.n,
@@ -89,8 +90,11 @@ pub fn settle(job: Job, j: u32, segment: &mut [u8], log: &[u32]) -> Answer
         job.size,
         job.room,
         phase,
+        way,
+        job.loaded,
         &next.passed,
         &next.waiting,
+        &next.swept,
         &next.counts,
         j,
     );

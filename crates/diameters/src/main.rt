@@ -34,7 +34,7 @@ fn print_deepest(job: Job) {
 }
 
 // A build to the ordered stack.
-fn measure(kind: u8, n: u8, size: u32, room: u32, order: u8) {
+fn measure(kind: u8, n: u8, size: u32, room: u32, order: u8, ways: u8) {
     let mut table = [0u8; 11520];
     let mut log = [0u32; 65536];
     let wanted = build::ordered(n);
@@ -47,6 +47,7 @@ fn measure(kind: u8, n: u8, size: u32, room: u32, order: u8) {
         size,
         room,
         order,
+        ways,
         &mut table,
         &mut log,
     );
@@ -57,6 +58,7 @@ fn measure(kind: u8, n: u8, size: u32, room: u32, order: u8) {
     );
     print::field(b"C", room as u64);
     print_order(order);
+    print::ways(ways);
     print::verdict(built.refusal);
     let job = built.job;
     print_deepest(job);
@@ -64,36 +66,60 @@ fn measure(kind: u8, n: u8, size: u32, room: u32, order: u8) {
 }
 
 fn plain() {
-    measure(0, 1, 4, 16, 0);
-    measure(0, 2, 4, 16, 1);
-    measure(0, 3, 4, 16, 0);
-    measure(0, 4, 4, 16, 1);
-    measure(0, 5, 4, 17, 2);
-    measure(0, 6, 12, 16, 0);
-    measure(0, 6, 12, 16, 1);
-    measure(0, 7, 80, 16, 1);
-    measure(0, 7, 5040, 16, 0);
-    measure(0, 8, 640, 16, 0);
-    measure(0, 8, 640, 1024, 1);
-    measure(0, 8, 640, 100, 2);
-    measure(0, 8, 13440, 16, 1);
-    measure(0, 8, 67108864, 65536, 0);
+    measure(0, 1, 4, 16, 0, 0);
+    measure(0, 2, 4, 16, 1, 0);
+    measure(0, 3, 4, 16, 0, 0);
+    measure(0, 4, 4, 16, 1, 0);
+    measure(0, 5, 4, 17, 2, 0);
+    measure(0, 6, 12, 16, 0, 0);
+    measure(0, 6, 12, 16, 1, 0);
+    measure(0, 7, 80, 16, 1, 0);
+    measure(0, 7, 5040, 16, 0, 0);
+    measure(0, 8, 640, 16, 0, 0);
+    measure(0, 8, 640, 1024, 1, 0);
+    measure(0, 8, 640, 100, 2, 0);
+    measure(0, 8, 13440, 16, 1, 0);
+    measure(0, 8, 67108864, 65536, 0, 0);
 }
 
 fn coated() {
-    measure(1, 1, 4, 16, 0);
-    measure(1, 2, 4, 16, 1);
-    measure(1, 3, 4, 16, 0);
-    measure(1, 4, 8, 16, 1);
-    measure(1, 5, 64, 16, 2);
-    measure(1, 5, 1000, 4096, 0);
-    measure(1, 6, 720, 16, 0);
-    measure(1, 6, 720, 16, 1);
-    measure(1, 6, 15360, 20000, 1);
-    measure(1, 6, 46080, 16, 0);
+    measure(1, 1, 4, 16, 0, 0);
+    measure(1, 2, 4, 16, 1, 0);
+    measure(1, 3, 4, 16, 0, 0);
+    measure(1, 4, 8, 16, 1, 0);
+    measure(1, 5, 64, 16, 2, 0);
+    measure(1, 5, 1000, 4096, 0, 0);
+    measure(1, 6, 720, 16, 0, 0);
+    measure(1, 6, 720, 16, 1, 0);
+    measure(1, 6, 15360, 20000, 1, 0);
+    measure(1, 6, 46080, 16, 0, 0);
+}
+
+// Levels from the other side.
+fn reverse() {
+    measure(0, 1, 4, 16, 0, 1);
+    measure(0, 3, 4, 16, 0, 1);
+    measure(0, 6, 12, 16, 2, 1);
+    measure(0, 8, 13440, 16, 1, 1);
+    measure(1, 2, 4, 16, 1, 1);
+    measure(1, 4, 8, 16, 0, 1);
+    measure(1, 6, 46080, 16, 0, 1);
+}
+
+// A mixture of ways.
+fn alternating() {
+    measure(0, 2, 4, 16, 0, 2);
+    measure(0, 7, 80, 16, 1, 2);
+    measure(0, 8, 67108864, 16, 0, 2);
+    measure(1, 3, 4, 16, 2, 2);
+    measure(1, 5, 1000, 16, 1, 2);
+    measure(1, 5, 60, 16, 0, 2);
+    measure(1, 6, 15360, 16, 0, 2);
 }
 
 fn main() {
     plain();
     coated();
+    reverse();
+    alternating();
 }

@@ -1,10 +1,11 @@
 // Coherence at its limits: jobs of plain 3 with one number forged, each asked by Look, which takes any phase, and by Close at the last level.
-ghost use Prim.Native.Nat.{_<_};
+ghost use Prim.Native.Nat.{_≤_, _<_};
 use calls::close;
 use calls::look;
 use job::begin;
 use search::Job;
 use search::Phase;
+use search::Way;
 use trial::build;
 use trial::print;
 
@@ -14,10 +15,12 @@ pub fn begun() -> Job {
     answer.job
 }
 
-pub fn with_phase(job: Job, phase: Phase) -> Job {
+// The job in another phase, searched another way.
+fn directed(job: Job, phase: Phase, way: Way) -> Job {
     let wanted = job.wanted;
     let passed = job.passed;
     let waiting = job.waiting;
+    let swept = job.swept;
     let counts = job.counts;
     Job {
         kind: job.kind,
@@ -27,10 +30,37 @@ pub fn with_phase(job: Job, phase: Phase) -> Job {
         size: job.size,
         room: job.room,
         phase,
+        way,
+        loaded: job.loaded,
         passed,
         waiting,
+        swept,
         counts,
     }
+}
+
+pub fn with_phase(job: Job, phase: Phase) -> Job {
+    let way = job.way;
+    directed(job, phase, way)
+}
+
+pub fn with_way(job: Job, way: Way) -> Job {
+    let phase = job.phase;
+    directed(job, phase, way)
+}
+
+pub fn with_loaded(job: Job, b: u8) -> Job {
+    let mut next = job;
+    next.loaded = b;
+    next
+}
+
+pub fn with_swept(job: Job, b: usize, row: u64) -> Job
+    requires { ⌜ b < 64 ⌝ }
+{
+    let mut next = job;
+    next.swept[b] = row;
+    next
 }
 
 pub fn with_groups(job: Job, groups: u32) -> Job {
@@ -109,6 +139,21 @@ fn waiting(j: usize, entries: u32)
     look_at(with_waiting(begun(), j, entries));
 }
 
+fn loaded(b: u8) {
+    print::word(b"job");
+    print::field(b"loaded", b as u64);
+    look_at(with_loaded(begun(), b));
+}
+
+fn swept(b: usize, row: u64)
+    requires { ⌜ b < 64 ⌝ }
+{
+    print::word(b"job");
+    print::field(b"segment", b as u64);
+    print::field(b"swept", row);
+    look_at(with_swept(begun(), b, row));
+}
+
 fn count(d: usize, stacks: u64)
     requires { ⌜ d < 256 ⌝ }
 {
@@ -151,6 +196,49 @@ fn segments() {
     waiting(63, 1);
 }
 
+fn loads() {
+    loaded(0);
+    loaded(1);
+    loaded(2);
+    loaded(63);
+    loaded(64);
+    loaded(65);
+    loaded(255);
+}
+
+fn sweeps() {
+    swept(0, 3);
+    swept(0, 4);
+    swept(0, 9223372036854775808);
+    swept(1, 3);
+    swept(1, 4);
+    swept(2, 1);
+    swept(63, 1);
+}
+
+// A job of plain 8 in 63 segments or in 64: as many pairs of its first segment as it has segments.
+fn swept_in(size: u32, words: usize, row: u64)
+    requires { ⌜ words ≤ 1024 ⌝ }
+{
+    let log = [0u32; 1024];
+    let mut refusal: u8 = 0;
+    let answer = begin::begin(0, 8, build::ordered(8), 254, size, 16);
+    let job = with_swept(answer.job, 0, row);
+    let part = look::look(job, 0, &log[0..words], &mut refusal);
+    print::word(b"job");
+    print::field(b"S", size as u64);
+    print::field(b"swept", row);
+    print::verdict(refusal);
+    print::field(b"shown", part.len() as u64);
+    print::end();
+}
+
+fn sweeps_of_many() {
+    swept_in(640, 1008, 9223372036854775807);
+    swept_in(640, 1008, 9223372036854775808);
+    swept_in(632, 1024, 18446744073709551615);
+}
+
 fn counts() {
     count(0, 1152921504606846976);
     count(0, 1152921504606846977);
@@ -159,7 +247,7 @@ fn counts() {
 }
 
 // The phase that a job is in.
-fn print_phase(phase: Phase) {
+pub fn print_phase(phase: Phase) {
     match phase {
         Phase::Blanking => print::word(b" blanking"),
         Phase::Level(d) => print::field(b"level", d as u64),
@@ -171,7 +259,7 @@ fn print_phase(phase: Phase) {
 fn close_at(d: u8, stacks: u64) {
     let done = with_passed(with_passed(begun(), 0, 4), 1, 2);
     let job = with_count(with_phase(done, Phase::Level(d)), d as usize, stacks);
-    let answer = close::close(job);
+    let answer = close::close(job, Way::Forward);
     print::word(b"close");
     print::field(b"level", d as u64);
     print::field(b"count", stacks);
@@ -196,5 +284,8 @@ pub fn lines() {
     phases();
     segments();
     counts();
+    loads();
+    sweeps();
+    sweeps_of_many();
     closes();
 }

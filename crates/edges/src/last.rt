@@ -1,25 +1,31 @@
-// The last level, run by its calls on a forged job of plain 3: 1 2 3 is marked 2, as after 254 turns, and no other stack is seen.
+// The last level, run by its calls on a forged job of plain 3, either way: 1 2 3 is marked 2, as after 254 turns, and no other stack is seen.
 use crate::forged;
 use calls::close;
+use calls::load;
 use calls::settle;
 use search::Job;
 use search::Phase;
+use search::Way;
 use trial::print;
 
-// What a call left: the count of level 255 and the byte of the segment.
-fn line(text: &[u8], refusal: u8, job: Job, segment: &[u8]) {
+// The end of a line: what a call left, the count of level 255 and the byte that it was lent.
+fn left(refusal: u8, job: Job, bytes: &[u8]) {
     let counts = job.counts;
-    print::word(text);
     print::verdict(refusal);
     print::field(b"count", counts[255]);
     print::word(b" byte");
-    if segment.len() > 0 {
-        print::byte(segment[0]);
+    if bytes.len() > 0 {
+        print::byte(bytes[0]);
     }
     print::end();
 }
 
-pub fn lines() {
+fn line(text: &[u8], refusal: u8, job: Job, bytes: &[u8]) {
+    print::word(text);
+    left(refusal, job, bytes);
+}
+
+fn forward() {
     let mut first = [0xfeu8; 1];
     let mut second = [0xffu8; 1];
     let mut log = [0u32; 32];
@@ -45,6 +51,62 @@ pub fn lines() {
         all.job,
         &second,
     );
-    let closed = close::close(all.job);
+    let closed = close::close(all.job, Way::Forward);
     line(b"level 255, close", closed.refusal, closed.job, &second);
+}
+
+fn last_reverse() -> Job {
+    forged::with_way(
+        forged::with_phase(forged::begun(), Phase::Level(255)),
+        Way::Reverse,
+    )
+}
+
+fn load_line(job: Job, b: u32, segment: &[u8], list: &mut [u8]) -> Job {
+    let loaded = load::load(job, b, segment, list);
+    print::word(b"level 255 reverse, load");
+    print::field(b"segment", b as u64);
+    left(loaded.refusal, loaded.job, list);
+    loaded.job
+}
+
+fn sweep_line(job: Job, j: u32, segment: &mut [u8], list: &[u8]) -> Job {
+    let swept = sweep::sweep::sweep(job, j, segment, list);
+    print::word(b"level 255 reverse, sweep");
+    print::field(b"segment", j as u64);
+    left(swept.refusal, swept.job, segment);
+    swept.job
+}
+
+// Both segments are swept against the loaded one.
+fn sweep_both(job: Job, first: &mut [u8], second: &mut [u8], list: &[u8]) -> Job {
+    let some = sweep_line(job, 0, first, list);
+    sweep_line(some, 1, second, list)
+}
+
+fn close_line(job: Job, bytes: &[u8]) {
+    let closed = close::close(job, Way::Reverse);
+    line(
+        b"level 255 reverse, close",
+        closed.refusal,
+        closed.job,
+        bytes,
+    );
+}
+
+fn reverse() {
+    let mut first = [0xfeu8; 1];
+    let mut second = [0xffu8; 1];
+    let mut list = [0xffu8; 1];
+    let one = load_line(last_reverse(), 0, &first, &mut list);
+    let two = sweep_both(one, &mut first, &mut second, &list);
+    close_line(two, &second);
+    let three = load_line(two, 1, &second, &mut list);
+    let four = sweep_both(three, &mut first, &mut second, &list);
+    close_line(four, &second);
+}
+
+pub fn lines() {
+    forward();
+    reverse();
 }

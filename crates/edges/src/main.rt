@@ -8,6 +8,7 @@ mod numbered;
 mod planned;
 mod priced;
 mod refused;
+mod reverse;
 
 fn main() {
     counted::lines();
@@ -16,6 +17,7 @@ fn main() {
     forged::lines();
     last::lines();
     refused::lines();
+    reverse::lines();
     planned::lines();
     priced::lines();
     longest::lines();

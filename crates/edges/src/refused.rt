@@ -6,9 +6,10 @@ use calls::look;
 use calls::settle;
 use search::Job;
 use search::Phase;
+use search::Way;
 use trial::print;
 
-fn verdict(text: &[u8], refusal: u8) {
+pub fn verdict(text: &[u8], refusal: u8) {
     print::word(text);
     print::verdict(refusal);
     print::end();
@@ -120,15 +121,18 @@ fn looks() {
 fn closes() {
     let some = forged::with_passed(searching(), 0, 4);
     let all = forged::with_passed(some, 1, 2);
-    verdict(b"close", close::close(all).refusal);
-    verdict(b"close, segment 1 not passed", close::close(some).refusal);
+    verdict(b"close", close::close(all, Way::Forward).refusal);
+    verdict(
+        b"close, segment 1 not passed",
+        close::close(some, Way::Forward).refusal,
+    );
     verdict(
         b"close, an entry waiting",
-        close::close(forged::with_waiting(all, 1, 1)).refusal,
+        close::close(forged::with_waiting(all, 1, 1), Way::Forward).refusal,
     );
     verdict(
         b"close when finished",
-        close::close(forged::with_phase(all, Phase::Finished(3))).refusal,
+        close::close(forged::with_phase(all, Phase::Finished(3)), Way::Forward).refusal,
     );
 }
 
@@ -150,7 +154,7 @@ fn damaged() {
         b"settle, no group",
         settle::settle(job, 0, &mut byte, &log).refusal,
     );
-    verdict(b"close, no group", close::close(job).refusal);
+    verdict(b"close, no group", close::close(job, Way::Forward).refusal);
 }
 
 pub fn lines() {

@@ -7,11 +7,11 @@ use native.Mathlib.Omega.{arith}
 use lib.IntN.{ℤ}
 use lib.ListN.{length, set, replicate, length-append}
 use lib.Seq.{set-at, append-snoc}
-use Rattle.base.proofs.Lists.{map-append}
 use Rattle.stacks.specs.Index.{rankOf, stackAt}
 use Rattle.stacks.specs.Turn.{firstTurn, lastTurn, lifts, turnsIn, turnOf}
 use Rattle.search.specs.Expand.{childrenOf}
-use Rattle.search.proofs.Children.{children-length}
+use Rattle.search.proofs.Children.{children-length, children-more}
+use Rattle.search.proofs.Turning.{childAt}
 use Rattle.perm.specs.Moves.{mostMoves}
 use Rattle.perm.proofs.Sizes.{namedTo, named-none, named-with, named-without, named-rest}
 
@@ -27,11 +27,6 @@ module _ (kind n groups v : ℕ) where
   unfolding filledTo childrenOf
   filled-none = ap (λ (ks : List ℕ). childrenOf kind n ks v ++ replicate (mostMoves - length ks) 0) (named-none groups (firstTurn kind))
 
-  children-more : (ks : List ℕ) (k : ℕ)
-      → childrenOf kind n (ks ++ (k ∷ [])) v ≡ childrenOf kind n ks v ++ (rankOf kind n (turnOf kind k (stackAt kind n v)) ∷ [])
-  unfolding childrenOf
-  children-more ks k = map-append (λ j. rankOf kind n (turnOf kind j (stackAt kind n v))) ks (k ∷ [])
-
   module _ (children : List ℕ) (k i : ℕ) (e : children ≡ filledTo k) (h : firstTurn kind ≤ k) (at : i ≡ length (named k)) where
     -- the set names k, whose child is r
     module _ (yes : lifts groups k ≡ true) where
@@ -40,13 +35,13 @@ module _ (kind n groups v : ℕ) where
 
       pub filled-taken : (r : ℕ) (stack : List ℤ) → i < mostMoves → stack ≡ stackAt kind n v → r ≡ rankOf kind n (turnOf kind k stack)
           → set children i r ≡ filledTo (k + 1)
-      unfolding filledTo
+      unfolding filledTo childAt
       filled-taken r stack few is made =
           let xs : List ℕ = childrenOf kind n (named k) v in
           let zeros : mostMoves - length (named k) ≡ suc (mostMoves - suc (length (named k))) = omega arith in
           let long : length (named k ++ (k ∷ [])) ≡ suc (length (named k)) = omega (arith, length-append (named k) (k ∷ [])) in
           let same : r ≡ rankOf kind n (turnOf kind k (stackAt kind n v)) = made ∙ ap (λ (s : List ℤ). rankOf kind n (turnOf kind k s)) is in
-          rw (e, zeros, one-more, long, children-more (named k) k, ← same)
+          rw (e, zeros, one-more, long, children-more kind n (named k) v k, ← same)
           (set-at xs 0 (replicate (mostMoves - suc (length (named k))) 0) r i (children-length kind n (named k) v ∙ sym at)
           ∙ sym (append-snoc xs r (replicate (mostMoves - suc (length (named k))) 0)))
 

@@ -17,11 +17,12 @@ use Rattle.stacks.specs.Stack.{isPaneCount, stackCount}
 use Rattle.stacks.specs.Turn.{isGroupSet, turnsIn}
 use Rattle.search.specs.Entries.{bytesFor}
 use Rattle.search.specs.Expand.{Expansion, placeChild, placeAll, expandRun}
-use Rattle.search.specs.JobState.{countLimit, levelOf, stackCountOf, stackCountAt}
+use Rattle.search.specs.JobState.{countLimit, noSegment, levelOf, stackCountOf, stackCountAt}
 use Rattle.search.specs.Segments.{segmentLimit, segmentCount, isSegmentSize, isLogRoom}
 use Rattle.search.specs.Logs.{fallingIn}
 use Rattle.search.specs.declared.Job.{Job}
 use Rattle.search.specs.declared.Phase.the-variants.{Level}
+use Rattle.search.specs.declared.Way.the-variants.{Forward}
 use Rattle.twobit.specs.Mark.{marksOf}
 use Rattle.twobit.specs.declared.marking.Found.{Found}
 use Rattle.expand.specs.declared.run.Reached.{Reached}
@@ -57,8 +58,11 @@ scanJob scan =
       size = scan .size;
       room = scan .room;
       phase = Level (scan .level);
+      way = Forward;
+      loaded = noSegment;
       passed = [];
       waiting = [];
+      swept = [];
       counts = [];
     }
 

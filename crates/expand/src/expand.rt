@@ -63,6 +63,7 @@ pub fn expand(job: Job, j: u32, segment: &mut [u8], log: &mut [u32]) -> Expanded
     let mut next = job;
     let wanted = job.wanted;
     let phase = job.phase;
+    let way = job.way;
     let standing = standing::standing_of(
         job.kind,
         job.n,
@@ -71,8 +72,11 @@ pub fn expand(job: Job, j: u32, segment: &mut [u8], log: &mut [u32]) -> Expanded
         job.size,
         job.room,
         phase,
+        way,
+        job.loaded,
         &next.passed,
         &next.waiting,
+        &next.swept,
         &next.counts,
         j,
     );

@@ -3,7 +3,7 @@ ghost use mathlib.Core.Path.{_≡_};
 ghost use lib.ListN.{take, drop};
 ghost use Rattle.search.specs.Begin.{beginOf};
 ghost use Rattle.hokrund.specs.Mirror.{answerOf};
-ghost use Rattle.exports.specs.Outcomes.{Blanks, Expands, Settles, Looks, Closes};
+ghost use Rattle.exports.specs.Outcomes.{Blanks, Expands, Settles, Loads, Sweeps, Looks, Closes};
 use hokrund::job_calls;
 use hokrund::mirror::HokrundAnswer;
 use hokrund::mirror::HokrundExpanded;
@@ -42,14 +42,26 @@ pub fn settle(job: HokrundJob, j: u32, segment: &mut [u8], log: &[u32]) -> Hokru
     job_calls::hokrund_settle(job, j, segment, log)
 }
 
+pub fn load(job: HokrundJob, b: u32, segment: &[u8], list: &mut [u8]) -> HokrundAnswer
+    ensures { λ r. ⌜ Loads job b (now (segment .entry)) (now (list .entry)) (now (list .exit), r) ⌝ }
+{
+    job_calls::hokrund_load(job, b, segment, list)
+}
+
+pub fn sweep(job: HokrundJob, j: u32, segment: &mut [u8], list: &[u8]) -> HokrundAnswer
+    ensures { λ r. ⌜ Sweeps job j (now (segment .entry)) (now (list .entry)) (now (segment .exit), r) ⌝ }
+{
+    job_calls::hokrund_sweep(job, j, segment, list)
+}
+
 pub fn look(job: HokrundJob, j: u32, log: &[u32]) -> HokrundLook
     ensures { λ r. ⌜ Looks job j (now (log .entry)) (take (r .length) (drop (r .start) (now (log .entry))), r) ⌝ }
 {
     job_calls::hokrund_look(job, j, log)
 }
 
-pub fn close(job: HokrundJob) -> HokrundAnswer
-    ensures { λ r. ⌜ Closes job r ⌝ }
+pub fn close(job: HokrundJob, way: u8) -> HokrundAnswer
+    ensures { λ r. ⌜ Closes job way r ⌝ }
 {
-    job_calls::hokrund_close(job)
+    job_calls::hokrund_close(job, way)
 }

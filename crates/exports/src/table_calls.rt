@@ -4,7 +4,7 @@ ghost use Rattle.search.specs.Drive.{buildOf};
 ghost use Rattle.search.specs.Plan.{planOf};
 ghost use Rattle.search.specs.Read.{readOf};
 ghost use Rattle.tariff.specs.Price.{priceOf};
-ghost use Rattle.hokrund.specs.Mirror.{answerOf, entryReadOf, plannedOf, pricedOf, oneLent, twoLent};
+ghost use Rattle.hokrund.specs.Mirror.{answerOf, entryReadOf, plannedOf, pricedOf, oneLent, threeLent};
 use hokrund::mirror::HokrundAnswer;
 use hokrund::mirror::HokrundEntry;
 use hokrund::mirror::HokrundPlanned;
@@ -22,10 +22,11 @@ pub fn build_table(
     room: u32,
     table: &mut [u8],
     log: &mut [u32],
+    list: &mut [u8],
 ) -> HokrundAnswer
-    ensures { λ r. ⌜ (now (table .exit), now (log .exit), r) ≡ twoLent answerOf (buildOf kind n (wanted .places) groups size room (now (table .entry)) (now (log .entry))) ⌝ }
+    ensures { λ r. ⌜ (now (table .exit), now (log .exit), now (list .exit), r) ≡ threeLent answerOf (buildOf kind n (wanted .places) groups size room (now (table .entry)) (now (log .entry)) (now (list .entry))) ⌝ }
 {
-    table_calls::hokrund_build_table(kind, n, wanted, groups, size, room, table, log)
+    table_calls::hokrund_build_table(kind, n, wanted, groups, size, room, table, log, list)
 }
 
 pub fn read_entry(kind: u8, n: u8, table: &[u8], index: u32) -> HokrundEntry

@@ -1,14 +1,17 @@
--- The two conversions of the mirror undo each other: of every job, and of every mirror whose two numbers are those of a phase.
+-- The two conversions of the mirror undo each other: of every job, and of every mirror whose numbers are those of a phase and of a way.
 use mathlib.Core.Path.{_≡_, refl, sym}
 use mathlib.Core.Bool.{true}
 use Prim.Native.Nat.{ℕ, zero, suc}
+use native.Mathlib.Omega.{arith}
 use Rattle.search.specs.JobState.{levelOf}
 use Rattle.search.specs.declared.Job.{Job}
 use Rattle.search.specs.declared.Phase.{Phase}
 use Rattle.search.specs.declared.Phase.the-variants.{Blanking, Level, Finished}
-use borrow.Author.Tests.{eqb-true}
-use Rattle.base.proofs.Tests.{never}
-use Rattle.hokrund.specs.Mirror.{phaseNumber, phaseOf, isPhase, hasPhase, jobOf, mirrorOf}
+use Rattle.search.specs.declared.Way.{Way}
+use Rattle.search.specs.declared.Way.the-variants.{Forward, Reverse}
+use borrow.Author.Tests.{eqb-true, le-ltb}
+use Rattle.base.proofs.Tests.{and-left, and-right, and-both, never}
+use Rattle.hokrund.specs.Mirror.{phaseNumber, phaseOf, isPhase, wayNumber, wayOf, isWay, isJob, jobOf, mirrorOf}
 use Rattle.hokrund.specs.declared.mirror.HokrundJob.{HokrundJob}
 
 phase-number : (p : Phase) → phaseOf (phaseNumber p) (levelOf p) ≡ p
@@ -30,16 +33,34 @@ number-phase (suc zero) level h = (refl, refl)
 number-phase (suc (suc zero)) level h = (refl, refl)
 number-phase (suc (suc (suc number))) level h = never h refl
 
+way-number : (w : Way) → wayOf (wayNumber w) ≡ w
+unfolding wayOf wayNumber
+way-number Forward = refl
+way-number Reverse = refl
+
+number-is-way : (w : Way) → isWay (wayNumber w) ≡ true
+unfolding isWay wayNumber
+number-is-way Forward = refl
+number-is-way Reverse = refl
+
+number-way : (number : ℕ) → isWay number ≡ true → wayNumber (wayOf number) ≡ number
+unfolding isWay wayOf wayNumber
+number-way zero h = refl
+number-way (suc zero) h = refl
+number-way (suc (suc number)) h = never h (le-ltb (suc (suc number)) 2 (omega arith))
+
 pub job-mirror : (job : Job) → jobOf (mirrorOf job) ≡ job
 unfolding jobOf mirrorOf
-job-mirror job = rw (phase-number (job .phase)) refl
+job-mirror job = rw (phase-number (job .phase)) (rw (way-number (job .way)) refl)
 
--- every mirror of a job has a phase
-pub mirror-phase : (job : Job) → hasPhase (mirrorOf job) ≡ true
-unfolding hasPhase mirrorOf
-mirror-phase job = number-is-phase (job .phase)
+-- every mirror of a job is one
+pub mirror-is : (job : Job) → isJob (mirrorOf job) ≡ true
+unfolding isJob mirrorOf
+mirror-is job = and-both _ _ (number-is-phase (job .phase)) (number-is-way (job .way))
 
-pub mirror-job : (m : HokrundJob) → hasPhase m ≡ true → mirrorOf (jobOf m) ≡ m
-unfolding hasPhase jobOf mirrorOf
+pub mirror-job : (m : HokrundJob) → isJob m ≡ true → mirrorOf (jobOf m) ≡ m
+unfolding isJob jobOf mirrorOf
 mirror-job m h =
-    let e = number-phase (m .phase) (m .level) h in rw (e .0) (rw (e .1) refl)
+    let e = number-phase (m .phase) (m .level) (and-left (isPhase (m .phase) (m .level)) (isWay (m .way)) h) in
+    let w = number-way (m .way) (and-right (isPhase (m .phase) (m .level)) (isWay (m .way)) h) in
+    rw (e .0) (rw (e .1) (rw w refl))

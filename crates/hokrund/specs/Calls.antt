@@ -1,5 +1,5 @@
 -- The calls that lend a buffer or take a job: what each leaves in the buffers and its answer, by the definition of the operation.
--- A mirror whose two numbers are no phase is refused 7, and given back as it was.
+-- A mirror whose numbers are no phase or no way is refused 7, and given back as it was.
 use mathlib.Core.Bool.{false, cond}
 use mathlib.Core.List.{List, []}
 use Prim.Native.Nat.{ℕ, _*_}
@@ -7,12 +7,14 @@ use Rattle.search.specs.Blank.{blankOf}
 use Rattle.search.specs.Close.{closeOf}
 use Rattle.search.specs.Drive.{buildOf}
 use Rattle.search.specs.Expand.{expandOf}
+use Rattle.search.specs.Load.{loadOf}
 use Rattle.search.specs.Look.{lookOf}
 use Rattle.search.specs.Plan.{planOf}
 use Rattle.search.specs.Settle.{settleOf}
+use Rattle.search.specs.Sweep.{sweepOf}
 use Rattle.tariff.specs.Price.{priceOf}
 use Rattle.tariff.specs.declared.Tariff.{Tariff}
-use Rattle.hokrund.specs.Mirror.{hasPhase, jobOf, answerOf, expandedOf, lookedAt, plannedOf, pricedOf, oneLent, twoLent}
+use Rattle.hokrund.specs.Mirror.{wayOf, isJob, jobOf, answerOf, expandedOf, lookedAt, plannedOf, pricedOf, oneLent, twoLent, threeLent}
 use Rattle.hokrund.specs.declared.mirror.HokrundAnswer.{HokrundAnswer}
 use Rattle.hokrund.specs.declared.mirror.HokrundExpanded.{HokrundExpanded}
 use Rattle.hokrund.specs.declared.mirror.HokrundJob.{HokrundJob}
@@ -21,36 +23,45 @@ use Rattle.hokrund.specs.declared.mirror.HokrundPlanned.{HokrundPlanned}
 use Rattle.hokrund.specs.declared.mirror.HokrundPriced.{HokrundPriced}
 use Rattle.hokrund.specs.declared.mirror.HokrundStack.{HokrundStack}
 
-abbrev pub noPhase : HokrundJob → HokrundAnswer
-noPhase m = record { refusal = 7; job = m }
+abbrev pub noJob : HokrundJob → HokrundAnswer
+noJob m = record { refusal = 7; job = m }
 
 unfoldable pub blankCall : HokrundJob → ℕ → List ℕ → List ℕ × HokrundAnswer
 blankCall m j segment =
-    cond (hasPhase m) (oneLent answerOf (blankOf (jobOf m) j segment)) (segment, noPhase m)
+    cond (isJob m) (oneLent answerOf (blankOf (jobOf m) j segment)) (segment, noJob m)
 
 unfoldable pub expandCall : HokrundJob → ℕ → List ℕ → List ℕ → List ℕ × List ℕ × HokrundExpanded
 expandCall m j segment log =
-    cond (hasPhase m)
+    cond (isJob m)
     (twoLent expandedOf (expandOf (jobOf m) j segment log))
     (segment, log, record { refusal = 7; waits = false; on = 0; job = m })
 
 unfoldable pub settleCall : HokrundJob → ℕ → List ℕ → List ℕ → List ℕ × HokrundAnswer
 settleCall m j segment log =
-    cond (hasPhase m) (oneLent answerOf (settleOf (jobOf m) j segment log)) (segment, noPhase m)
+    cond (isJob m) (oneLent answerOf (settleOf (jobOf m) j segment log)) (segment, noJob m)
 
-unfoldable pub closeCall : HokrundJob → HokrundAnswer
-closeCall m = cond (hasPhase m) (answerOf (closeOf (jobOf m))) (noPhase m)
+-- the list is lent to be filled, the segment only read
+unfoldable pub loadCall : HokrundJob → ℕ → List ℕ → List ℕ → List ℕ × HokrundAnswer
+loadCall m b segment list =
+    cond (isJob m) (oneLent answerOf (loadOf (jobOf m) b segment list)) (list, noJob m)
+
+unfoldable pub sweepCall : HokrundJob → ℕ → List ℕ → List ℕ → List ℕ × HokrundAnswer
+sweepCall m j segment list =
+    cond (isJob m) (oneLent answerOf (sweepOf (jobOf m) j segment list)) (segment, noJob m)
+
+unfoldable pub closeCall : HokrundJob → ℕ → HokrundAnswer
+closeCall m way = cond (isJob m) (answerOf (closeOf (jobOf m) (wayOf way))) (noJob m)
 
 -- the part that Look hands back, and where it stands in the log area
 unfoldable pub lookCall : HokrundJob → ℕ → List ℕ → List ℕ × HokrundLook
 lookCall m j log =
-    cond (hasPhase m)
+    cond (isJob m)
     (lookedAt (j * m .room) (lookOf (jobOf m) j log))
     ([], record { refusal = 7; start = 0; length = 0 })
 
-unfoldable pub buildCall : ℕ → ℕ → HokrundStack → ℕ → ℕ → ℕ → List ℕ → List ℕ → List ℕ × List ℕ × HokrundAnswer
-buildCall kind n wanted groups size room table log =
-    twoLent answerOf (buildOf kind n (wanted .places) groups size room table log)
+unfoldable pub buildCall : ℕ → ℕ → HokrundStack → ℕ → ℕ → ℕ → List ℕ → List ℕ → List ℕ → List ℕ × List ℕ × List ℕ × HokrundAnswer
+buildCall kind n wanted groups size room table log list =
+    threeLent answerOf (buildOf kind n (wanted .places) groups size room table log list)
 
 unfoldable pub planCall : ℕ → ℕ → HokrundStack → HokrundStack → ℕ → List ℕ → List ℕ → List ℕ × HokrundPlanned
 planCall kind n wanted given groups table list =

@@ -1,12 +1,13 @@
--- The mirror of the job, in which the phase is two numbers, and the answers in C's structs.
---   phaseNumber, levelOf    the two numbers of a phase
---   phaseOf                 the phase of two numbers that isPhase accepts
---   jobOf, mirrorOf         the two conversions of the job
---   oneLent, twoLent        an outcome, its answer converted
-use mathlib.Core.Bool.{Bool, true, false, cond}
+-- The mirror of the job, in which the phase is two numbers and the way one, and the answers in C's structs.
+--   phaseNumber, levelOf           the two numbers of a phase
+--   phaseOf                        the phase of two numbers that isPhase accepts
+--   wayNumber, wayOf               the number of a way, and the way of a number; Close takes any number
+--   jobOf, mirrorOf                the two conversions of the job
+--   oneLent, twoLent, threeLent    an outcome, its answer converted
+use mathlib.Core.Bool.{Bool, true, false, _&&_, cond}
 use mathlib.Core.List.{List}
 use Prim.Native.Nat.{ℕ, zero, suc}
-use lib.Dec.{eqb}
+use lib.Dec.{ltb, eqb}
 use lib.ListN.{length}
 use Rattle.stacks.specs.declared.Indexed.{Indexed}
 use Rattle.stacks.specs.declared.Stacked.{Stacked}
@@ -18,6 +19,8 @@ use Rattle.search.specs.declared.Job.{Job}
 use Rattle.search.specs.declared.Phase.{Phase}
 use Rattle.search.specs.declared.Phase.the-variants.{Blanking, Level, Finished}
 use Rattle.search.specs.declared.Planned.{Planned}
+use Rattle.search.specs.declared.Way.{Way}
+use Rattle.search.specs.declared.Way.the-variants.{Forward, Reverse}
 use Rattle.tariff.specs.declared.Priced.{Priced}
 use Rattle.hokrund.specs.declared.mirror.HokrundAnswer.{HokrundAnswer}
 use Rattle.hokrund.specs.declared.mirror.HokrundEntry.{HokrundEntry}
@@ -46,9 +49,20 @@ isPhase (suc zero) level = true
 isPhase (suc (suc zero)) level = true
 isPhase (suc (suc (suc k))) level = false
 
--- whether a mirror's two numbers are those of a phase
-unfoldable pub hasPhase : HokrundJob → Bool
-hasPhase m = isPhase (m .phase) (m .level)
+unfoldable pub wayNumber : Way → ℕ
+wayNumber Forward = 0
+wayNumber Reverse = 1
+
+unfoldable pub wayOf : ℕ → Way
+wayOf zero = Forward
+wayOf (suc k) = Reverse
+
+unfoldable pub isWay : ℕ → Bool
+isWay number = ltb number 2
+
+-- whether a mirror's numbers are those of a phase and of a way
+unfoldable pub isJob : HokrundJob → Bool
+isJob m = isPhase (m .phase) (m .level) && isWay (m .way)
 
 unfoldable pub jobOf : HokrundJob → Job
 jobOf m =
@@ -60,8 +74,11 @@ jobOf m =
       size = m .size;
       room = m .room;
       phase = phaseOf (m .phase) (m .level);
+      way = wayOf (m .way);
+      loaded = m .loaded;
       passed = m .passed;
       waiting = m .waiting;
+      swept = m .swept;
       counts = m .counts;
     }
 
@@ -72,12 +89,15 @@ mirrorOf job =
       n = job .n;
       phase = phaseNumber (job .phase);
       level = levelOf (job .phase);
+      way = wayNumber (job .way);
+      loaded = job .loaded;
       wanted = record { places = job .wanted };
       groups = job .groups;
       size = job .size;
       room = job .room;
       passed = job .passed;
       waiting = job .waiting;
+      swept = job .swept;
       counts = job .counts;
     }
 
@@ -110,9 +130,12 @@ plannedOf a = record { refusal = a .refusal; turns = a .turns }
 unfoldable pub pricedOf : Priced → HokrundPriced
 pricedOf a = record { refusal = a .refusal; turns = a .turns; pennies = a .pennies }
 
--- what an operation leaves in one or two lent buffers, and its answer converted
+-- what an operation leaves in one, two or three lent buffers, and its answer converted
 abbrev pub oneLent : {A B C : Type 0} → (B → C) → A × B → A × C
 oneLent f out = (out .0, f (out .1))
 
 abbrev pub twoLent : {A B C D : Type 0} → (C → D) → A × B × C → A × B × D
 twoLent f out = (out .0, out .1, f (out .2))
+
+abbrev pub threeLent : {A B C D E : Type 0} → (D → E) → A × B × C × D → A × B × C × E
+threeLent f out = (out .0, out .1, out .2, f (out .3))

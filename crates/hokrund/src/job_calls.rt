@@ -1,9 +1,9 @@
-// Begin, and the calls on a job: a mirror whose numbers are no phase is refused 7 and given back, any other goes to the operation.
+// Begin, and the calls on a job: a mirror whose numbers are no phase or no way is refused 7 and given back, any other goes to the operation.
 ghost use mathlib.Core.Path.{_≡_};
 ghost use lib.ListN.{take, drop};
 ghost use Rattle.search.specs.Begin.{beginOf};
 ghost use Rattle.hokrund.specs.Mirror.{answerOf};
-ghost use Rattle.hokrund.specs.Calls.{blankCall, expandCall, settleCall, lookCall, closeCall};
+ghost use Rattle.hokrund.specs.Calls.{blankCall, expandCall, settleCall, loadCall, sweepCall, lookCall, closeCall};
 use crate::mirror;
 use crate::mirror::HokrundAnswer;
 use crate::mirror::HokrundExpanded;
@@ -12,6 +12,7 @@ use crate::mirror::HokrundLook;
 use crate::mirror::HokrundStack;
 use calls::blank;
 use calls::close;
+use calls::load;
 use calls::look;
 use calls::settle;
 use job::begin;
@@ -35,7 +36,7 @@ pub extern "C" fn hokrund_begin(
 pub extern "C" fn hokrund_blank(job: HokrundJob, j: u32, segment: &mut [u8]) -> HokrundAnswer
     ensures { λ r. ⌜ (now (segment .exit), r) ≡ blankCall job j (now (segment .entry)) ⌝ }
 {
-    if !mirror::has_phase(job) {
+    if !mirror::is_job(job) {
         return HokrundAnswer { refusal: 7, job };
     }
     mirror::answer_of(blank::blank(mirror::job_of(job), j, segment))
@@ -50,7 +51,7 @@ pub extern "C" fn hokrund_expand(
 ) -> HokrundExpanded
     ensures { λ r. ⌜ (now (segment .exit), now (log .exit), r) ≡ expandCall job j (now (segment .entry)) (now (log .entry)) ⌝ }
 {
-    if !mirror::has_phase(job) {
+    if !mirror::is_job(job) {
         return HokrundExpanded {
             refusal: 7,
             waits: false,
@@ -76,10 +77,40 @@ pub extern "C" fn hokrund_settle(
 ) -> HokrundAnswer
     ensures { λ r. ⌜ (now (segment .exit), r) ≡ settleCall job j (now (segment .entry)) (now (log .entry)) ⌝ }
 {
-    if !mirror::has_phase(job) {
+    if !mirror::is_job(job) {
         return HokrundAnswer { refusal: 7, job };
     }
     mirror::answer_of(settle::settle(mirror::job_of(job), j, segment, log))
+}
+
+#[no_mangle]
+pub extern "C" fn hokrund_load(
+    job: HokrundJob,
+    b: u32,
+    segment: &[u8],
+    list: &mut [u8],
+) -> HokrundAnswer
+    ensures { λ r. ⌜ (now (list .exit), r) ≡ loadCall job b (now (segment .entry)) (now (list .entry)) ⌝ }
+{
+    if !mirror::is_job(job) {
+        return HokrundAnswer { refusal: 7, job };
+    }
+    mirror::answer_of(load::load(mirror::job_of(job), b, segment, list))
+}
+
+#[no_mangle]
+pub extern "C" fn hokrund_sweep(
+    job: HokrundJob,
+    j: u32,
+    segment: &mut [u8],
+    list: &[u8],
+) -> HokrundAnswer
+    ensures { λ r. ⌜ (now (segment .exit), r) ≡ sweepCall job j (now (segment .entry)) (now (list .entry)) ⌝ }
+{
+    if !mirror::is_job(job) {
+        return HokrundAnswer { refusal: 7, job };
+    }
+    mirror::answer_of(sweep::sweep::sweep(mirror::job_of(job), j, segment, list))
 }
 
 // What start and length say is the part itself.
@@ -87,7 +118,7 @@ pub extern "C" fn hokrund_settle(
 pub extern "C" fn hokrund_look(job: HokrundJob, j: u32, log: &[u32]) -> HokrundLook
     ensures { λ r. ⌜ (take (r .length) (drop (r .start) (now (log .entry))), r) ≡ lookCall job j (now (log .entry)) ⌝ }
 {
-    if !mirror::has_phase(job) {
+    if !mirror::is_job(job) {
         return HokrundLook {
             refusal: 7,
             start: 0,
@@ -112,11 +143,11 @@ pub extern "C" fn hokrund_look(job: HokrundJob, j: u32, log: &[u32]) -> HokrundL
 }
 
 #[no_mangle]
-pub extern "C" fn hokrund_close(job: HokrundJob) -> HokrundAnswer
-    ensures { λ r. ⌜ r ≡ closeCall job ⌝ }
+pub extern "C" fn hokrund_close(job: HokrundJob, way: u8) -> HokrundAnswer
+    ensures { λ r. ⌜ r ≡ closeCall job way ⌝ }
 {
-    if !mirror::has_phase(job) {
+    if !mirror::is_job(job) {
         return HokrundAnswer { refusal: 7, job };
     }
-    mirror::answer_of(close::close(mirror::job_of(job)))
+    mirror::answer_of(close::close(mirror::job_of(job), mirror::way_of(way)))
 }

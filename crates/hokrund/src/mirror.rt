@@ -1,12 +1,13 @@
 // The job, a stack and the answers as C sees them, and the conversions to and from the operations' own types.
 ghost use mathlib.Core.Path.{_≡_};
-ghost use Rattle.hokrund.specs.Mirror.{phaseNumber, phaseOf, hasPhase, jobOf, mirrorOf, answerOf};
+ghost use Rattle.hokrund.specs.Mirror.{phaseNumber, phaseOf, isPhase, wayNumber, wayOf, isJob, jobOf, mirrorOf, answerOf};
 use job::phase;
 use search::Answer;
 use search::COUNT_PLACES;
 use search::Job;
 use search::Phase;
 use search::SEGMENT_LIMIT;
+use search::Way;
 use stacks::PLACES;
 
 #[repr(C)]
@@ -14,19 +15,22 @@ pub struct HokrundStack {
     pub places: [i8; PLACES],
 }
 
-// search's Job, its phase as two numbers: 0 Blanking with level 0, 1 Level, 2 Finished.
+// search's Job, its phase as two numbers: 0 Blanking with level 0, 1 Level, 2 Finished. Its way is 0 forward, 1 reverse.
 #[repr(C)]
 pub struct HokrundJob {
     pub kind: u8,
     pub n: u8,
     pub phase: u8,
     pub level: u8,
+    pub way: u8,
+    pub loaded: u8,
     pub wanted: HokrundStack,
     pub groups: u32,
     pub size: u32,
     pub room: u32,
     pub passed: [u32; SEGMENT_LIMIT],
     pub waiting: [u32; SEGMENT_LIMIT],
+    pub swept: [u64; SEGMENT_LIMIT],
     pub counts: [u64; COUNT_PLACES],
 }
 
@@ -105,25 +109,56 @@ pub(crate) fn phase_of(number: u8, level: u8) -> Phase
     Phase::Finished(level)
 }
 
-// Whether a mirror's two numbers are those of a phase.
-pub(crate) fn has_phase(mirror: HokrundJob) -> bool
-    ensures { λ r. ⌜ r ≡ hasPhase mirror ⌝ }
+fn is_phase(number: u8, level: u8) -> bool
+    ensures { λ r. ⌜ r ≡ isPhase number level ⌝ }
 {
-    if mirror.phase == 0 {
-        return mirror.level == 0;
+    if number == 0 {
+        return level == 0;
     }
-    mirror.phase < 3
+    number < 3
 }
 
-// The two conversions. A new field of the job is a line in each, two if it is an array; their proofs and laws name no field but the phase.
+pub(crate) fn way_number(way: Way) -> u8
+    ensures { λ r. ⌜ r ≡ wayNumber way ⌝ }
+{
+    match way {
+        Way::Forward => 0,
+        Way::Reverse => 1,
+    }
+}
+
+// 0 is forward, any other number reverse.
+pub(crate) fn way_of(number: u8) -> Way
+    ensures { λ r. ⌜ r ≡ wayOf number ⌝ }
+{
+    if number == 0 {
+        return Way::Forward;
+    }
+    Way::Reverse
+}
+
+// Whether a mirror's numbers are those of a phase and of a way.
+pub(crate) fn is_job(mirror: HokrundJob) -> bool
+    ensures { λ r. ⌜ r ≡ isJob mirror ⌝ }
+{
+    if !is_phase(mirror.phase, mirror.level) {
+        return false;
+    }
+    mirror.way < 2
+}
+
+// The two conversions. A new field of the job is a line in each, two if it is an array; their proofs and laws name no field but the phase and
+// the way.
 pub(crate) fn job_of(mirror: HokrundJob) -> Job
     ensures { λ r. ⌜ r ≡ jobOf mirror ⌝ }
 {
     let wanted = mirror.wanted.places;
     let passed = mirror.passed;
     let waiting = mirror.waiting;
+    let swept = mirror.swept;
     let counts = mirror.counts;
     let phase = phase_of(mirror.phase, mirror.level);
+    let way = way_of(mirror.way);
     Job {
         kind: mirror.kind,
         n: mirror.n,
@@ -132,8 +167,11 @@ pub(crate) fn job_of(mirror: HokrundJob) -> Job
         size: mirror.size,
         room: mirror.room,
         phase,
+        way,
+        loaded: mirror.loaded,
         passed,
         waiting,
+        swept,
         counts,
     }
 }
@@ -142,21 +180,26 @@ pub(crate) fn mirror_of(job: Job) -> HokrundJob
     ensures { λ r. ⌜ r ≡ mirrorOf job ⌝ }
 {
     let phase = job.phase;
+    let way = job.way;
     let wanted = job.wanted;
     let passed = job.passed;
     let waiting = job.waiting;
+    let swept = job.swept;
     let counts = job.counts;
     HokrundJob {
         kind: job.kind,
         n: job.n,
         phase: phase_number(phase),
         level: phase::level_of(phase),
+        way: way_number(way),
+        loaded: job.loaded,
         wanted: HokrundStack { places: wanted },
         groups: job.groups,
         size: job.size,
         room: job.room,
         passed,
         waiting,
+        swept,
         counts,
     }
 }

@@ -21,11 +21,13 @@ pub extern "C" fn hokrund_build_table(
     room: u32,
     table: &mut [u8],
     log: &mut [u32],
+    list: &mut [u8],
 ) -> HokrundAnswer
-    ensures { λ r. ⌜ (now (table .exit), now (log .exit), r) ≡ buildCall kind n wanted groups size room (now (table .entry)) (now (log .entry)) ⌝ }
+    ensures { λ r. ⌜ (now (table .exit), now (log .exit), now (list .exit), r) ≡ buildCall kind n wanted groups size room (now (table .entry)) (now (log .entry)) (now (list .entry)) ⌝ }
 {
     let places = wanted.places;
-    mirror::answer_of(build::build::build_table(kind, n, places, groups, size, room, table, log))
+    let built = build::build::build_table(kind, n, places, groups, size, room, table, log, list);
+    mirror::answer_of(built)
 }
 
 #[no_mangle]

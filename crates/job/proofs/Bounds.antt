@@ -1,6 +1,6 @@
 -- What a job that Begin would accept, and a coherent one, keep within bounds, so that the code's numbers fit.
 use mathlib.Core.Path.{_≡_, refl, subst}
-use mathlib.Core.Bool.{Bool, true, cond}
+use mathlib.Core.Bool.{Bool, true, not, cond}
 use Prim.Native.Nat.{ℕ, _+_, _*_, _≤_, _<_}
 use native.Mathlib.Nat.{suc-mul, mul-le-mul, mul-le-mul-right}
 use native.Mathlib.Omega.{arith}
@@ -8,7 +8,7 @@ use borrow.Author.Tests.{lt-ltb, leb-true}
 use lib.Dec.{leb}
 use Rattle.base.proofs.Tests.{and-left, never}
 use Rattle.stacks.specs.Stack.{isPaneCount, isStack, stackCount}
-use Rattle.search.specs.JobState.{lastLevel, beginRefusal, isLevel, levelOf, phaseFits, stackCountOf, segmentCountOf, logLength, waitingOf, isCoherent}
+use Rattle.search.specs.JobState.{lastLevel, beginRefusal, isLevel, isReverse, inForward, inReverse, levelOf, phaseFits, stackCountOf, segmentCountOf, logLength, waitingOf, isCoherent}
 use Rattle.search.specs.Segments.{segmentLimit, mostSize, mostRoom, isSegmentSize, isLogRoom}
 use Rattle.search.specs.declared.Job.{Job}
 use Rattle.search.specs.declared.Phase.{Phase}
@@ -60,8 +60,16 @@ level-pos (Level d) h k = leb-true 1 d (and-left (leb 1 d) (leb d lastLevel) h)
 level-pos (Finished d) h k = never k refl
 
 module _ (job : Job) (coherent : isCoherent job ≡ true) where
-  pub level-least : isLevel (job .phase) ≡ true → 1 ≤ levelOf (job .phase)
+  level-least : isLevel (job .phase) ≡ true → 1 ≤ levelOf (job .phase)
   level-least = level-pos (job .phase) (coherent-facts job coherent .phase-fits)
+
+  pub forward-least : inForward job ≡ true → 1 ≤ levelOf (job .phase)
+  unfolding inForward
+  forward-least h = level-least (and-left (isLevel (job .phase)) (not (isReverse (job .way))) h)
+
+  pub reverse-least : inReverse job ≡ true → 1 ≤ levelOf (job .phase)
+  unfolding inReverse
+  reverse-least h = level-least (and-left (isLevel (job .phase)) (isReverse (job .way)) h)
 
   -- ---- the log area, of at most 64 logs of 2^20 places
 

@@ -11,7 +11,7 @@ use Rattle.stacks.specs.Turn.{isGroupSet}
 use Rattle.stacks.specs.Stack.{isKind, isPaneCount, isStack, stackCount}
 use Rattle.perm.proofs.Refusals.{orElse, row-refuses, row-goes-on}
 use Rattle.search.specs.Entries.{bytesFor}
-use Rattle.search.specs.JobState.{beginRefusal, isCoherent, isLevel, segmentCountOf, stackCountAt, logLength}
+use Rattle.search.specs.JobState.{beginRefusal, isCoherent, inForward, segmentCountOf, stackCountAt, logLength}
 use Rattle.search.specs.Segments.{isSegmentSize, isLogRoom}
 use Rattle.search.specs.Refusals.{callRefusal, segmentRefusal, levelRefusal}
 use Rattle.search.specs.declared.Job.{Job}
@@ -67,7 +67,7 @@ module _ (inPhase : Bool) (job : Job) (j : ℕ) where
 level-first : (job : Job) (j bytes words rest : ℕ) → levelRefusal job j bytes words rest ≡ orElse (levelRefusal job j bytes words 0) rest
 unfolding levelRefusal
 level-first job j bytes words rest =
-    let p : Bool = isLevel (job .phase) in
+    let p : Bool = inForward job in
     let t : Bool = eqb words (logLength job) in
     let r : ℕ = segmentRefusal p job j bytes 0 in
     segment-first p job j bytes (unless t 10 rest) ∙ else-unless r t 9 rest ∙ ap (λ (x : ℕ). orElse x rest) (sym (segment-first p job j bytes (unless t 10 0)))

@@ -1,10 +1,10 @@
 -- What a standing says of every job that has it, and what it keeps within bounds where the job is coherent.
 use mathlib.Core.Path.{_≡_, ap}
-use mathlib.Core.Bool.{true}
+use mathlib.Core.Bool.{true, not, _&&_}
 use mathlib.Core.List.{List}
 use Prim.Native.Nat.{ℕ, _*_}
 use Rattle.stacks.specs.Stack.{isPaneCount, stackCount}
-use Rattle.search.specs.JobState.{isCoherent, stackCountOf, segmentCountOf, stackCountAt, logLength, passedOf}
+use Rattle.search.specs.JobState.{isCoherent, isLevel, isReverse, inForward, inReverse, stackCountOf, segmentCountOf, stackCountAt, logLength, passedOf, sweptOf}
 use Rattle.search.specs.Logs.{logPart, pending}
 use Rattle.search.specs.Segments.{segmentCount, stackCountIn, isSegmentSize, isLogRoom}
 use Rattle.search.specs.declared.Job.{Job}
@@ -20,6 +20,22 @@ module _ (s : Standing) (j : ℕ) (job : Job) (e : s ≡ standingOf job j) where
   pub phase-is : s .phase ≡ job .phase
   unfolding standingOf
   phase-is = ap (λ (x : Standing). x .phase) e
+
+  pub forward-is : (isLevel (s .phase) && not (isReverse (s .way))) ≡ inForward job
+  unfolding standingOf inForward
+  forward-is = ap (λ (x : Standing). isLevel (x .phase) && not (isReverse (x .way))) e
+
+  pub reverse-is : (isLevel (s .phase) && isReverse (s .way)) ≡ inReverse job
+  unfolding standingOf inReverse
+  reverse-is = ap (λ (x : Standing). isLevel (x .phase) && isReverse (x .way)) e
+
+  pub loaded-is : s .loaded ≡ job .loaded
+  unfolding standingOf
+  loaded-is = ap (λ (x : Standing). x .loaded) e
+
+  pub swept-is : s .swept ≡ sweptOf job (job .loaded)
+  unfolding standingOf
+  swept-is = ap (λ (x : Standing). x .swept) e
 
   pub passed-is : s .passed ≡ passedOf job j
   unfolding standingOf

@@ -4,14 +4,15 @@ use mathlib.Core.Path.{_≡_}
 use mathlib.Core.List.{List}
 use Prim.Native.Nat.{ℕ}
 use lib.IntN.{ℤ}
-use Rattle.search.specs.JobState.{isCoherent, passedOf, waitingOf}
+use Rattle.search.specs.JobState.{isCoherent, passedOf, waitingOf, sweptOf}
 use Rattle.search.specs.declared.Job.{Job}
 use Rattle.search.specs.declared.Phase.{Phase}
+use Rattle.search.specs.declared.Way.{Way}
 use Rattle.job.specs.declared.standing.Standing.{Standing}
 
 -- the job with these fields
-abbrev pub jobWith : ℕ → ℕ → List ℤ → ℕ → ℕ → ℕ → Phase → List ℕ → List ℕ → List ℕ → Job
-jobWith kind n wanted groups S C phase passed waiting counts =
+abbrev pub jobWith : ℕ → ℕ → List ℤ → ℕ → ℕ → ℕ → Phase → Way → ℕ → List ℕ → List ℕ → List ℕ → List ℕ → Job
+jobWith kind n wanted groups S C phase way loaded passed waiting swept counts =
     record {
       kind = kind;
       n = n;
@@ -20,8 +21,11 @@ jobWith kind n wanted groups S C phase passed waiting counts =
       size = S;
       room = C;
       phase = phase;
+      way = way;
+      loaded = loaded;
       passed = passed;
       waiting = waiting;
+      swept = swept;
       counts = counts;
     }
 
@@ -34,8 +38,11 @@ standingOf job j =
       size = job .size;
       room = job .room;
       phase = job .phase;
+      way = job .way;
+      loaded = job .loaded;
       passed = passedOf job j;
       waiting = waitingOf job j;
+      swept = sweptOf job (job .loaded);
     }
 
 -- it is some job's

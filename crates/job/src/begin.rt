@@ -5,11 +5,13 @@ use crate::coherence;
 use search::Answer;
 use search::COUNT_PLACES;
 use search::Job;
+use search::NO_SEGMENT;
 use search::Phase;
 use search::SEGMENT_LIMIT;
+use search::Way;
 use stacks::PLACES;
 
-// A job in Blanking with nothing passed, waiting or counted.
+// A job in Blanking, its way forward, with nothing passed, waiting, loaded, swept or counted.
 fn new_job(kind: u8, n: u8, wanted: [i8; PLACES], groups: u32, size: u32, room: u32) -> Job
     ensures { λ r. ⌜ r ≡ begun kind n wanted groups size room ⌝ }
 {
@@ -21,8 +23,11 @@ fn new_job(kind: u8, n: u8, wanted: [i8; PLACES], groups: u32, size: u32, room: 
         size,
         room,
         phase: Phase::Blanking,
+        way: Way::Forward,
+        loaded: NO_SEGMENT,
         passed: [0u32; SEGMENT_LIMIT],
         waiting: [0u32; SEGMENT_LIMIT],
+        swept: [0u64; SEGMENT_LIMIT],
         counts: [0u64; COUNT_PLACES],
     }
 }

@@ -1,21 +1,24 @@
 // Whether a job is coherent, decided by Begin's own refusals and by its numbers.
 ghost use mathlib.Core.Bool.{true, _&&_, cond};
 ghost use mathlib.Core.Path.{_≡_};
-ghost use Prim.Native.Nat.{_/_, _≤_, _<_};
+ghost use Prim.Native.Nat.{_/_, _^_, _≤_, _<_};
 ghost use lib.Dec.{leb, ltb};
 ghost use lib.ListN.{length};
 ghost use Rattle.base.specs.Words.{all, from};
 ghost use Rattle.stacks.specs.Stack.{isPaneCount, stackCount};
 ghost use Rattle.search.specs.JobState.{beginRefusal, countPlaces, countLimit, countFits, isCoherent};
 ghost use Rattle.search.specs.Segments.{segmentLimit, segmentCount, stackCountIn, isSegmentSize};
-ghost use Rattle.job.specs.Numbers.{numbersFit};
+ghost use Rattle.search.specs.declared.Way.{Way};
+ghost use Rattle.job.specs.Numbers.{numbersFit, loadFits, rowsFit};
 ghost use Rattle.job.specs.Standing.{jobWith};
+use crate::geometry;
 use crate::phase;
 use perm::groups;
 use perm::kind;
 use perm::operations;
 use search::COUNT_LIMIT;
 use search::COUNT_PLACES;
+use search::NO_SEGMENT;
 use search::Phase;
 use search::SEGMENT_LIMIT;
 use stacks::PLACES;
@@ -137,7 +140,46 @@ fn counts_fit(counts: &[u64; COUNT_PLACES]) -> bool
     each_count_fits(counts)
 }
 
-// Whether the job with these fields is coherent. Its arrays are lent, so that none is copied.
+// None is loaded, or a segment below G.
+fn loaded_fits(loaded: u8, segments: u32) -> bool
+    ensures { λ r. ⌜ r ≡ loadFits segments loaded ⌝ }
+{
+    if loaded == NO_SEGMENT {
+        return true;
+    }
+    (loaded as u32) < segments
+}
+
+// The number of segment b has only its lowest G bits, and none from segment G up. A number has no bit from 64 up, and no shift goes so far.
+fn row_fits(segments: u32, b: u32, row: u64) -> bool
+    requires { ⌜ segments ≤ segmentLimit ⌝ }
+    ensures { λ r. ⌜ r ≡ ltb row (cond (ltb b segments) (2 ^ segments) 1) ⌝ }
+{
+    if segments <= b {
+        return row == 0;
+    }
+    if SEGMENT_LIMIT <= segments as usize {
+        return true;
+    }
+    row >> segments == 0
+}
+
+// The numbers of swept pairs, of the segments from G up too.
+fn sweeps_fit(segments: u32, swept: &[u64; SEGMENT_LIMIT]) -> bool
+    requires { ⌜ segments ≤ segmentLimit ⌝ }
+    ensures { λ r. ⌜ r ≡ rowsFit segments (now (swept .entry)) ⌝ }
+{
+    let mut b: usize = 0;
+    while b < SEGMENT_LIMIT {
+        if !row_fits(segments, b as u32, swept[b]) {
+            return false;
+        }
+        b += 1;
+    }
+    true
+}
+
+// Whether the job with these fields is coherent, whatever its way. Its arrays are lent, so that none is copied.
 pub fn is_coherent<'a>(
     kind: u8,
     n: u8,
@@ -146,12 +188,14 @@ pub fn is_coherent<'a>(
     size: u32,
     room: u32,
     phase: Phase,
+    loaded: u8,
     passed: &'a [u32; SEGMENT_LIMIT],
     waiting: &'a [u32; SEGMENT_LIMIT],
+    swept: &'a [u64; SEGMENT_LIMIT],
     counts: &'a [u64; COUNT_PLACES],
 ) -> bool
     requires { ⌜ length (now counts) ≡ countPlaces ⌝ }
-    ensures { λ r. ⌜ r ≡ isCoherent (jobWith kind n wanted groups size room phase (now (passed .entry)) (now (waiting .entry)) (now (counts .entry))) ⌝ }
+    ensures { λ r. ⌜ ((way : Way) → r ≡ isCoherent (jobWith kind n wanted groups size room phase way loaded (now (passed .entry)) (now (waiting .entry)) (now (swept .entry)) (now (counts .entry)))) ⌝ }
 {
     if begin_refusal(kind, n, wanted, groups, size, room) != 0 {
         return false;
@@ -162,5 +206,12 @@ pub fn is_coherent<'a>(
     if !segments_fit(kind, n, size, room, passed, waiting) {
         return false;
     }
-    counts_fit(counts)
+    if !counts_fit(counts) {
+        return false;
+    }
+    let segments = geometry::segment_count_of(kind, n, size);
+    if !loaded_fits(loaded, segments) {
+        return false;
+    }
+    sweeps_fit(segments, swept)
 }

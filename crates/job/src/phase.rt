@@ -1,10 +1,11 @@
-// What a phase is and carries.
-ghost use mathlib.Core.Bool.{_&&_};
+// What a phase is and carries, and the way that a level is searched.
+ghost use mathlib.Core.Bool.{not, _&&_};
 ghost use mathlib.Core.Path.{_≡_};
 ghost use lib.Dec.{leb};
-ghost use Rattle.search.specs.JobState.{isBlanking, isLevel, isFinished, levelOf, phaseFits, lastLevel};
+ghost use Rattle.search.specs.JobState.{isBlanking, isLevel, isFinished, isReverse, levelOf, phaseFits, lastLevel};
 use search::LAST_LEVEL;
 use search::Phase;
+use search::Way;
 
 pub fn is_blanking(phase: Phase) -> bool
     ensures { λ r. ⌜ r ≡ isBlanking phase ⌝ }
@@ -16,7 +17,7 @@ pub fn is_blanking(phase: Phase) -> bool
     }
 }
 
-pub(crate) fn is_level(phase: Phase) -> bool
+fn is_level(phase: Phase) -> bool
     ensures { λ r. ⌜ r ≡ isLevel phase ⌝ }
 {
     match phase {
@@ -34,6 +35,35 @@ pub fn is_finished(phase: Phase) -> bool
         Phase::Level(_) => false,
         Phase::Finished(_) => true,
     }
+}
+
+pub fn is_reverse(way: Way) -> bool
+    ensures { λ r. ⌜ r ≡ isReverse way ⌝ }
+{
+    match way {
+        Way::Forward => false,
+        Way::Reverse => true,
+    }
+}
+
+// A level that is searched forward.
+pub(crate) fn in_forward(phase: Phase, way: Way) -> bool
+    ensures { λ r. ⌜ r ≡ (isLevel phase && not (isReverse way)) ⌝ }
+{
+    if !is_level(phase) {
+        return false;
+    }
+    !is_reverse(way)
+}
+
+// A level that is searched reverse.
+pub fn in_reverse(phase: Phase, way: Way) -> bool
+    ensures { λ r. ⌜ r ≡ (isLevel phase && isReverse way) ⌝ }
+{
+    if !is_level(phase) {
+        return false;
+    }
+    is_reverse(way)
 }
 
 // The level that a phase carries, 0 in Blanking.

@@ -41,13 +41,14 @@ pub fn segment_refusal(standing: Standing, in_phase: bool, j: u32, bytes: usize)
     0
 }
 
-// Those of a call of a level, then 10 for the log area.
+// Those of a call of a forward level, then 10 for the log area.
 pub fn level_refusal(standing: Standing, j: u32, bytes: usize, words: usize) -> u8
     requires { ⌜ Stands standing j ⌝ }
     ensures { λ r. ⌜ Tells standing j (λ job. levelRefusal job j bytes words 0) r ⌝ }
 {
     let phase = standing.phase;
-    let in_level = phase::is_level(phase);
+    let way = standing.way;
+    let in_level = phase::in_forward(phase, way);
     let refusal = segment_refusal(standing, in_level, j, bytes);
     if refusal != 0 {
         return refusal;

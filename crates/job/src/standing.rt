@@ -8,9 +8,11 @@ use crate::coherence;
 use search::COUNT_PLACES;
 use search::Phase;
 use search::SEGMENT_LIMIT;
+use search::Way;
 use stacks::PLACES;
 
-// Of a call on segment j: whether the job is coherent, its small fields, and what is passed and waiting in that segment.
+// Of a call on segment j: whether the job is coherent, its small fields, what is passed and waiting in that segment, and the segments that are
+// swept against the loaded one, as bits.
 pub struct Standing {
     pub coherent: bool,
     pub kind: u8,
@@ -18,8 +20,11 @@ pub struct Standing {
     pub size: u32,
     pub room: u32,
     pub phase: Phase,
+    pub way: Way,
+    pub loaded: u8,
     pub passed: u32,
     pub waiting: u32,
+    pub swept: u64,
 }
 
 // The number of segment j, 0 where no array has a place for it.
@@ -34,6 +39,18 @@ fn number_at(numbers: &[u32; SEGMENT_LIMIT], j: u32) -> u32
     numbers[at]
 }
 
+// The number of the loaded segment, 0 where none is loaded.
+fn row_at(rows: &[u64; SEGMENT_LIMIT], loaded: u8) -> u64
+    requires { ⌜ length (now rows) ≡ segmentLimit ⌝ }
+    ensures { λ r. ⌜ r ≡ getD (now (rows .entry)) loaded 0 ⌝ }
+{
+    let at = loaded as usize;
+    if SEGMENT_LIMIT <= at {
+        return 0;
+    }
+    rows[at]
+}
+
 // The standing of the job with these fields. Its arrays are lent, so that the job is not copied.
 pub fn standing_of<'a>(
     kind: u8,
@@ -43,13 +60,16 @@ pub fn standing_of<'a>(
     size: u32,
     room: u32,
     phase: Phase,
+    way: Way,
+    loaded: u8,
     passed: &'a [u32; SEGMENT_LIMIT],
     waiting: &'a [u32; SEGMENT_LIMIT],
+    swept: &'a [u64; SEGMENT_LIMIT],
     counts: &'a [u64; COUNT_PLACES],
     j: u32,
 ) -> Standing
-    requires { ⌜ (length (now passed) ≡ segmentLimit) × (length (now waiting) ≡ segmentLimit) × (length (now counts) ≡ countPlaces) ⌝ }
-    ensures { λ r. ⌜ r ≡ standingOf (jobWith kind n wanted groups size room phase (now (passed .entry)) (now (waiting .entry)) (now (counts .entry))) j ⌝ }
+    requires { ⌜ (length (now passed) ≡ segmentLimit) × (length (now waiting) ≡ segmentLimit) × (length (now swept) ≡ segmentLimit) × (length (now counts) ≡ countPlaces) ⌝ }
+    ensures { λ r. ⌜ r ≡ standingOf (jobWith kind n wanted groups size room phase way loaded (now (passed .entry)) (now (waiting .entry)) (now (swept .entry)) (now (counts .entry))) j ⌝ }
 {
     let coherent = coherence::is_coherent(
         kind,
@@ -59,8 +79,10 @@ pub fn standing_of<'a>(
         size,
         room,
         phase,
+        loaded,
         passed,
         waiting,
+        swept,
         counts,
     );
     Standing {
@@ -70,7 +92,10 @@ pub fn standing_of<'a>(
         size,
         room,
         phase,
+        way,
+        loaded,
         passed: number_at(passed, j),
         waiting: number_at(waiting, j),
+        swept: row_at(swept, loaded),
     }
 }

@@ -12,13 +12,13 @@ use lib.Pow.{pow-pos}
 use lib.Seq.{drop-cons, take-suc, getD-take, length-take-le}
 use lib.Signed.{nonNeg}
 use borrow.Author.Tests.{leb-true, eqb-true, ne-eqb}
-use Rattle.base.specs.Words.{all, tally}
+use Rattle.base.specs.Words.{all, tally, bit}
+use Rattle.base.proofs.Bits.{put-lt}
 use Rattle.base.proofs.Counting.{tally-false}
 use Rattle.base.proofs.Tests.{and-left, and-right, and-fails-left}
 use Rattle.stacks.specs.Index.{coat}
 use Rattle.stacks.specs.Stack.{orderOf, eachOnce}
-use Rattle.perm.specs.Set.{bit}
-use Rattle.perm.proofs.Sets.{Holds, holds-none, holds-put, put-lt}
+use Rattle.perm.proofs.Sets.{Holds, holds-none, holds-put}
 
 pub order-length : (n : ℕ) (s : List ℤ) → n ≤ length s → length (orderOf n s) ≡ n
 unfolding orderOf

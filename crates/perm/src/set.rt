@@ -4,7 +4,8 @@ ghost use mathlib.Core.Path.{_≡_};
 ghost use Prim.Native.Nat.{_-_, _%_, _^_, _≤_, _<_};
 ghost use lib.Count.{ones};
 ghost use lib.Dec.{leb, eqb};
-ghost use Rattle.perm.specs.Set.{bit, NthOne};
+ghost use Rattle.base.specs.Words.{bit};
+ghost use Rattle.perm.specs.Set.{NthOne};
 ghost use Rattle.stacks.specs.Stack.{stackPlaces};
 
 // How many panes of a set have a number of at most x. The one place that counts ones.

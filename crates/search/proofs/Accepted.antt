@@ -8,18 +8,43 @@ use lib.Dec.{ltb, eqb}
 use lib.ListN.{length, set}
 use borrow.Author.Tests.{ltb-true, lt-ltb, eqb-true, eq-eqb, ne-eqb, not-true}
 use Rattle.base.specs.Words.{unless, all}
-use Rattle.base.proofs.Tests.{unless-zero, and-both, never, eq-or-ne}
+use Rattle.base.proofs.Tests.{unless-zero, and-left, and-right, and-both, never, eq-or-ne}
 use Rattle.search.specs.Blank.{blankRefusal, blanked, blankOf}
 use Rattle.search.specs.Close.{isReady, isPastLast, closeRefusal, closed, closeOf}
 use Rattle.search.specs.Entries.{bytesFor}
 use Rattle.search.specs.Expand.{expandRefusal, expansion, expandedJob, expandOf}
-use Rattle.search.specs.JobState.{lastLevel, isCoherent, isBlanking, isLevel, isFinished, levelOf, segmentCountOf, stackCountAt, logLength, passedOf, countOf, progressed}
+use Rattle.search.specs.JobState.{lastLevel, isCoherent, isBlanking, isLevel, isReverse, inForward, inReverse, isFinished, levelOf, segmentCountOf, stackCountAt, logLength, passedOf, countOf, isLoaded, isSwept, progressed, directed}
 use Rattle.search.specs.Look.{lookRefusal}
+use Rattle.search.specs.Changed.{listBytes}
+use Rattle.search.specs.Load.{loadRefusal, changedOf, loadOf}
 use Rattle.search.specs.Settle.{settleRefusal, settleOf}
+use Rattle.search.specs.Sweep.{sweepRefusal, reachedIn, withPair, sweepOf}
 use Rattle.search.specs.Refusals.{callRefusal, segmentRefusal, levelRefusal}
 use Rattle.search.specs.Logs.{indexesOf, pending}
 use Rattle.search.specs.Marks.{markAll, marksFrom, markedJob}
 use Rattle.search.specs.declared.Job.{Job}
+use Rattle.search.specs.declared.Way.{Way}
+
+-- a forward level and a reverse one, by the phase and the way
+module _ (job : Job) where
+  pub forward-level : inForward job ≡ true → (isLevel (job .phase) ≡ true) × (isReverse (job .way) ≡ false)
+  unfolding inForward
+  forward-level h = (
+    and-left (isLevel (job .phase)) (not (isReverse (job .way))) h,
+    not-true (isReverse (job .way)) (and-right (isLevel (job .phase)) (not (isReverse (job .way))) h),
+  )
+
+  pub level-forward : isLevel (job .phase) ≡ true → isReverse (job .way) ≡ false → inForward job ≡ true
+  unfolding inForward
+  level-forward l f = rw (l, f)
+
+  pub reverse-level : inReverse job ≡ true → (isLevel (job .phase) ≡ true) × (isReverse (job .way) ≡ true)
+  unfolding inReverse
+  reverse-level h = (and-left (isLevel (job .phase)) (isReverse (job .way)) h, and-right (isLevel (job .phase)) (isReverse (job .way)) h)
+
+  pub level-reverse : isLevel (job .phase) ≡ true → isReverse (job .way) ≡ true → inReverse job ≡ true
+  unfolding inReverse
+  level-reverse l r = rw (l, r)
 
 -- what the calls on a segment try first
 pub record CallFacts (inPhase : Bool) (job : Job) (j : ℕ) : Type 0 where
@@ -82,7 +107,7 @@ module _ (job : Job) (j bytes : ℕ) where
 
 -- what Expand and Settle try first
 pub record LevelFacts (job : Job) (j bytes words : ℕ) : Type 0 where
-  pub called : CallFacts (isLevel (job .phase)) job j
+  pub called : CallFacts (inForward job) job j
   pub long : bytes ≡ bytesFor (stackCountAt job j)
   pub wide : words ≡ logLength job
 
@@ -90,14 +115,14 @@ module _ (job : Job) (j bytes words : ℕ) where
   pub level-facts : (rest : ℕ) → levelRefusal job j bytes words rest ≡ 0 → LevelFacts job j bytes words × (rest ≡ 0)
   unfolding levelRefusal
   level-facts rest h =
-      let a = segment-facts (isLevel (job .phase)) job j bytes (unless (eqb words (logLength job)) 10 rest) h in
+      let a = segment-facts (inForward job) job j bytes (unless (eqb words (logLength job)) 10 rest) h in
       let b = unless-zero (eqb words (logLength job)) 9 rest (a .2) in
       (record { called = a .0; long = a .1; wide = eqb-true words (logLength job) (b .0) }, b .1)
 
   pub facts-level : (rest : ℕ) → LevelFacts job j bytes words → rest ≡ 0 → levelRefusal job j bytes words rest ≡ 0
   unfolding levelRefusal
   facts-level rest f h =
-      segment-goes-on (isLevel (job .phase)) job j bytes (unless (eqb words (logLength job)) 10 rest) (f .called) (f .long)
+      segment-goes-on (inForward job) job j bytes (unless (eqb words (logLength job)) 10 rest) (f .called) (f .long)
       ∙ ap (λ (t : Bool). unless t 10 rest) (eq-eqb words (logLength job) (f .wide))
       ∙ h
 
@@ -133,6 +158,63 @@ unfolding lookRefusal
 look-facts job j words h =
     let a = call-facts true job j (unless (eqb words (logLength job)) 10 0) h in
     (a .0, eqb-true words (logLength job) (unless-zero (eqb words (logLength job)) 9 0 (a .1) .0))
+
+-- what Load tries
+pub record LoadFacts (job : Job) (b bytes listed : ℕ) : Type 0 where
+  pub called : CallFacts (inReverse job) job b
+  pub long : bytes ≡ bytesFor (stackCountAt job b)
+  pub wide : listed ≡ listBytes (stackCountAt job b)
+
+module _ (job : Job) (b bytes listed : ℕ) where
+  pub load-facts : loadRefusal job b bytes listed ≡ 0 → LoadFacts job b bytes listed
+  unfolding loadRefusal
+  load-facts h =
+      let fits : Bool = eqb listed (listBytes (stackCountAt job b)) in
+      let a = segment-facts (inReverse job) job b bytes (unless fits 10 0) h in
+      record { called = a .0; long = a .1; wide = eqb-true listed (listBytes (stackCountAt job b)) (unless-zero fits 9 0 (a .2) .0) }
+
+  pub facts-load : LoadFacts job b bytes listed → loadRefusal job b bytes listed ≡ 0
+  unfolding loadRefusal
+  facts-load f =
+      segment-goes-on (inReverse job) job b bytes (unless (eqb listed (listBytes (stackCountAt job b))) 10 0) (f .called) (f .long)
+      ∙ ap (λ (t : Bool). unless t 10 0) (eq-eqb listed (listBytes (stackCountAt job b)) (f .wide))
+
+-- what Sweep tries
+pub record SweepFacts (job : Job) (j bytes listed : ℕ) : Type 0 where
+  pub called : CallFacts (inReverse job) job j
+  pub loaded : isLoaded job ≡ true
+  pub long : bytes ≡ bytesFor (stackCountAt job j)
+  pub wide : listed ≡ listBytes (stackCountAt job (job .loaded))
+  pub left : isSwept job (job .loaded) j ≡ false
+
+module _ (job : Job) (j bytes listed : ℕ) where
+  pub sweep-facts : sweepRefusal job j bytes listed ≡ 0 → SweepFacts job j bytes listed
+  unfolding sweepRefusal
+  sweep-facts h =
+      let long : Bool = eqb bytes (bytesFor (stackCountAt job j)) in
+      let wide : Bool = eqb listed (listBytes (stackCountAt job (job .loaded))) in
+      let left : Bool = not (isSwept job (job .loaded) j) in
+      let a = call-facts (inReverse job) job j (unless (isLoaded job) 22 (unless long 10 (unless wide 10 (unless left 11 0)))) h in
+      let b = unless-zero (isLoaded job) 21 (unless long 10 (unless wide 10 (unless left 11 0))) (a .1) in
+      let c = unless-zero long 9 (unless wide 10 (unless left 11 0)) (b .1) in
+      let d = unless-zero wide 9 (unless left 11 0) (c .1) in
+      record {
+        called = a .0;
+        loaded = b .0;
+        long = eqb-true bytes (bytesFor (stackCountAt job j)) (c .0);
+        wide = eqb-true listed (listBytes (stackCountAt job (job .loaded))) (d .0);
+        left = not-true (isSwept job (job .loaded) j) (unless-zero left 10 0 (d .1) .0);
+      }
+
+  pub facts-sweep : SweepFacts job j bytes listed → sweepRefusal job j bytes listed ≡ 0
+  unfolding sweepRefusal
+  facts-sweep f =
+      let m = listBytes (stackCountAt job (job .loaded)) in
+      call-goes-on (inReverse job) job j
+      (unless (isLoaded job) 22
+      (unless (eqb bytes (bytesFor (stackCountAt job j))) 10 (unless (eqb listed m) 10 (unless (not (isSwept job (job .loaded) j)) 11 0))))
+      (f .called)
+      ∙ rw (f .loaded, eq-eqb bytes (bytesFor (stackCountAt job j)) (f .long), eq-eqb listed m (f .wide), f .left)
 
 pub record CloseFacts (job : Job) : Type 0 where
   pub coherent : isCoherent job ≡ true
@@ -264,11 +346,56 @@ module _ (job : Job) (j : ℕ) (segment : List ℕ) where
     settle-phase =
         either-way (λ o. o .1 .job .phase) (job .phase) (settleRefusal job j (length segment) log) settle-accepted settle-refused (λ e. refl) refl
 
-module _ (job : Job) where
-  pub close-accepted : closeRefusal job ≡ 0 → closeOf job ≡ record { refusal = 0; job = closed job }
+module _ (job : Job) (b : ℕ) (segment list : List ℕ) where
+  pub load-accepted : loadRefusal job b (length segment) (length list) ≡ 0
+      → loadOf job b segment list ≡ (changedOf job b segment, record { refusal = 0; job = directed job (job .way) b (job .swept) })
+  unfolding loadOf
+  load-accepted h = rw (eq-eqb (loadRefusal job b (length segment) (length list)) 0 h)
+
+  pub load-refused : (loadRefusal job b (length segment) (length list) ≡ 0 → ⊥)
+      → loadOf job b segment list ≡ (list, record { refusal = loadRefusal job b (length segment) (length list); job = job })
+  unfolding loadOf
+  load-refused h = rw (ne-eqb (loadRefusal job b (length segment) (length list)) 0 h)
+
+  pub load-refusal : loadOf job b segment list .1 .refusal ≡ loadRefusal job b (length segment) (length list)
+  load-refusal = names-refusal (λ o. o .1 .refusal) (loadRefusal job b (length segment) (length list)) load-accepted load-refused refl refl
+
+  pub load-phase : loadOf job b segment list .1 .job .phase ≡ job .phase
+  unfolding directed
+  load-phase =
+      either-way (λ o. o .1 .job .phase) (job .phase) (loadRefusal job b (length segment) (length list)) load-accepted load-refused (λ e. refl) refl
+
+module _ (job : Job) (j : ℕ) (segment list : List ℕ) where
+  pub sweep-accepted : sweepRefusal job j (length segment) (length list) ≡ 0
+      → (let marks = markAll (job .size) (levelOf (job .phase)) (indexesOf (job .size) j (reachedIn job j list)) (marksFrom job segment) in
+      sweepOf job j segment list ≡ (
+        marks .segment,
+        record {
+          refusal = 0;
+          job = directed (markedJob job (job .passed) (job .waiting) marks) (job .way) (job .loaded) (withPair job j);
+        },
+      ))
+  unfolding sweepOf
+  sweep-accepted h = rw (eq-eqb (sweepRefusal job j (length segment) (length list)) 0 h)
+
+  pub sweep-refused : (sweepRefusal job j (length segment) (length list) ≡ 0 → ⊥)
+      → sweepOf job j segment list ≡ (segment, record { refusal = sweepRefusal job j (length segment) (length list); job = job })
+  unfolding sweepOf
+  sweep-refused h = rw (ne-eqb (sweepRefusal job j (length segment) (length list)) 0 h)
+
+  pub sweep-refusal : sweepOf job j segment list .1 .refusal ≡ sweepRefusal job j (length segment) (length list)
+  sweep-refusal = names-refusal (λ o. o .1 .refusal) (sweepRefusal job j (length segment) (length list)) sweep-accepted sweep-refused refl refl
+
+  pub sweep-phase : sweepOf job j segment list .1 .job .phase ≡ job .phase
+  unfolding directed progressed
+  sweep-phase =
+      either-way (λ o. o .1 .job .phase) (job .phase) (sweepRefusal job j (length segment) (length list)) sweep-accepted sweep-refused (λ e. refl) refl
+
+module _ (job : Job) (way : Way) where
+  pub close-accepted : closeRefusal job ≡ 0 → closeOf job way ≡ record { refusal = 0; job = closed job way }
   unfolding closeOf
   close-accepted h = rw h
 
-  pub close-refused : (closeRefusal job ≡ 0 → ⊥) → closeOf job ≡ record { refusal = closeRefusal job; job = job }
+  pub close-refused : (closeRefusal job ≡ 0 → ⊥) → closeOf job way ≡ record { refusal = closeRefusal job; job = job }
   unfolding closeOf
   close-refused h = rw (ne-eqb (closeRefusal job) 0 h)

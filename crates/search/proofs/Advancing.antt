@@ -7,30 +7,36 @@ use Prim.Native.Nat.{ℕ, suc, _+_, _-_, _*_, _≤_, _<_}
 use native.Mathlib.Nat.{suc-mul, mul-le-mul-right}
 use native.Mathlib.Omega.{arith}
 use lib.Dec.{ltb, eqb}
-use lib.ListN.{length, getD, set}
+use lib.ListN.{length, getD, set, replicate, length-replicate}
 use lib.Seq.{getD-set-same, getD-set-other}
-use borrow.Author.Tests.{eqb-true, ltb-true, ltb-false, lt-ltb, eq-eqb, ne-eqb}
+use borrow.Author.Tests.{eqb-true, ltb-true, ltb-false, lt-ltb, eq-eqb, ne-eqb, not-true, not-false}
 use Rattle.base.specs.Words.{all, tally, from}
-use Rattle.base.proofs.Counting.{at-all, below-all}
-use Rattle.base.proofs.Tests.{and-left, and-both, test-cases, not-is-false, never, lt-or-ge, eq-or-ne}
+use Rattle.base.proofs.Counting.{at-all, all-below, below-all}
+use Rattle.base.proofs.Tests.{and-left, and-both, or-right, test-cases, not-is-false, never, lt-or-ge, eq-or-ne}
 use Rattle.graph.proofs.Tally.{tally-some, tally-zero}
 use Rattle.stacks.specs.Stack.{stackPlaces}
 use Rattle.search.specs.Blank.{blankRefusal}
-use Rattle.search.specs.Build.{World, Call, CarriesOn, own, doBlank, doExpand, doSettle, doClose, lent, kept, isOwn, isLentOwn, outcome, passes, empties, changes}
-use Rattle.search.specs.Close.{isDone, isReady, isPastLast, closeRefusal, nextPhase, closed}
+use Rattle.search.specs.Build.{World, Call, CarriesOn, own, ownList, doBlank, doExpand, doSettle, doLoad, doSweep, doClose, lent, kept, lentList, isOwn, isLentOwn, isLoadDue, outcome, passes, empties, sweeps, loads, changes}
+use Rattle.search.specs.Close.{isDone, isSweptWhole, isReady, isPastLast, closeRefusal, nextPhase, closed}
 use Rattle.search.specs.Drive.{hasEnded}
 use Rattle.search.specs.Entries.{bytesFor}
 use Rattle.search.specs.Expand.{childrenOf, expandRefusal, expansion, expandedJob, expandOf}
-use Rattle.search.specs.JobState.{isCoherent, isBlanking, isLevel, isFinished, levelOf, lastLevel, segmentCountOf, stackCountAt, movesOf, passedOf, waitingOf, countOf, progressed}
+use Rattle.search.specs.JobState.{isCoherent, isBlanking, isLevel, isFinished, isReverse, inReverse, levelOf, lastLevel, noSegment, stackCountOf, segmentCountOf, stackCountAt, movesOf, passedOf, waitingOf, countOf, isLoaded, isSwept, sweptOf, progressed, directed}
 use Rattle.search.specs.Promise.{Continues}
 use Rattle.search.specs.Settle.{settleRefusal, settleOf}
-use Rattle.search.specs.Logs.{logPart, pending}
+use Rattle.search.specs.Changed.{listBytes}
+use Rattle.search.specs.Load.{loadRefusal}
+use Rattle.search.specs.Logs.{logPart, indexesOf, pending}
+use Rattle.search.specs.Marks.{markAll, marksFrom, markedJob}
+use Rattle.search.specs.Sweep.{reachedIn, withPair, sweepRefusal, sweepOf}
 use Rattle.search.specs.declared.Answer.{Answer}
 use Rattle.search.specs.declared.Expanded.{Expanded}
 use Rattle.search.specs.declared.Job.{Job}
 use Rattle.search.specs.declared.Phase.{Phase}
 use Rattle.search.specs.declared.Phase.the-variants.{Blanking, Level, Finished}
-use Rattle.search.proofs.Accepted.{LevelFacts, facts-blank, facts-expand, facts-settle, facts-close, expand-accepted, settle-accepted}
+use Rattle.search.specs.declared.Way.{Way}
+use Rattle.search.specs.declared.Way.the-variants.{Forward}
+use Rattle.search.proofs.Accepted.{reverse-level, level-forward, level-reverse, CallFacts, LevelFacts, facts-blank, facts-expand, facts-settle, facts-load, facts-sweep, facts-close, expand-accepted, settle-accepted, sweep-accepted}
 use Rattle.search.proofs.BlankKeeps.{blankedWorld, blank-world, passed-here, passed-elsewhere}
 use Rattle.search.proofs.BuildCoherent.{invariant-coherent}
 use Rattle.search.proofs.Children.{children-length}
@@ -39,10 +45,12 @@ use Rattle.search.proofs.Coherence.{coherent-facts}
 use Rattle.search.proofs.ExpandCases.{room-lacks, falling-le}
 use Rattle.search.proofs.ExpandLaws.{MustWait, expand-passes, expand-waits}
 use Rattle.search.proofs.Invariant.{Blanks, Searches, Invariant, InPhase, blanking, searching, ended}
+use Rattle.search.proofs.LoadKeeps.{loadedWorld, load-world}
+use Rattle.search.proofs.PairLaws.{pair-new, pair-keeps}
 use Rattle.search.proofs.Refused.{refusalOf, refusal-is}
 use Rattle.search.proofs.SegmentLaws.{log-room-facts, log-length, log-at}
-use Rattle.search.proofs.Shapes.{room-is, segments-is, stacks-is, area-is}
-use Rattle.search.proofs.WorkLeft.{levelsLeft, workLeft, levels-work, stacks-work, logs-work, stacks-fall, stacks-stay, logs-fall}
+use Rattle.search.proofs.Shapes.{room-is, segments-is, stacks-is, area-is, loaded-low}
+use Rattle.search.proofs.WorkLeft.{levelsLeft, workLeft, levels-work, stacks-work, logs-work, pairs-work, load-work, stacks-fall, stacks-stay, logs-fall, pairs-fall}
 use Rattle.search.proofs.Terms.{Terms, Given, N, G, m, moves, lengthsOf, laws, some, few}
 
 -- some number below n passes a test, or none does
@@ -96,7 +104,7 @@ module _ (job : Job) where
     on-14 h = never (refused-ended h) on
 
   -- a ready job past the last level is refused 14
-  close-14 : isCoherent job ≡ true → isFinished (job .phase) ≡ false → isReady job ≡ true → isPastLast job ≡ true → closeRefusal job ≡ 14
+  pub close-14 : isCoherent job ≡ true → isFinished (job .phase) ≡ false → isReady job ≡ true → isPastLast job ≡ true → closeRefusal job ≡ 14
   unfolding closeRefusal
   close-14 coherent unfinished ready past = rw (coherent, unfinished, ready, past)
 
@@ -134,9 +142,9 @@ module _ {terms : Terms} (given : Given terms) {w : World} (invariant : Invarian
 
   -- ---- Close
 
-  module _ (ready : isReady (w .job) ≡ true) (on : hasEnded (w .job) ≡ false) (low : levelOf (w .job .phase) ≤ lastLevel) where
-    pub close-nearer : levelsLeft (closedWorld w .job .phase) < levelsLeft (w .job .phase)
-    unfolding closedWorld closed progressed
+  module _ (way : Way) (ready : isReady (w .job) ≡ true) (on : hasEnded (w .job) ≡ false) (low : levelOf (w .job .phase) ≤ lastLevel) where
+    pub close-nearer : levelsLeft (closedWorld w way .job .phase) < levelsLeft (w .job .phase)
+    unfolding closedWorld closed progressed directed
     close-nearer = next-nearer (w .job .counts) (w .job .phase) (on-unfinished (w .job) on) low
 
     pub close-accepts : closeRefusal (w .job) ≡ 0
@@ -157,16 +165,17 @@ module _ {terms : Terms} (given : Given terms) {w : World} (invariant : Invarian
     unfoldable pub close-advances : Advances
     unfolding outcome isLentOwn refusalOf
     close-advances =
-        advances doClose refl close-accepts (closedWorld w) (close-world w close-accepts)
+        advances (doClose way) refl close-accepts (closedWorld w way) (close-world w way close-accepts)
         (changes (λ e. omega (arith, close-nearer, ap levelsLeft e)))
-        (levels-work (N terms) (terms .S) (w .job) (closedWorld w .job) close-nearer)
+        (levels-work (N terms) (terms .S) (w .job) (closedWorld w way .job) close-nearer)
 
-  -- segments with all passed and nothing waiting are ready to close
-  pub all-ready : ((j : ℕ) → j < G terms → m terms j ≤ passedOf (w .job) j)
+  -- segments with all passed and nothing waiting are ready to close, but in a reverse level
+  pub all-ready : inReverse (w .job) ≡ false → ((j : ℕ) → j < G terms → m terms j ≤ passedOf (w .job) j)
       → ((j : ℕ) → j < G terms → waitingOf (w .job) j ≡ 0) → isReady (w .job) ≡ true
   unfolding isReady isDone
-  all-ready passed none =
-      below-all (isDone (w .job)) (segmentCountOf (w .job)) (λ j h. done j (rw (segments-is (invariant .shaped)) at h))
+  all-ready forward passed none =
+      ap (λ (t : Bool). all (cond t (isSweptWhole (w .job)) (isDone (w .job))) (from 0 (segmentCountOf (w .job)))) forward
+      ∙ below-all (isDone (w .job)) (segmentCountOf (w .job)) (λ j h. done j (rw (segments-is (invariant .shaped)) at h))
     where
       done : (j : ℕ) → j < G terms → isDone (w .job) j ≡ true
       done j h =
@@ -183,11 +192,15 @@ module _ {terms : Terms} (given : Given terms) {w : World} (invariant : Invarian
   -- ---- in Blanking
 
   module _ (blanks : Blanks terms w) where
+    pub blanks-forward : inReverse (w .job) ≡ false
+    unfolding inReverse isLevel
+    blanks-forward = rw (blanks .phase-is)
+
     unfoldable pub blank-advances : (j : ℕ) → j < G terms → passedOf (w .job) j < m terms j → Advances
-    unfolding outcome isLentOwn isOwn refusalOf lent kept isBlanking blankedWorld progressed
+    unfolding outcome isLentOwn isOwn refusalOf lent kept isBlanking blankedWorld progressed inReverse
     blank-advances j h left =
         advances (doBlank j own) refl accepts (blankedWorld w j) (blank-world w j accepts) (passes j (rw here left))
-        (stacks-work (N terms) (terms .S) (w .job) (blankedWorld w j .job) refl
+        (stacks-work (N terms) (terms .S) (w .job) (blankedWorld w j .job) blanks-forward blanks-forward refl
         (stacks-fall (N terms) (terms .S) (w .job) (blankedWorld w j .job) (some given) j left (rw here left) (λ i. each i (eq-or-ne i j))))
       where
         accepts : blankRefusal (w .job) j (length (getD (w .segments) j [])) ≡ 0
@@ -220,23 +233,27 @@ module _ {terms : Terms} (given : Given terms) {w : World} (invariant : Invarian
             → Advances
         go (inl r) = blank-advances (r .0) (r .1) (ltb-true (passedOf (w .job) (r .0)) (m terms (r .0)) (r .2))
         go (inr none) =
-            close-advances
+            close-advances Forward
             (all-ready
+            blanks-forward
             (λ j h. ltb-false (passedOf (w .job) j) (m terms j) (none j h))
             (λ j h. blanks .none-waits j))
             on
             (omega (arith, ap levelOf (blanks .phase-is)))
 
-  -- ---- in a level
+  -- ---- in a forward level
 
-  module _ {d : ℕ} (search : Searches terms w d) where
+  module _ {d : ℕ} (search : Searches terms w d) (forward : isReverse (w .job .way) ≡ false) where
+    pub search-forward : inReverse (w .job) ≡ false
+    search-forward = not-is-false (inReverse (w .job)) (λ r. never (reverse-level (w .job) r .1) forward)
+
     facts-of : (j : ℕ) → j < G terms → LevelFacts (w .job) j (length (getD (w .segments) j [])) (length (w .log))
     unfolding isLevel
     facts-of j h =
         record {
           called = record {
             coherent = invariant-coherent given invariant;
-            in-phase = ap isLevel (search .phase-is);
+            in-phase = level-forward (w .job) (ap isLevel (search .phase-is)) forward;
             inside = rw (segments-is (invariant .shaped)) h;
           };
           long = invariant .shaped .segment-bytes j h ∙ ap bytesFor (sym (stacks-is (invariant .shaped) j));
@@ -282,6 +299,12 @@ module _ {terms : Terms} (given : Given terms) {w : World} (invariant : Invarian
       unfolding progressed
       settled-phase = ap (λ (o : List ℕ × Answer). o .1 .job .phase) (settle-accepted (w .job) j (getD (w .segments) j []) (w .log) settle-accepts)
 
+      pub settled-forward : inReverse settled ≡ false
+      unfolding progressed inReverse
+      settled-forward =
+          ap (λ (o : List ℕ × Answer). inReverse (o .1 .job)) (settle-accepted (w .job) j (getD (w .segments) j []) (w .log) settle-accepts)
+          ∙ search-forward
+
       pub settled-passed : (i : ℕ) → passedOf settled i ≡ passedOf (w .job) i
       unfolding progressed passedOf
       settled-passed i =
@@ -305,7 +328,7 @@ module _ {terms : Terms} (given : Given terms) {w : World} (invariant : Invarian
       settle-advances more =
           let call : Call (lengthsOf terms) = doSettle j own own in
           advances call refl settle-accepts (outcome w call .world) refl (empties j more settled-empty)
-          (logs-work (N terms) (terms .S) (w .job) settled settled-phase
+          (logs-work (N terms) (terms .S) (w .job) settled search-forward settled-forward settled-phase
           (stacks-stay (N terms) (terms .S) (w .job) settled settled-passed)
           (logs-fall (N terms) (terms .S) (w .job) settled j h more settled-empty settled-others))
 
@@ -323,6 +346,12 @@ module _ {terms : Terms} (given : Given terms) {w : World} (invariant : Invarian
         unfolding expandedJob progressed
         grown-phase =
             ap (λ (o : List ℕ × List ℕ × Expanded). o .2 .job .phase) (expand-accepted (w .job) j (getD (w .segments) j []) (w .log) expand-accepts)
+
+        pub grown-forward : inReverse grown ≡ false
+        unfolding expandedJob progressed inReverse
+        grown-forward =
+            ap (λ (o : List ℕ × List ℕ × Expanded). inReverse (o .2 .job)) (expand-accepted (w .job) j (getD (w .segments) j []) (w .log) expand-accepts)
+            ∙ search-forward
 
         pub grown-others : (i : ℕ) → (i ≡ j → ⊥) → passedOf grown i ≡ passedOf (w .job) i
         unfolding expandedJob progressed passedOf
@@ -367,16 +396,16 @@ module _ {terms : Terms} (given : Given terms) {w : World} (invariant : Invarian
         expand-advances =
             let call : Call (lengthsOf terms) = doExpand j own own in
             advances call refl expand-accepts (outcome w call .world) refl (passes j grown-here)
-            (stacks-work (N terms) (terms .S) (w .job) grown grown-phase
+            (stacks-work (N terms) (terms .S) (w .job) grown search-forward grown-forward grown-phase
             (stacks-fall (N terms) (terms .S) (w .job) grown (some given) j left grown-here (λ i. each i (eq-or-ne i j))))
           where
             each : (i : ℕ) → (i ≡ j) ⊎ (i ≡ j → ⊥) → passedOf (w .job) i ≤ passedOf grown i
             each i (inl e) = omega (arith, grown-here, ap (passedOf (w .job)) e, ap (passedOf grown) e)
             each i (inr ne) = omega (arith, grown-others i ne)
 
-    searches-advance : hasEnded (w .job) ≡ false → Advances
+    forward-advances : hasEnded (w .job) ≡ false → Advances
     unfolding levelOf
-    searches-advance on = logs (some-or-none (λ j. ltb 0 (waitingOf (w .job) j)) (G terms))
+    forward-advances on = logs (some-or-none (λ j. ltb 0 (waitingOf (w .job) j)) (G terms))
       where
         none-waits : ((j : ℕ) → j < G terms → ltb 0 (waitingOf (w .job) j) ≡ false) → (j : ℕ) → waitingOf (w .job) j ≡ 0
         none-waits none j = go (lt-or-ge j (G terms))
@@ -392,8 +421,8 @@ module _ {terms : Terms} (given : Given terms) {w : World} (invariant : Invarian
         stacks none (inl r) =
             expand-advances (r .0) (r .1) (ltb-true (passedOf (w .job) (r .0)) (m terms (r .0)) (r .2)) none
         stacks none (inr all) =
-            close-advances
-            (all-ready (λ j h. ltb-false (passedOf (w .job) j) (m terms j) (all j h)) (λ j h. none j))
+            close-advances Forward
+            (all-ready search-forward (λ j h. ltb-false (passedOf (w .job) j) (m terms j) (all j h)) (λ j h. none j))
             on
             (omega (arith, ap levelOf (search .phase-is), search .last))
 
@@ -403,6 +432,134 @@ module _ {terms : Terms} (given : Given terms) {w : World} (invariant : Invarian
         logs (inr none) =
             stacks (none-waits none)
             (some-or-none (λ j. ltb (passedOf (w .job) j) (m terms j)) (G terms))
+
+  -- ---- in a reverse level
+
+  module _ {d : ℕ} (search : Searches terms w d) (reverse : isReverse (w .job .way) ≡ true) where
+    pub search-reverse : inReverse (w .job) ≡ true
+    unfolding isLevel
+    search-reverse = level-reverse (w .job) (ap isLevel (search .phase-is)) reverse
+
+    called : (j : ℕ) → j < G terms → CallFacts (inReverse (w .job)) (w .job) j
+    called j h =
+        record { coherent = invariant-coherent given invariant; in-phase = search-reverse; inside = rw (segments-is (invariant .shaped)) h }
+
+    long-of : (j : ℕ) → j < G terms → length (getD (w .segments) j []) ≡ bytesFor (stackCountAt (w .job) j)
+    long-of j h = invariant .shaped .segment-bytes j h ∙ ap bytesFor (sym (stacks-is (invariant .shaped) j))
+
+    -- a segment with an unswept pair is loaded
+    module _ (b j : ℕ) (low : b < G terms) (inside : j < G terms) (left : isSwept (w .job) b j ≡ false) (due : isLoadDue (w .job) ≡ true)
+        (list : List ℕ) (wide : length list ≡ listBytes (m terms b)) where
+      pub load-accepts : loadRefusal (w .job) b (length (getD (w .segments) b [])) (length list) ≡ 0
+      load-accepts =
+          facts-load (w .job) b (length (getD (w .segments) b [])) (length list)
+          (record { called = called b low; long = long-of b low; wide = wide ∙ ap listBytes (sym (stacks-is (invariant .shaped) b)) })
+
+      -- then no load is due
+      pub none-due : isLoadDue (loadedWorld w b .job) ≡ false
+      unfolding isLoadDue isLoaded loadedWorld directed isSweptWhole isSwept sweptOf segmentCountOf stackCountOf
+      none-due =
+          ap (λ (t : Bool). not (not t) || isSweptWhole (loadedWorld w b .job) b) (ne-eqb b noSegment (λ e. omega (arith, few given)))
+          ∙ not-is-false (isSweptWhole (loadedWorld w b .job) b)
+          (λ t. never (all-below (isSwept (w .job) b) (segmentCountOf (w .job)) j t (rw (segments-is (invariant .shaped)) inside)) left)
+
+      unfoldable pub load-advances : Advances
+      unfolding isLentOwn isOwn refusalOf lent loadedWorld directed inReverse
+      load-advances =
+          advances (doLoad b own list) refl load-accepts (loadedWorld w b) (load-world (lengthsOf terms) w b list load-accepts)
+          (loads b j due refl (rw (segments-is (invariant .shaped)) low) (rw (segments-is (invariant .shaped)) inside) left)
+          (load-work (N terms) (terms .S) (w .job) (loadedWorld w b .job) search-reverse search-reverse refl refl due none-due)
+
+    -- a segment is swept against the loaded one
+    module _ (j : ℕ) (inside : j < G terms) (loaded : isLoaded (w .job) ≡ true) (left : isSwept (w .job) (w .job .loaded) j ≡ false) where
+      pub low : w .job .loaded < G terms
+      low = loaded-low (invariant .shaped) loaded
+
+      pub sweep-accepts : sweepRefusal (w .job) j (length (getD (w .segments) j [])) (length (w .changed)) ≡ 0
+      sweep-accepts =
+          facts-sweep (w .job) j (length (getD (w .segments) j [])) (length (w .changed))
+          (record {
+            called = called j inside;
+            loaded = loaded;
+            long = long-of j inside;
+            wide = search .listed reverse low .long ∙ ap listBytes (sym (stacks-is (invariant .shaped) (w .job .loaded)));
+            left = left;
+          })
+
+      -- the job after it
+      abbrev pub swept : Job
+      swept = sweepOf (w .job) j (getD (w .segments) j []) (w .changed) .1 .job
+
+      pub swept-is : {A : Type 0} (f : Job → A) → (let marks = markAll (w .job .size) (levelOf (w .job .phase)) (indexesOf (w .job .size) j (reachedIn (w .job) j (w .changed))) (marksFrom (w .job) (getD (w .segments) j [])) in
+          f swept ≡ f (directed (markedJob (w .job) (w .job .passed) (w .job .waiting) marks) (w .job .way) (w .job .loaded) (withPair (w .job) j)))
+      swept-is f = ap (λ (o : List ℕ × Answer). f (o .1 .job)) (sweep-accepted (w .job) j (getD (w .segments) j []) (w .changed) sweep-accepts)
+
+      pub listed-loaded : w .job .loaded < length (w .job .swept)
+      listed-loaded = omega (arith, invariant .shaped .swept-length, few given, low)
+
+      pub swept-pairs : swept .swept ≡ withPair (w .job) j
+      unfolding directed
+      swept-pairs = swept-is (λ job. job .swept)
+
+      unfoldable pub sweep-advances : Advances
+      unfolding outcome isLentOwn isOwn refusalOf lent kept lentList progressed directed inReverse
+      sweep-advances =
+          let call : Call (lengthsOf terms) = doSweep j own ownList in
+          let new = pair-new (w .job) j listed-loaded left swept swept-pairs in
+          advances call refl sweep-accepts (outcome w call .world) refl (sweeps (w .job .loaded) j left new)
+          (pairs-work (N terms) (terms .S) (w .job) swept search-reverse (swept-is inReverse ∙ search-reverse) (swept-is (λ job. job .phase))
+          (pairs-fall (N terms) (terms .S) (w .job) swept (w .job .loaded) j low inside left new
+          (pair-keeps (w .job) j listed-loaded left swept swept-pairs)))
+
+    -- with each pair swept the level is ready
+    pub swept-ready : ((b : ℕ) → b < G terms → isSweptWhole (w .job) b ≡ true) → isReady (w .job) ≡ true
+    unfolding isReady
+    swept-ready each =
+        ap (λ (t : Bool). all (cond t (isSweptWhole (w .job)) (isDone (w .job))) (from 0 (segmentCountOf (w .job)))) search-reverse
+        ∙ below-all (isSweptWhole (w .job)) (segmentCountOf (w .job)) (λ b h. each b (rw (segments-is (invariant .shaped)) at h))
+
+    -- a segment that is not swept whole has an unswept pair
+    pub pair-left : (b : ℕ) → isSweptWhole (w .job) b ≡ false → (j : ℕ) × (j < G terms) × (isSwept (w .job) b j ≡ false)
+    unfolding isSweptWhole
+    pair-left b h = go (some-or-none (λ j. not (isSwept (w .job) b j)) (segmentCountOf (w .job)))
+      where
+        go : ((j : ℕ) × (j < segmentCountOf (w .job)) × (not (isSwept (w .job) b j) ≡ true))
+            ⊎ ((j : ℕ) → j < segmentCountOf (w .job) → not (isSwept (w .job) b j) ≡ false)
+            → (j : ℕ) × (j < G terms) × (isSwept (w .job) b j ≡ false)
+        go (inl r) = (r .0, rw (segments-is (invariant .shaped)) at (r .1), not-true (isSwept (w .job) b (r .0)) (r .2))
+        go (inr none) =
+            never (below-all (isSwept (w .job) b) (segmentCountOf (w .job)) (λ j l. not-false (isSwept (w .job) b j) (none j l))) h
+
+    reverse-advances : hasEnded (w .job) ≡ false → Advances
+    unfolding isLoadDue levelOf
+    reverse-advances on = go (test-cases (isLoaded (w .job))) (test-cases (isSweptWhole (w .job) (w .job .loaded)))
+      where
+        rest : isLoadDue (w .job) ≡ true
+            → ((b : ℕ) × (b < G terms) × (not (isSweptWhole (w .job) b) ≡ true)) ⊎ ((b : ℕ) → b < G terms → not (isSweptWhole (w .job) b) ≡ false)
+            → Advances
+        rest due (inl r) =
+            let p = pair-left (r .0) (not-true (isSweptWhole (w .job) (r .0)) (r .2)) in
+            let bytes = listBytes (m terms (r .0)) in
+            load-advances (r .0) (p .0) (r .1) (p .1) (p .2) due (replicate bytes 0) (length-replicate bytes 0)
+        rest due (inr all) =
+            close-advances Forward (swept-ready (λ b l. not-false (isSweptWhole (w .job) b) (all b l))) on
+            (omega (arith, ap levelOf (search .phase-is), search .last))
+
+        others : ((b : ℕ) × (b < G terms) × (not (isSweptWhole (w .job) b) ≡ true)) ⊎ ((b : ℕ) → b < G terms → not (isSweptWhole (w .job) b) ≡ false)
+        others = some-or-none (λ b. not (isSweptWhole (w .job) b)) (G terms)
+
+        go : (isLoaded (w .job) ≡ true) ⊎ (isLoaded (w .job) ≡ false)
+            → (isSweptWhole (w .job) (w .job .loaded) ≡ true) ⊎ (isSweptWhole (w .job) (w .job .loaded) ≡ false) → Advances
+        go (inl loaded) (inr some) = let p = pair-left (w .job .loaded) some in sweep-advances (p .0) (p .1) loaded (p .2)
+        go (inl loaded) (inl whole) = rest (or-right (not (isLoaded (w .job))) (isSweptWhole (w .job) (w .job .loaded)) whole) others
+        go (inr none) whole = rest (ap (λ (t : Bool). not t || isSweptWhole (w .job) (w .job .loaded)) none) others
+
+  searches-advance : {d : ℕ} → Searches terms w d → hasEnded (w .job) ≡ false → Advances
+  searches-advance s on = go (test-cases (isReverse (w .job .way)))
+    where
+      go : (isReverse (w .job .way) ≡ true) ⊎ (isReverse (w .job .way) ≡ false) → Advances
+      go (inl reverse) = reverse-advances s reverse on
+      go (inr forward) = forward-advances s forward on
 
   pub invariant-advances : hasEnded (w .job) ≡ false → Advances
   unfolding isFinished

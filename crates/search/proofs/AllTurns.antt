@@ -129,7 +129,7 @@ module _ (kind n : ℕ) (wanted : List ℤ) (in-range : isPaneCount kind n ≡ t
         finishes = λ h. finishes-all (p .finishes h);
         continues = λ h. go (p .continues h);
         levels = λ d h. let l = p .levels d h in omega (arith, l .0, needs-few _ (l .2));
-        closes = λ h. none-deep (p .closes h .deep);
+        closes = λ way h. none-deep (p .closes way h .deep);
         ends = p .ends none-deep;
         stays = p .stays;
       }
@@ -140,6 +140,6 @@ module _ (kind n : ℕ) (wanted : List ℤ) (in-range : isPaneCount kind n ≡ t
 
 pub whole-build : WholeBuild
 unfolding WholeBuild WholeBuildBy
-whole-build kind n wanted S C segments log accepted buffers calls =
+whole-build kind n wanted S C segments log changed accepted buffers calls =
     let given = begin-given kind n wanted (allGroups kind n) S C accepted in
-    promise-all kind n wanted (given .in-range) (given .stack) (whole-build-by kind n wanted (allGroups kind n) S C segments log accepted buffers calls)
+    promise-all kind n wanted (given .in-range) (given .stack) (whole-build-by kind n wanted (allGroups kind n) S C segments log changed accepted buffers calls)

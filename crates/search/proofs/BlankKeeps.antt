@@ -11,34 +11,39 @@ use lib.ListN.{length, getD, set, length-set}
 use lib.Seq.{getD-set-same, getD-set-other}
 use Rattle.base.proofs.Lists.{replicate-zero}
 use Rattle.base.proofs.Tests.{never, eq-or-ne}
+use Rattle.stacks.specs.Stack.{stackCount}
 use Rattle.search.specs.Begin.{begun}
 use Rattle.search.specs.Blank.{blankRefusal, goalOf, blanked, blankOf}
 use Rattle.search.specs.Build.{World, withJob, withSegment}
 use Rattle.search.specs.Entries.{bytesFor, blank, setEntry}
-use Rattle.search.specs.JobState.{countPlaces, isBlanking, stackCountOf, stackCountAt, passedOf, waitingOf, countOf, progressed}
+use Rattle.search.specs.JobState.{countPlaces, isBlanking, stackCountOf, stackCountAt, passedOf, waitingOf, countOf, progressed, sweptOf}
 use Rattle.search.specs.Promise.{Buffers, rightBytes, rightWords}
-use Rattle.search.specs.Segments.{segmentLimit}
+use Rattle.search.specs.Segments.{segmentLimit, segmentCount}
 use Rattle.search.specs.declared.Answer.{Answer}
 use Rattle.search.specs.declared.Job.{Job}
 use Rattle.search.proofs.Accepted.{BlankFacts, blank-facts, blank-accepted}
 use Rattle.search.proofs.EntryLaws.{set-length, blank-length}
 use Rattle.search.proofs.Invariant.{Shaped, Blanks, Invariant, InPhase, blanking, searching, ended}
+use Rattle.search.proofs.PairLaws.{none-swept}
 use Rattle.search.proofs.Shapes.{segments-is, stacks-is}
 use Rattle.search.proofs.Terms.{Terms, termsWith, Given, G, m, few}
 
-pub begun-invariant : (kind n : ℕ) (wanted : List ℤ) (groups S C : ℕ) (segments : List (List ℕ)) (log : List ℕ) → Buffers kind n S C segments log
-    → Invariant (termsWith kind n wanted groups S C) (record { job = begun kind n wanted groups S C; segments = segments; log = log })
-unfolding begun passedOf waitingOf countOf rightBytes rightWords
-begun-invariant kind n wanted groups S C segments log buffers =
+pub begun-invariant : (kind n : ℕ) (wanted : List ℤ) (groups S C : ℕ) (segments : List (List ℕ)) (log changed : List ℕ) → Buffers kind n S C segments log
+    → Invariant (termsWith kind n wanted groups S C) (record { job = begun kind n wanted groups S C; segments = segments; log = log; changed = changed })
+unfolding begun passedOf waitingOf sweptOf countOf rightBytes rightWords
+begun-invariant kind n wanted groups S C segments log changed buffers =
     record {
       shaped = record {
         terms-is = refl;
         passed-length = refl;
         waiting-length = refl;
+        swept-length = refl;
         counts-length = refl;
         segments-length = buffers .some;
         segment-bytes = buffers .each;
         log-length = buffers .area;
+        loaded-fits = inl refl;
+        swept-fits = none-swept (begun kind n wanted groups S C) (segmentCount (stackCount kind n) S) (replicate-zero segmentLimit);
       };
       phase = blanking (record {
         phase-is = refl;
@@ -74,16 +79,19 @@ blank-world w j h =
 module _ {terms : Terms} (given : Given terms) {w : World} (shaped : Shaped terms w)
     (j : ℕ) (inside : j < G terms) where
   blanked-shaped : Shaped terms (blankedWorld w j)
-  unfolding blankedWorld progressed
+  unfolding blankedWorld progressed sweptOf
   blanked-shaped =
       record {
         terms-is = shaped .terms-is;
         passed-length = length-set (w .job .passed) j (stackCountAt (w .job) j) ∙ shaped .passed-length;
         waiting-length = shaped .waiting-length;
+        swept-length = shaped .swept-length;
         counts-length = shaped .counts-length;
         segments-length = length-set (w .segments) j (blanked (w .job) j) ∙ shaped .segments-length;
         segment-bytes = λ i h. go i h (eq-or-ne i j);
         log-length = shaped .log-length;
+        loaded-fits = shaped .loaded-fits;
+        swept-fits = shaped .swept-fits;
       }
     where
       go : (i : ℕ) → i < G terms → (i ≡ j) ⊎ (i ≡ j → ⊥)

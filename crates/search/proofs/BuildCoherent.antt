@@ -1,20 +1,20 @@
 -- Every job of a build is coherent: no call of it is refused 7.
 use mathlib.Core.Path.{_≡_, ap, _∙_}
 use mathlib.Core.Logic.{_⊎_, inl, inr}
-use mathlib.Core.Bool.{true, cond}
+use mathlib.Core.Bool.{true, not, cond}
 use mathlib.Core.List.{[]}
 use Prim.Native.Nat.{ℕ, _≤_, _<_}
 use native.Mathlib.Omega.{arith}
 use lib.Dec.{leb, ltb, eqb}
 use lib.ListN.{getD}
-use borrow.Author.Tests.{lt-ltb, le-ltb, le-leb}
-use Rattle.base.proofs.Tests.{and-both, lt-or-ge, eq-or-ne}
+use borrow.Author.Tests.{lt-ltb, le-ltb, le-leb, eq-eqb}
+use Rattle.base.proofs.Tests.{and-both, or-right, lt-or-ge, eq-or-ne}
 use Rattle.graph.proofs.Counts.{found}
 use Rattle.graph.proofs.Tally.{tally-le}
 use Rattle.stacks.proofs.KindLaws.{count-fits}
 use Rattle.search.specs.Blank.{blanked}
 use Rattle.search.specs.Build.{World}
-use Rattle.search.specs.JobState.{lastLevel, countLimit, passedOf, waitingOf, countOf, phaseFits, isCoherent}
+use Rattle.search.specs.JobState.{lastLevel, noSegment, countLimit, segmentCountOf, passedOf, waitingOf, countOf, phaseFits, isLoaded, loadedFits, isCoherent}
 use Rattle.search.proofs.Coherence.{facts-coherent}
 use Rattle.search.proofs.Invariant.{Shaped, Blanks, Searches, Ended, InPhase, blanking, searching, ended, Invariant, entryIn}
 use Rattle.search.proofs.Shapes.{room-is, segments-is, stacks-is, begins-is}
@@ -37,7 +37,7 @@ module _ {terms : Terms} (given : Given terms) {w : World} (shaped : Shaped term
       (beyond : (j : ℕ) → G terms ≤ j → waitingOf (w .job) j ≡ 0)
       (counts : (d : ℕ) → countOf (w .job) d ≤ N terms) (fits : phaseFits (w .job .phase) ≡ true) where
     shaped-coherent : isCoherent (w .job) ≡ true
-    unfolding waitingOf
+    unfolding waitingOf loadedFits isLoaded
     shaped-coherent =
         facts-coherent (w .job)
         (record {
@@ -47,7 +47,15 @@ module _ {terms : Terms} (given : Given terms) {w : World} (shaped : Shaped term
           waiting-fits = λ j h. rw (segments-is shaped, room-is shaped)
               (within (waitingOf (w .job) j) j (G terms) (terms .C) (λ l. waiting j) (beyond j));
           counts-fit = λ d. count-small (countOf (w .job) d) (counts d);
+          loaded-fits = loaded (shaped .loaded-fits);
+          swept-fits = λ b h. rw (segments-is shaped) (shaped .swept-fits b);
         })
+      where
+        loaded : (w .job .loaded ≡ noSegment) ⊎ (w .job .loaded < G terms) → loadedFits (w .job) ≡ true
+        loaded (inl e) = rw (eq-eqb (w .job .loaded) noSegment e)
+        loaded (inr l) =
+            or-right (not (isLoaded (w .job))) (ltb (w .job .loaded) (segmentCountOf (w .job)))
+            (lt-ltb (w .job .loaded) (segmentCountOf (w .job)) (rw (segments-is shaped) l))
 
   blanks-coherent : Blanks terms w → isCoherent (w .job) ≡ true
   unfolding phaseFits

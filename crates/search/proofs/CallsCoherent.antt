@@ -1,7 +1,7 @@
 -- Begin gives a coherent job, and so does every call on a coherent job whose counts have room for the stacks at hand.
 use mathlib.Core.Path.{_≡_, refl, sym, ap, _∙_}
 use mathlib.Core.Logic.{_⊎_, inl, inr}
-use mathlib.Core.Bool.{Bool, true, false, cond}
+use mathlib.Core.Bool.{Bool, true, false, not, cond}
 use mathlib.Core.List.{List, [], _∷_}
 use Prim.Native.Nat.{ℕ, _+_, _-_, _*_, _%_, _≤_, _<_}
 use native.Mathlib.Omega.{arith}
@@ -12,24 +12,30 @@ use lib.ListN.{length, getD, set}
 use lib.Seq.{getD-set-same, getD-set-other, set-out}
 use borrow.Author.Tests.{ltb-true, lt-ltb, leb-true, le-leb, eqb-false, eq-eqb, ne-eqb}
 use Rattle.base.specs.Words.{all, tally, from}
-use Rattle.base.proofs.Lists.{replicate-zero}
-use Rattle.base.proofs.Tests.{and-left, and-right, and-both, lt-or-ge, eq-or-ne}
+use Rattle.base.proofs.Counting.{at-all, filter-from}
+use Rattle.base.proofs.Lists.{from-length, getD-from, replicate-zero}
+use Rattle.base.proofs.Tests.{and-left, and-right, and-both, or-right, lt-or-ge, eq-or-ne}
 use Rattle.graph.proofs.Tally.{tally-le, tally-one-more}
 use Rattle.search.specs.Begin.{begun, beginOf}
 use Rattle.search.specs.Blank.{blankRefusal, blankOf}
 use Rattle.search.specs.Close.{isPastLast, closeRefusal, nextPhase, nextCounts, closed, closeOf}
 use Rattle.search.specs.Entries.{entryAt, bytesFor}
-use Rattle.search.specs.JobState.{lastLevel, countPlaces, countLimit, beginRefusal, levelOf, segmentCountOf, stackCountAt, stackCountOf, passedOf, waitingOf, countOf, phaseFits, isCoherent, progressed}
+use Rattle.search.specs.JobState.{lastLevel, countPlaces, countLimit, beginRefusal, levelOf, segmentCountOf, stackCountAt, stackCountOf, passedOf, waitingOf, countOf, phaseFits, isLoaded, sweptOf, loadedFits, isCoherent, progressed, directed}
+use Rattle.search.specs.Load.{loadRefusal, loadOf}
 use Rattle.search.specs.Segments.{segmentLimit, stackCountIn}
 use Rattle.search.specs.Settle.{settleRefusal, settleOf}
+use Rattle.search.specs.Sweep.{sweepRefusal, isReached, reachedIn, withPair, sweepOf}
 use Rattle.search.specs.Marks.{Marks, markOne, markAll, marksFrom, markedJob}
 use Rattle.search.specs.Logs.{indexesOf, pending}
 use Rattle.search.specs.declared.Answer.{Answer}
 use Rattle.search.specs.declared.Job.{Job}
 use Rattle.search.specs.declared.Phase.{Phase}
 use Rattle.search.specs.declared.Phase.the-variants.{Blanking, Level, Finished}
-use Rattle.search.proofs.Accepted.{past-facts, close-facts, settle-facts, blank-accepted, blank-refused, settle-accepted, settle-refused, close-accepted, close-refused}
-use Rattle.search.proofs.Coherence.{Coherent, coherent-facts, facts-coherent}
+use Rattle.search.specs.declared.Way.{Way}
+use Rattle.search.proofs.Accepted.{SweepFacts, past-facts, close-facts, settle-facts, load-facts, sweep-facts, blank-accepted, blank-refused, settle-accepted, settle-refused, load-accepted, load-refused, sweep-accepted, sweep-refused, close-accepted, close-refused}
+use Rattle.search.proofs.Coherence.{Coherent, coherent-facts, facts-coherent, begin-given}
+use Rattle.search.proofs.Terms as Terms
+use Rattle.search.proofs.PairLaws.{loaded-below, none-swept, pair-fits}
 use Rattle.search.proofs.MarkLaws.{mark-unseen, mark-seen, mark-length, mark-other, mark-new}
 
 -- a number that is set stays within a bound that both it and the old one meet
@@ -89,7 +95,7 @@ all-budget S d j m (i ∷ offsets) marks l h long =
 -- ---- Begin
 
 begun-coherent : (kind n : ℕ) (wanted : List ℤ) (groups S C : ℕ) → beginRefusal kind n wanted groups S C ≡ 0 → isCoherent (begun kind n wanted groups S C) ≡ true
-unfolding begun passedOf waitingOf countOf phaseFits
+unfolding begun passedOf waitingOf sweptOf countOf phaseFits loadedFits isLoaded
 begun-coherent kind n wanted groups S C h =
     facts-coherent (begun kind n wanted groups S C)
     (record {
@@ -98,6 +104,8 @@ begun-coherent kind n wanted groups S C h =
       passed-fits = λ j l. omega (arith, replicate-zero segmentLimit j);
       waiting-fits = λ j l. omega (arith, replicate-zero segmentLimit j);
       counts-fit = λ d. omega (arith, replicate-zero countPlaces d);
+      loaded-fits = refl;
+      swept-fits = λ b l. none-swept (begun kind n wanted groups S C) (segmentCountOf (begun kind n wanted groups S C)) (replicate-zero segmentLimit) b;
     })
 
 pub begin-coherent : (kind n : ℕ) (wanted : List ℤ) (groups S C : ℕ) → beginOf kind n wanted groups S C .refusal ≡ 0
@@ -113,7 +121,7 @@ module _ (job : Job) (coherent : isCoherent job ≡ true) where
   -- ---- Blank
 
   blanked-coherent : (j : ℕ) → isCoherent (progressed job (job .phase) (set (job .passed) j (stackCountAt job j)) (job .waiting) (job .counts)) ≡ true
-  unfolding progressed passedOf waitingOf countOf stackCountAt stackCountOf segmentCountOf
+  unfolding progressed passedOf waitingOf sweptOf countOf stackCountAt stackCountOf segmentCountOf loadedFits isLoaded
   blanked-coherent j =
       facts-coherent (progressed job (job .phase) (set (job .passed) j (stackCountAt job j)) (job .waiting) (job .counts))
       (record {
@@ -122,6 +130,8 @@ module _ (job : Job) (coherent : isCoherent job ≡ true) where
         passed-fits = λ i l. set-fits (job .passed) j (stackCountAt job j) i (stackCountAt job i) (λ e. omega (arith, ap (stackCountAt job) e)) (facts .passed-fits i l);
         waiting-fits = facts .waiting-fits;
         counts-fit = facts .counts-fit;
+        loaded-fits = facts .loaded-fits;
+        swept-fits = facts .swept-fits;
       })
 
   pub blank-coherent : (j : ℕ) (segment : List ℕ) → isCoherent (blankOf job j segment .1 .job) ≡ true
@@ -155,24 +165,52 @@ module _ (job : Job) (coherent : isCoherent job ≡ true) where
   next-counts (Level l) d = facts .counts-fit d
   next-counts (Finished l) d = facts .counts-fit d
 
-  closed-coherent : isPastLast job ≡ false → isCoherent (closed job) ≡ true
-  unfolding closed progressed passedOf waitingOf countOf segmentCountOf stackCountOf
-  closed-coherent unpast =
-      facts-coherent (closed job)
+  closed-coherent : (way : Way) → isPastLast job ≡ false → isCoherent (closed job way) ≡ true
+  unfolding closed progressed directed passedOf waitingOf sweptOf countOf segmentCountOf stackCountOf loadedFits isLoaded
+  closed-coherent way unpast =
+      facts-coherent (closed job way)
       (record {
         begins = facts .begins;
         phase-fits = next-fits (job .phase) (facts .phase-fits) (past-facts job unpast);
         passed-fits = λ j l. omega (arith, replicate-zero segmentLimit j);
         waiting-fits = facts .waiting-fits;
         counts-fit = next-counts (job .phase);
+        loaded-fits = refl;
+        swept-fits = λ b l. none-swept (closed job way) (segmentCountOf (closed job way)) (replicate-zero segmentLimit) b;
       })
 
-  pub close-coherent : isCoherent (closeOf job .job) ≡ true
-  close-coherent = go (eq-or-ne (closeRefusal job) 0)
+  pub close-coherent : (way : Way) → isCoherent (closeOf job way .job) ≡ true
+  close-coherent way = go (eq-or-ne (closeRefusal job) 0)
     where
-      go : (closeRefusal job ≡ 0) ⊎ (closeRefusal job ≡ 0 → ⊥) → isCoherent (closeOf job .job) ≡ true
-      go (inl e) = ap (λ (o : Answer). isCoherent (o .job)) (close-accepted job e) ∙ closed-coherent (close-facts job e .fits)
-      go (inr ne) = ap (λ (o : Answer). isCoherent (o .job)) (close-refused job ne) ∙ coherent
+      go : (closeRefusal job ≡ 0) ⊎ (closeRefusal job ≡ 0 → ⊥) → isCoherent (closeOf job way .job) ≡ true
+      go (inl e) = ap (λ (o : Answer). isCoherent (o .job)) (close-accepted job way e) ∙ closed-coherent way (close-facts job e .fits)
+      go (inr ne) = ap (λ (o : Answer). isCoherent (o .job)) (close-refused job way ne) ∙ coherent
+
+  -- ---- Load
+
+  loaded-coherent : (b : ℕ) → b < segmentCountOf job → isCoherent (directed job (job .way) b (job .swept)) ≡ true
+  unfolding directed passedOf waitingOf sweptOf countOf stackCountAt stackCountOf segmentCountOf loadedFits
+  loaded-coherent b l =
+      facts-coherent (directed job (job .way) b (job .swept))
+      (record {
+        begins = facts .begins;
+        phase-fits = facts .phase-fits;
+        passed-fits = facts .passed-fits;
+        waiting-fits = facts .waiting-fits;
+        counts-fit = facts .counts-fit;
+        loaded-fits = or-right (not (isLoaded (directed job (job .way) b (job .swept)))) (ltb b (segmentCountOf job)) (lt-ltb b (segmentCountOf job) l);
+        swept-fits = facts .swept-fits;
+      })
+
+  pub load-coherent : (b : ℕ) (segment list : List ℕ) → isCoherent (loadOf job b segment list .1 .job) ≡ true
+  load-coherent b segment list = go (eq-or-ne (loadRefusal job b (length segment) (length list)) 0)
+    where
+      go : (loadRefusal job b (length segment) (length list) ≡ 0) ⊎ (loadRefusal job b (length segment) (length list) ≡ 0 → ⊥)
+          → isCoherent (loadOf job b segment list .1 .job) ≡ true
+      go (inl e) =
+          ap (λ (o : List ℕ × Answer). isCoherent (o .1 .job)) (load-accepted job b segment list e)
+          ∙ loaded-coherent b (load-facts job b (length segment) (length list) e .called .inside)
+      go (inr ne) = ap (λ (o : List ℕ × Answer). isCoherent (o .1 .job)) (load-refused job b segment list ne) ∙ coherent
 
   -- ---- Settle
 
@@ -193,7 +231,7 @@ module _ (job : Job) (coherent : isCoherent job ≡ true) where
 
     settled-coherent : settleRefusal job j (length segment) log ≡ 0
         → isCoherent (markedJob job (job .passed) (set (job .waiting) j 0) marked) ≡ true
-    unfolding progressed passedOf waitingOf countOf stackCountAt stackCountOf segmentCountOf
+    unfolding progressed passedOf waitingOf sweptOf countOf stackCountAt stackCountOf segmentCountOf loadedFits isLoaded
     settled-coherent h =
         facts-coherent (markedJob job (job .passed) (set (job .waiting) j 0) marked)
         (record {
@@ -202,6 +240,8 @@ module _ (job : Job) (coherent : isCoherent job ≡ true) where
           passed-fits = facts .passed-fits;
           waiting-fits = λ i l. set-fits (job .waiting) j 0 i (cond (ltb i (segmentCountOf job)) (job .room) 0) (λ e. omega arith) (facts .waiting-fits i l);
           counts-fit = λ d. set-fits (job .counts) (levelOf (job .phase)) (marked .count) d countLimit (λ e. settled-count h) (facts .counts-fit d);
+          loaded-fits = facts .loaded-fits;
+          swept-fits = facts .swept-fits;
         })
 
     pub settle-coherent : isCoherent (settleOf job j segment log .1 .job) ≡ true
@@ -211,3 +251,65 @@ module _ (job : Job) (coherent : isCoherent job ≡ true) where
             → isCoherent (settleOf job j segment log .1 .job) ≡ true
         go (inl e) = ap (λ (o : List ℕ × Answer). isCoherent (o .1 .job)) (settle-accepted job j segment log e) ∙ settled-coherent e
         go (inr ne) = ap (λ (o : List ℕ × Answer). isCoherent (o .1 .job)) (settle-refused job j segment log ne) ∙ coherent
+
+  -- ---- Sweep
+
+  module _ (j : ℕ) (segment list : List ℕ) (room : countOf job (levelOf (job .phase)) + stackCountAt job j ≤ countLimit) where
+    abbrev found : Marks
+    found = markAll (job .size) (levelOf (job .phase)) (indexesOf (job .size) j (reachedIn job j list)) (marksFrom job segment)
+
+    -- what is reached is an offset of the segment
+    reached-below : all (λ i. ltb i (stackCountAt job j)) (reachedIn job j list) ≡ true
+    unfolding reachedIn
+    reached-below =
+        at-all (λ i. ltb i (stackCountAt job j)) (reachedIn job j list) 0
+        (λ k l.
+        let r = filter-from (λ i. isReached job list (j * job .size + i)) 0 (from 0 (stackCountAt job j)) k l in
+        lt-ltb (getD (reachedIn job j list) k 0) (stackCountAt job j)
+        (omega (arith, r .1, r .3, from-length 0 (stackCountAt job j), getD-from 0 (stackCountAt job j) (r .0) 0 (omega (arith, r .1, from-length 0 (stackCountAt job j))))))
+
+    found-count : length segment ≡ bytesFor (stackCountAt job j) → found .count ≤ countLimit
+    unfolding stackCountAt stackCountIn
+    found-count long =
+        omega (
+          arith,
+          all-budget (job .size) (levelOf (job .phase)) j (stackCountAt job j) (reachedIn job j list) (marksFrom job segment)
+              (let l : stackCountAt job j ≤ job .size = omega arith in l) reached-below long,
+          tally-le (λ i. eqb (entryAt segment i) 3) (stackCountAt job j),
+        )
+
+    abbrev after : Job
+    after = directed (markedJob job (job .passed) (job .waiting) found) (job .way) (job .loaded) (withPair job j)
+
+    swept-coherent : SweepFacts job j (length segment) (length list) → isCoherent after ≡ true
+    unfolding progressed directed passedOf waitingOf sweptOf countOf stackCountAt stackCountOf segmentCountOf loadedFits isLoaded
+    swept-coherent f =
+        facts-coherent after
+        (record {
+          begins = facts .begins;
+          phase-fits = facts .phase-fits;
+          passed-fits = facts .passed-fits;
+          waiting-fits = facts .waiting-fits;
+          counts-fit = λ d. set-fits (job .counts) (levelOf (job .phase)) (found .count) d countLimit (λ e. found-count (f .long)) (facts .counts-fit d);
+          loaded-fits = facts .loaded-fits;
+          swept-fits = λ b l. pair-fits job j (f .left) after refl (segmentCountOf job) low (f .called .inside)
+              (facts .swept-fits (job .loaded) (omega (arith, low, few)))
+              b
+              (facts .swept-fits b l);
+        })
+      where
+        low : job .loaded < segmentCountOf job
+        low = loaded-below job (facts .loaded-fits) (f .loaded)
+
+        few : segmentCountOf job ≤ segmentLimit
+        few = Terms.few (begin-given (job .kind) (job .n) (job .wanted) (job .groups) (job .size) (job .room) (facts .begins))
+
+    pub sweep-coherent : isCoherent (sweepOf job j segment list .1 .job) ≡ true
+    sweep-coherent = go (eq-or-ne (sweepRefusal job j (length segment) (length list)) 0)
+      where
+        go : (sweepRefusal job j (length segment) (length list) ≡ 0) ⊎ (sweepRefusal job j (length segment) (length list) ≡ 0 → ⊥)
+            → isCoherent (sweepOf job j segment list .1 .job) ≡ true
+        go (inl e) =
+            ap (λ (o : List ℕ × Answer). isCoherent (o .1 .job)) (sweep-accepted job j segment list e)
+            ∙ swept-coherent (sweep-facts job j (length segment) (length list) e)
+        go (inr ne) = ap (λ (o : List ℕ × Answer). isCoherent (o .1 .job)) (sweep-refused job j segment list ne) ∙ coherent

@@ -1,13 +1,15 @@
 -- Laws of `childrenOf`: the children of an index are where its moves lead, and nothing else.
 use mathlib.Core.Path.{_≡_, refl, sym, ap, _∙_, subst}
 use mathlib.Core.Bool.{true}
-use mathlib.Core.List.{List, map}
+use mathlib.Core.List.{List, [], _∷_, _++_, map}
 use Prim.Native.Nat.{ℕ, _<_}
 use lib.ListN.{length, getD, length-map}
 use Rattle.graph.specs.Walks.{isMove}
 use Rattle.graph.proofs.Moves.{move-listed, listed-move}
-use Rattle.base.proofs.Lists.{getD-map}
+use Rattle.base.proofs.Lists.{getD-map, map-append}
+use Rattle.stacks.specs.Index.{rankOf, stackAt}
 use Rattle.stacks.specs.Stack.{isPaneCount, stackCount}
+use Rattle.stacks.specs.Turn.{turnOf}
 use Rattle.search.specs.Expand.{childrenOf}
 use Rattle.search.proofs.Turning.{childAt, Moves, move-graph}
 
@@ -15,6 +17,10 @@ module _ (kind n : ℕ) (moves : List ℕ) (v : ℕ) where
   pub children-are : childrenOf kind n moves v ≡ map (λ k. childAt kind n k v) moves
   unfolding childrenOf childAt
   children-are = refl
+
+  pub children-more : (k : ℕ) → childrenOf kind n (moves ++ (k ∷ [])) v ≡ childrenOf kind n moves v ++ (childAt kind n k v ∷ [])
+  unfolding childrenOf childAt
+  children-more k = map-append (λ j. rankOf kind n (turnOf kind j (stackAt kind n v))) moves (k ∷ [])
 
   pub children-length : length (childrenOf kind n moves v) ≡ length moves
   children-length = ap length children-are ∙ length-map moves (λ k. childAt kind n k v)

@@ -1,9 +1,9 @@
 -- An accepted Close keeps the invariant: Blanking leads to Level 1, a level to the next, and one that brought nothing new to the end.
 use mathlib.Core.Path.{_≡_, refl, sym, ap, _∙_, subst}
 use mathlib.Core.Logic.{_⊎_, inl, inr}
-use mathlib.Core.Bool.{Bool, true, false, not, _&&_, cond}
+use mathlib.Core.Bool.{Bool, true, false, not, cond}
 use mathlib.Core.List.{List, []}
-use Prim.Native.Nat.{ℕ, suc, _+_, _-_, _/_, _%_, _≤_, _<_}
+use Prim.Native.Nat.{ℕ, suc, _+_, _-_, _/_, _%_, _^_, _≤_, _<_}
 use native.Mathlib.Nat.{div-add-mod', le-refl}
 use native.Mathlib.Numerals.{add-one}
 use native.Mathlib.Omega.{arith}
@@ -11,29 +11,33 @@ use lib.Dec.{eqb}
 use lib.ListN.{length, getD, set, length-set}
 use lib.Seq.{getD-set-same, getD-set-other}
 use borrow.Author.Tests.{eqb-true, eq-eqb, ne-eqb}
-use Rattle.base.specs.Words.{unless}
+use Rattle.base.specs.Words.{unless, all, from}
+use Rattle.base.proofs.Bits.{bit-is, bit-zero}
 use Rattle.base.proofs.Counting.{all-below}
 use Rattle.base.proofs.Lists.{replicate-zero}
-use Rattle.base.proofs.Tests.{and-left, and-right, never, lt-or-ge, eq-or-ne}
+use Rattle.base.proofs.Tests.{and-left, and-right, test-cases, not-is-false, never, lt-or-ge, eq-or-ne}
+use Rattle.graph.specs.Walks.{isMove}
 use Rattle.graph.proofs.Counts.{found-goal, found-start, found-next, found-all}
 use Rattle.graph.proofs.Levels as Levels
 use Rattle.graph.proofs.Tally.{tally-none, tally-zero, tally-some}
 use Rattle.search.specs.Blank.{goalOf, blanked}
 use Rattle.search.specs.Build.{World, withJob}
-use Rattle.search.specs.Close.{isDone, isReady, isPastLast, closeRefusal, nextPhase, nextCounts, closed, closeOf}
+use Rattle.search.specs.Close.{isDone, isSweptWhole, isReady, isPastLast, closeRefusal, nextPhase, nextCounts, closed, closeOf}
 use Rattle.search.specs.Entries.{entryAt, bytesFor, blank, setEntry}
-use Rattle.search.specs.JobState.{isCoherent, isFinished, levelOf, lastLevel, segmentCountOf, stackCountAt, passedOf, waitingOf, countOf, progressed}
+use Rattle.search.specs.JobState.{isCoherent, isLevel, isFinished, isReverse, inReverse, levelOf, lastLevel, noSegment, segmentCountOf, stackCountAt, passedOf, waitingOf, sweptOf, isSwept, countOf, progressed, directed}
 use Rattle.search.specs.Segments.{segmentLimit}
 use Rattle.search.specs.declared.Answer.{Answer}
 use Rattle.search.specs.declared.Job.{Job}
 use Rattle.search.specs.declared.Phase.{Phase}
 use Rattle.search.specs.declared.Phase.the-variants.{Blanking, Level, Finished}
-use Rattle.search.proofs.Accepted.{CloseFacts, past-facts, close-facts, close-accepted}
+use Rattle.search.specs.declared.Way.{Way}
+use Rattle.search.proofs.Accepted.{reverse-level, level-reverse, CloseFacts, past-facts, close-facts, close-accepted}
 use Rattle.search.proofs.EntryLaws.{get-set-same, get-set-other, blank-length, blank-entry, byte-inside, spare-inside}
 use Rattle.search.proofs.Invariant.{Shaped, Spares, Blanks, Searches, Ended, Invariant, entryIn, Looked, Logged, InPhase, blanking, searching, ended}
+use Rattle.search.proofs.PairLaws.{none-swept}
 use Rattle.search.proofs.SegmentLaws.{segment-some, stack-segment, stack-offset}
 use Rattle.search.proofs.Shapes.{size-is, segments-is, stacks-is, goal-is}
-use Rattle.search.proofs.Terms.{Terms, Given, N, G, m, goal, D, levelCount, beyond, some, depths, goal-here}
+use Rattle.search.proofs.Terms.{Terms, Given, N, G, m, moves, step, goal, D, levelCount, beyond, some, few, depths, goal-here}
 
 -- ---- the entries of a blanked segment
 
@@ -63,28 +67,45 @@ module _ (job : Job) (j : ℕ) where
 first-level : 1 ≤ lastLevel
 first-level = omega arith
 
-unfoldable pub closedWorld : World → World
-closedWorld w = withJob (closed (w .job)) w
+unfoldable pub closedWorld : World → Way → World
+closedWorld w way = withJob (closed (w .job) way) w
 
-pub close-world : (w : World) → closeRefusal (w .job) ≡ 0
-    → _≡_ {A = World} (withJob (closeOf (w .job) .job) w) (closedWorld w)
+pub close-world : (w : World) (way : Way) → closeRefusal (w .job) ≡ 0
+    → _≡_ {A = World} (withJob (closeOf (w .job) way .job) w) (closedWorld w way)
 unfolding closedWorld
-close-world w h = ap (λ (o : Answer). withJob (o .job) w) (close-accepted (w .job) h)
+close-world w way h = ap (λ (o : Answer). withJob (o .job) w) (close-accepted (w .job) way h)
 
-closed-passed : (w : World) (j : ℕ) → passedOf (closedWorld w .job) j ≡ 0
-unfolding closedWorld closed progressed passedOf
-closed-passed w j = replicate-zero segmentLimit j
+module _ (w : World) (way : Way) where
+  closed-passed : (j : ℕ) → passedOf (closedWorld w way .job) j ≡ 0
+  unfolding closedWorld closed progressed directed passedOf
+  closed-passed j = replicate-zero segmentLimit j
 
-closed-waiting : (w : World) (j : ℕ) → waitingOf (closedWorld w .job) j ≡ waitingOf (w .job) j
-unfolding closedWorld closed progressed waitingOf
-closed-waiting w j = refl
+  closed-waiting : (j : ℕ) → waitingOf (closedWorld w way .job) j ≡ waitingOf (w .job) j
+  unfolding closedWorld closed progressed directed waitingOf
+  closed-waiting j = refl
 
-module _ {terms : Terms} {w : World} (shaped : Shaped terms w) where
+  closed-swept : (b : ℕ) → sweptOf (closedWorld w way .job) b ≡ 0
+  unfolding closedWorld closed progressed directed sweptOf
+  closed-swept b = replicate-zero segmentLimit b
+
+  closed-pair : (b j : ℕ) → isSwept (closedWorld w way .job) b j ≡ false
+  unfolding isSwept
+  closed-pair b j =
+      ap (λ (x : ℕ). eqb (x / 2 ^ j % 2) 1) (closed-swept b) ∙ ap (λ (x : ℕ). eqb x 1) (bit-is 0 j ∙ bit-zero j)
+
+  closed-loaded : closedWorld w way .job .loaded ≡ noSegment
+  unfolding closedWorld closed directed
+  closed-loaded = refl
+
+module _ {terms : Terms} {w : World} (shaped : Shaped terms w) (ready : isReady (w .job) ≡ true) where
   -- what readiness says of each segment
-  module _ (ready : isReady (w .job) ≡ true) (j : ℕ) (inside : j < G terms) where
+  module _ (forward : inReverse (w .job) ≡ false) (j : ℕ) (inside : j < G terms) where
     done : isDone (w .job) j ≡ true
     unfolding isReady
-    done = all-below (isDone (w .job)) (segmentCountOf (w .job)) j ready (rw (segments-is shaped) inside)
+    done =
+        all-below (isDone (w .job)) (segmentCountOf (w .job)) j
+        (subst (λ (t : Bool). all (cond t (isSweptWhole (w .job)) (isDone (w .job))) (from 0 (segmentCountOf (w .job))) ≡ true) forward ready)
+        (rw (segments-is shaped) inside)
 
     ready-passed : passedOf (w .job) j ≡ m terms j
     unfolding isDone
@@ -99,20 +120,33 @@ module _ {terms : Terms} {w : World} (shaped : Shaped terms w) where
         eqb-true (waitingOf (w .job) j) 0
         (and-right (eqb (passedOf (w .job) j) (stackCountAt (w .job) j)) (eqb (waitingOf (w .job) j) 0) done)
 
--- with nothing passed and nothing waiting, no edge is looked at and nothing is logged
-module _ (terms : Terms) (w : World) where
-  no-look : (u v : ℕ) → Looked terms (closedWorld w .job) u v → ⊥
+  -- and of each pair
+  ready-swept : inReverse (w .job) ≡ true → (b j : ℕ) → b < G terms → j < G terms → isSwept (w .job) b j ≡ true
+  unfolding isReady isSweptWhole
+  ready-swept reverse b j low inside =
+      all-below (isSwept (w .job) b) (segmentCountOf (w .job)) j
+      (all-below (isSweptWhole (w .job)) (segmentCountOf (w .job)) b
+      (subst (λ (t : Bool). all (cond t (isSweptWhole (w .job)) (isDone (w .job))) (from 0 (segmentCountOf (w .job))) ≡ true) reverse ready)
+      (rw (segments-is shaped) low))
+      (rw (segments-is shaped) inside)
+
+pub no-log : (terms : Terms) (w : World) → ((j : ℕ) → waitingOf (w .job) j ≡ 0) → (v : ℕ) → Logged terms w v → ⊥
+unfolding Logged
+no-log terms w none v l = omega (arith, l .1 .1, none (v / terms .S))
+
+-- with nothing passed, waiting or swept, no edge is looked at and nothing is logged
+module _ (terms : Terms) (w : World) (way : Way) where
+  no-look : (u v : ℕ) → Looked terms (closedWorld w way .job) u v → ⊥
   unfolding Looked
-  no-look u v l = omega (arith, l .0, closed-passed w (u / terms .S))
+  no-look u v l = go (l .0)
+    where
+      go : (u % terms .S < passedOf (closedWorld w way .job) (u / terms .S)) ⊎ (isSwept (closedWorld w way .job) (u / terms .S) (v / terms .S) ≡ true) → ⊥
+      go (inl h) = omega (arith, closed-passed w way (u / terms .S))
+      go (inr h) = never h (closed-pair w way (u / terms .S) (v / terms .S))
 
-  module _ (none : (j : ℕ) → waitingOf (w .job) j ≡ 0) where
-    no-log : (v : ℕ) → Logged terms w v → ⊥
-    unfolding Logged
-    no-log v l = omega (arith, l .1 .1, none (v / terms .S))
-
-    no-log-after : (v : ℕ) → Logged terms (closedWorld w) v → ⊥
-    unfolding Logged
-    no-log-after v l = omega (arith, l .1 .1, none (v / terms .S), closed-waiting w (v / terms .S))
+  no-log-after : ((j : ℕ) → waitingOf (w .job) j ≡ 0) → (v : ℕ) → Logged terms (closedWorld w way) v → ⊥
+  unfolding Logged
+  no-log-after none v l = omega (arith, l .1 .1, none (v / terms .S), closed-waiting w way (v / terms .S))
 
 -- a level that has been searched whole, whichever way: nothing waits, and every stack of its depth is reached
 pub record Complete (terms : Terms) (w : World) (d : ℕ) : Type 0 where
@@ -120,16 +154,20 @@ pub record Complete (terms : Terms) (w : World) (d : ℕ) : Type 0 where
   pub reached : Levels.Reached (N terms) (D terms) d (Looked terms (w .job))
 
 module _ {terms : Terms} (given : Given terms) where
-  module _ {w : World} (shaped : Shaped terms w) (ready : isReady (w .job) ≡ true) where
+  module _ {w : World} (way : Way) (shaped : Shaped terms w) (ready : isReady (w .job) ≡ true) where
     -- ---- from Blanking to Level 1
 
     module _ (blanks : Blanks terms w) where
+      unlevelled : inReverse (w .job) ≡ false
+      unfolding inReverse isLevel
+      unlevelled = rw (blanks .phase-is)
+
       all-blanked : (j : ℕ) → j < G terms → getD (w .segments) j [] ≡ blanked (w .job) j
       all-blanked j h = go (blanks .each j h)
         where
           go : (passedOf (w .job) j ≡ 0) ⊎ ((passedOf (w .job) j ≡ m terms j) × (getD (w .segments) j [] ≡ blanked (w .job) j))
               → getD (w .segments) j [] ≡ blanked (w .job) j
-          go (inl z) = absurd (omega (arith, ready-passed shaped ready j h, segment-some (N terms) (terms .S) (some given) j h))
+          go (inl z) = absurd (omega (arith, ready-passed shaped ready unlevelled j h, segment-some (N terms) (terms .S) (some given) j h))
           go (inr z) = z .1
 
       module _ (v : ℕ) (h : v < N terms) where
@@ -160,7 +198,7 @@ module _ {terms : Terms} (given : Given terms) where
           ∙ blanked-entry (w .job) (v / terms .S) (v % terms .S) (byte-there v h)
           (λ e q. ne (cc (div-add-mod' v (terms .S), div-add-mod' (goal terms) (terms .S), goal-place, goal-offset)))
 
-      blank-spares : Spares terms (closedWorld w)
+      blank-spares : Spares terms (closedWorld w way)
       unfolding closedWorld
       blank-spares =
           record {
@@ -174,59 +212,83 @@ module _ {terms : Terms} (given : Given terms) where
                 ));
           }
 
-      counts-then : (i : ℕ) → countOf (closedWorld w .job) i ≡ getD (set (w .job .counts) 0 1) i 0
-      unfolding closedWorld closed progressed countOf nextCounts
+      counts-then : (i : ℕ) → countOf (closedWorld w way .job) i ≡ getD (set (w .job .counts) 0 1) i 0
+      unfolding closedWorld closed progressed directed countOf nextCounts
       counts-then i = ap (λ (p : Phase). getD (nextCounts (w .job .counts) p) i 0) (blanks .phase-is)
 
-      counts-later : (i : ℕ) → 0 < i → countOf (closedWorld w .job) i ≡ 0
+      counts-later : (i : ℕ) → 0 < i → countOf (closedWorld w way .job) i ≡ 0
       unfolding countOf
       counts-later i h = counts-then i ∙ getD-set-other (w .job .counts) 0 i 1 0 (λ e. omega arith) ∙ blanks .none-counted i
 
-      counts-first : countOf (closedWorld w .job) 0 ≡ 1
+      counts-first : countOf (closedWorld w way .job) 0 ≡ 1
       counts-first = counts-then 0 ∙ getD-set-same (w .job .counts) 0 1 0 (omega (arith, shaped .counts-length))
 
-      closed-blanks : Searches terms (closedWorld w) 1
-      unfolding closedWorld closed progressed nextPhase countOf
+      closed-blanks : Searches terms (closedWorld w way) 1
+      unfolding closedWorld closed progressed directed nextPhase countOf
       closed-blanks =
-          let none : (j : ℕ) → waitingOf (closedWorld w .job) j ≡ 0 = λ j. closed-waiting w j ∙ blanks .none-waits j in
+          let none : (j : ℕ) → waitingOf (closedWorld w way .job) j ≡ 0 = λ j. closed-waiting w way j ∙ blanks .none-waits j in
           record {
             phase-is = ap (nextPhase (w .job .counts)) (blanks .phase-is);
             last = first-level;
             before = (goal terms, goal-here given, ap suc (depths given .goal));
-            passed-fits = λ j. omega (arith, closed-passed w j);
+            passed-fits = λ j. omega (arith, closed-passed w way j);
             waiting-fits = λ j. omega (arith, none j);
             waiting-beyond = λ j h. none j;
             offsets = λ t i h l. absurd (omega (arith, none t));
-            level = Levels.level-start (depths given) blank-start blank-away (λ u v g h l. no-look terms w u v l) (no-log-after terms w (blanks .none-waits));
+            level = Levels.level-start (depths given) blank-start blank-away (λ u v g h l. no-look terms w way u v l) (no-log-after terms w way (blanks .none-waits));
             spares = blank-spares;
-            counts-below = λ i h. subst (λ (x : ℕ). countOf (closedWorld w .job) x ≡ levelCount terms x)
+            counts-below = λ i h. subst (λ (x : ℕ). countOf (closedWorld w way .job) x ≡ levelCount terms x)
                 (let e : 0 ≡ i = omega arith in e)
                 (counts-first ∙ sym (found-goal (λ v. true) (depths given) (goal-here given)));
             counts-here = counts-later 1 (omega arith) ∙ sym (found-start (λ v. true) (depths given) blank-away);
             counts-above = λ i h. counts-later i (omega arith);
+            idle = λ r. none;
+            listed = λ r l. absurd (omega (arith, few given, closed-loaded w way));
           }
 
-    -- a level that is ready has been searched whole
+  -- a level that is ready has been searched whole, whichever way
 
-    module _ {d : ℕ} (search : Searches terms w d) where
-      all-settled : (j : ℕ) → waitingOf (w .job) j ≡ 0
-      all-settled j = go (lt-or-ge j (G terms))
-        where
-          go : (j < G terms) ⊎ (G terms ≤ j) → waitingOf (w .job) j ≡ 0
-          go (inl h) = ready-waiting shaped ready j h
-          go (inr h) = search .waiting-beyond j h
+  module _ {w : World} (shaped : Shaped terms w) (ready : isReady (w .job) ≡ true) {d : ℕ} (search : Searches terms w d) where
+    levelled : isLevel (w .job .phase) ≡ true
+    unfolding isLevel
+    levelled = ap isLevel (search .phase-is)
 
-      pub ready-complete : Complete terms w d
-      unfolding Looked
-      ready-complete =
-          record {
-            none-waits = all-settled;
-            reached = Levels.reached-forward (depths given) (search .level .positive) (omega (arith, search .last))
-                (λ u k h e m. (
-                  rw (ready-passed shaped ready (u / terms .S) (stack-segment (N terms) (terms .S) (some given) u h)) (stack-offset (N terms) (terms .S) (some given) u h),
-                  (k, m, refl),
-                ));
-          }
+    pub ready-forward : isReverse (w .job .way) ≡ false → (j : ℕ) → j < G terms → passedOf (w .job) j ≡ m terms j
+    ready-forward forward = ready-passed shaped ready (not-reverse forward)
+      where
+        not-reverse : isReverse (w .job .way) ≡ false → inReverse (w .job) ≡ false
+        not-reverse h = not-is-false (inReverse (w .job)) (λ r. never (reverse-level (w .job) r .1) h)
+
+    pub ready-reverse : isReverse (w .job .way) ≡ true → (b j : ℕ) → b < G terms → j < G terms → isSwept (w .job) b j ≡ true
+    ready-reverse reverse = ready-swept shaped ready (level-reverse (w .job) levelled reverse)
+
+    all-settled : (j : ℕ) → waitingOf (w .job) j ≡ 0
+    all-settled j = go (test-cases (isReverse (w .job .way))) (lt-or-ge j (G terms))
+      where
+        go : (isReverse (w .job .way) ≡ true) ⊎ (isReverse (w .job .way) ≡ false) → (j < G terms) ⊎ (G terms ≤ j) → waitingOf (w .job) j ≡ 0
+        go (inl reverse) h = search .idle reverse j
+        go (inr forward) (inl h) =
+            ready-waiting shaped ready (not-is-false (inReverse (w .job)) (λ r. never (reverse-level (w .job) r .1) forward)) j h
+        go (inr forward) (inr h) = search .waiting-beyond j h
+
+    pub ready-complete : Complete terms w d
+    unfolding Looked
+    ready-complete =
+        record {
+          none-waits = all-settled;
+          reached = Levels.reached-forward (depths given) (search .level .positive) (omega (arith, search .last))
+              (λ u k h e m. (met u k h m (test-cases (isReverse (w .job .way))), (k, m, refl)));
+        }
+      where
+        home : (u : ℕ) → u < N terms → u / terms .S < G terms
+        home u h = stack-segment (N terms) (terms .S) (some given) u h
+
+        met : (u k : ℕ) → u < N terms → isMove (moves terms) k ≡ true → (isReverse (w .job .way) ≡ true) ⊎ (isReverse (w .job .way) ≡ false)
+            → (u % terms .S < passedOf (w .job) (u / terms .S)) ⊎ (isSwept (w .job) (u / terms .S) (step terms k u / terms .S) ≡ true)
+        met u k h m (inl reverse) =
+            inr (ready-reverse reverse (u / terms .S) (step terms k u / terms .S) (home u h) (home (step terms k u) (depths given .graph .inside k u m h)))
+        met u k h m (inr forward) =
+            inl (rw (ready-forward forward (u / terms .S) (home u h)) (stack-offset (N terms) (terms .S) (some given) u h))
 
   -- ---- from a level to the next, or to the end, however it was searched
 
@@ -234,23 +296,6 @@ module _ {terms : Terms} (given : Given terms) where
     -- the level's count is complete
     pub count-whole : countOf (w .job) d ≡ levelCount terms d
     count-whole = search .counts-here ∙ found-all (λ v. true) (search .level) (no-log terms w (complete .none-waits)) (complete .reached)
-
-    -- a level's Close leaves the counts of the levels up to it, and 0 above
-    closed-counts : (i : ℕ) → i ≤ d → countOf (closedWorld w .job) i ≡ levelCount terms i
-    unfolding closedWorld closed progressed countOf nextCounts
-    closed-counts i l = ap (λ (p : Phase). getD (nextCounts (w .job .counts) p) i 0) (search .phase-is) ∙ go (eq-or-ne i d)
-      where
-        go : (i ≡ d) ⊎ (i ≡ d → ⊥) → countOf (w .job) i ≡ levelCount terms i
-        go (inl e) = subst (λ (x : ℕ). countOf (w .job) x ≡ levelCount terms x) (sym e) count-whole
-        go (inr ne) = search .counts-below i (omega arith)
-
-    closed-above : (i : ℕ) → d < i → countOf (closedWorld w .job) i ≡ 0
-    unfolding closedWorld closed progressed countOf nextCounts
-    closed-above i l = ap (λ (p : Phase). getD (nextCounts (w .job .counts) p) i 0) (search .phase-is) ∙ search .counts-above i l
-
-    level-spares : Spares terms (closedWorld w)
-    unfolding closedWorld
-    level-spares = record { spare = search .spares .spare }
 
     -- where the level's count is not 0 some stack is at that depth
     level-some : (countOf (w .job) d ≡ 0 → ⊥) → (v : ℕ) × (v < N terms) × (D terms v ≡ d)
@@ -266,28 +311,6 @@ module _ {terms : Terms} (given : Given terms) where
         go : (d ≡ lastLevel) ⊎ (d ≡ lastLevel → ⊥) → suc d ≤ lastLevel
         go (inl e) = absurd (ne (ap (countOf (w .job)) e ∙ past-facts (w .job) unpast (ap levelOf (search .phase-is) ∙ e)))
         go (inr e) = omega (arith, search .last)
-
-    closed-next : isPastLast (w .job) ≡ false → (countOf (w .job) d ≡ 0 → ⊥) → Searches terms (closedWorld w) (suc d)
-    unfolding closedWorld closed progressed nextPhase countOf
-    closed-next unpast ne =
-        let v = level-some ne in
-        let none : (j : ℕ) → waitingOf (closedWorld w .job) j ≡ 0 = λ j. closed-waiting w j ∙ complete .none-waits j in
-        record {
-          phase-is = ap (nextPhase (w .job .counts)) (search .phase-is)
-              ∙ ap (λ (t : Bool). cond t (Finished (d - 1)) (Level (d + 1))) (ne-eqb (countOf (w .job) d) 0 ne)
-              ∙ ap Level (add-one d);
-          last = below-last unpast ne;
-          before = (v .0, v .1, ap suc (v .2));
-          passed-fits = λ j. omega (arith, closed-passed w j);
-          waiting-fits = λ j. omega (arith, none j);
-          waiting-beyond = λ j h. none j;
-          offsets = λ t i h l. absurd (omega (arith, none t));
-          level = Levels.level-close (search .level) (no-log terms w (complete .none-waits)) (complete .reached) (λ u v g h l. no-look terms w u v l) (no-log-after terms w (complete .none-waits));
-          spares = level-spares;
-          counts-below = λ i h. closed-counts i (omega arith);
-          counts-here = closed-above (suc d) (omega arith) ∙ sym (found-next (λ v. true) (search .level));
-          counts-above = λ i h. closed-above i (omega arith);
-        }
 
     module _ (empty : countOf (w .job) d ≡ 0) where
       -- nothing is at depth d, so nothing is deeper
@@ -313,37 +336,81 @@ module _ {terms : Terms} (given : Given terms) where
           go (inl r) = absurd (omega (arith, r .0, far, search .last))
           go (inr r) = r .1
 
-      closed-last : Ended terms (closedWorld w) (d - 1)
-      unfolding closedWorld closed progressed nextPhase countOf
-      closed-last =
-          let v = search .before in
+    -- with the way that Close is told
+    module _ (way : Way) where
+      -- a level's Close leaves the counts of the levels up to it, and 0 above
+      pub closed-counts : (i : ℕ) → i ≤ d → countOf (closedWorld w way .job) i ≡ levelCount terms i
+      unfolding closedWorld closed progressed directed countOf nextCounts
+      closed-counts i l = ap (λ (p : Phase). getD (nextCounts (w .job .counts) p) i 0) (search .phase-is) ∙ go (eq-or-ne i d)
+        where
+          go : (i ≡ d) ⊎ (i ≡ d → ⊥) → countOf (w .job) i ≡ levelCount terms i
+          go (inl e) = subst (λ (x : ℕ). countOf (w .job) x ≡ levelCount terms x) (sym e) count-whole
+          go (inr ne) = search .counts-below i (omega arith)
+
+      pub closed-above : (i : ℕ) → d < i → countOf (closedWorld w way .job) i ≡ 0
+      unfolding closedWorld closed progressed directed countOf nextCounts
+      closed-above i l = ap (λ (p : Phase). getD (nextCounts (w .job .counts) p) i 0) (search .phase-is) ∙ search .counts-above i l
+
+      level-spares : Spares terms (closedWorld w way)
+      unfolding closedWorld
+      level-spares = record { spare = search .spares .spare }
+
+      closed-next : isPastLast (w .job) ≡ false → (countOf (w .job) d ≡ 0 → ⊥) → Searches terms (closedWorld w way) (suc d)
+      unfolding closedWorld closed progressed directed nextPhase countOf
+      closed-next unpast ne =
+          let v = level-some ne in
+          let none : (j : ℕ) → waitingOf (closedWorld w way .job) j ≡ 0 = λ j. closed-waiting w way j ∙ complete .none-waits j in
           record {
             phase-is = ap (nextPhase (w .job .counts)) (search .phase-is)
-                ∙ ap (λ (t : Bool). cond t (Finished (d - 1)) (Level (d + 1))) (eq-eqb (countOf (w .job) d) 0 empty);
-            last = omega (arith, search .last, search .level .positive);
-            none-passed = closed-passed w;
-            none-waits = λ j. closed-waiting w j ∙ complete .none-waits j;
-            entries = λ v h near. all-above v h near .1;
-            unreached = all-beyond;
-            greatest = λ v h near. omega (arith, all-above v h near .0);
+                ∙ ap (λ (t : Bool). cond t (Finished (d - 1)) (Level (d + 1))) (ne-eqb (countOf (w .job) d) 0 ne)
+                ∙ ap Level (add-one d);
+            last = below-last unpast ne;
+            before = (v .0, v .1, ap suc (v .2));
+            passed-fits = λ j. omega (arith, closed-passed w way j);
+            waiting-fits = λ j. omega (arith, none j);
+            waiting-beyond = λ j h. none j;
+            offsets = λ t i h l. absurd (omega (arith, none t));
+            level = Levels.level-close (search .level) (no-log terms w (complete .none-waits)) (complete .reached) (λ u v g h l. no-look terms w way u v l) (no-log-after terms w way (complete .none-waits));
             spares = level-spares;
-            counts = λ i near. go i near (lt-or-ge d i);
-            counts-past = λ i l. past i (lt-or-ge d i) l;
-            deepest = (v .0, v .1, omega (arith, v .2));
+            counts-below = λ i h. closed-counts i (omega arith);
+            counts-here = closed-above (suc d) (omega arith) ∙ sym (found-next (λ v. true) (search .level));
+            counts-above = λ i h. closed-above i (omega arith);
+            idle = λ r. none;
+            listed = λ r l. absurd (omega (arith, few given, closed-loaded w way));
           }
-        where
-          go : (i : ℕ) → i < beyond → (d < i) ⊎ (i ≤ d) → countOf (closedWorld w .job) i ≡ levelCount terms i
-          go i near (inl h) =
-              closed-above i h
-              ∙ sym (tally-none (λ v. eqb (D terms v) i) (N terms) (λ v l. ne-eqb (D terms v) i (λ q. omega (arith, all-above v l (omega arith) .0))))
-          go i near (inr h) = closed-counts i h
 
-          -- the level that closed is empty, and so is each above it
-          past : (i : ℕ) → (d < i) ⊎ (i ≤ d) → d - 1 < i → countOf (closedWorld w .job) i ≡ 0
-          past i (inl h) l = closed-above i h
-          past i (inr h) l =
-              let e : i ≡ d = omega (arith, search .level .positive) in
-              subst (λ (x : ℕ). countOf (closedWorld w .job) x ≡ 0) (sym e) (closed-counts d (le-refl d) ∙ sym count-whole ∙ empty)
+      module _ (empty : countOf (w .job) d ≡ 0) where
+        closed-last : Ended terms (closedWorld w way) (d - 1)
+        unfolding closedWorld closed progressed directed nextPhase countOf
+        closed-last =
+            let v = search .before in
+            record {
+              phase-is = ap (nextPhase (w .job .counts)) (search .phase-is)
+                  ∙ ap (λ (t : Bool). cond t (Finished (d - 1)) (Level (d + 1))) (eq-eqb (countOf (w .job) d) 0 empty);
+              last = omega (arith, search .last, search .level .positive);
+              none-passed = closed-passed w way;
+              none-waits = λ j. closed-waiting w way j ∙ complete .none-waits j;
+              entries = λ v h near. all-above empty v h near .1;
+              unreached = all-beyond empty;
+              greatest = λ v h near. omega (arith, all-above empty v h near .0);
+              spares = level-spares;
+              counts = λ i near. go i near (lt-or-ge d i);
+              counts-past = λ i l. past i (lt-or-ge d i) l;
+              deepest = (v .0, v .1, omega (arith, v .2));
+            }
+          where
+            go : (i : ℕ) → i < beyond → (d < i) ⊎ (i ≤ d) → countOf (closedWorld w way .job) i ≡ levelCount terms i
+            go i near (inl h) =
+                closed-above i h
+                ∙ sym (tally-none (λ v. eqb (D terms v) i) (N terms) (λ v l. ne-eqb (D terms v) i (λ q. omega (arith, all-above empty v l (omega arith) .0))))
+            go i near (inr h) = closed-counts i h
+
+            -- the level that closed is empty, and so is each above it
+            past : (i : ℕ) → (d < i) ⊎ (i ≤ d) → d - 1 < i → countOf (closedWorld w way .job) i ≡ 0
+            past i (inl h) l = closed-above i h
+            past i (inr h) l =
+                let e : i ≡ d = omega (arith, search .level .positive) in
+                subst (λ (x : ℕ). countOf (closedWorld w way .job) x ≡ 0) (sym e) (closed-counts d (le-refl d) ∙ sym count-whole ∙ empty)
 
 -- ---- whatever the phase
 
@@ -353,34 +420,37 @@ next-counts-length counts Blanking = length-set counts 0 1
 next-counts-length counts (Level d) = refl
 next-counts-length counts (Finished d) = refl
 
-closed-shaped : {terms : Terms} {w : World} → Shaped terms w → Shaped terms (closedWorld w)
-unfolding closedWorld closed progressed
-closed-shaped {w} shaped =
+closed-shaped : {terms : Terms} {w : World} (way : Way) → Shaped terms w → Shaped terms (closedWorld w way)
+unfolding closedWorld closed progressed directed
+closed-shaped {terms} {w} way shaped =
     record {
       terms-is = shaped .terms-is;
       passed-length = refl;
       waiting-length = shaped .waiting-length;
+      swept-length = refl;
       counts-length = next-counts-length (w .job .counts) (w .job .phase) ∙ shaped .counts-length;
       segments-length = shaped .segments-length;
       segment-bytes = shaped .segment-bytes;
       log-length = shaped .log-length;
+      loaded-fits = inl refl;
+      swept-fits = none-swept (closedWorld w way .job) (G terms) (closed-swept w way);
     }
 
-pub close-keeps : {terms : Terms} {w : World} → Given terms → Invariant terms w
-    → closeRefusal (w .job) ≡ 0 → Invariant terms (closedWorld w)
+pub close-keeps : {terms : Terms} {w : World} (way : Way) → Given terms → Invariant terms w
+    → closeRefusal (w .job) ≡ 0 → Invariant terms (closedWorld w way)
 unfolding isFinished
-close-keeps {terms} {w} given invariant h =
-    record { shaped = closed-shaped (invariant .shaped); phase = go (invariant .phase) }
+close-keeps {terms} {w} way given invariant h =
+    record { shaped = closed-shaped way (invariant .shaped); phase = go (invariant .phase) }
   where
     facts : CloseFacts (w .job)
     facts = close-facts (w .job) h
 
-    level : (d : ℕ) → Searches terms w d → (countOf (w .job) d ≡ 0) ⊎ (countOf (w .job) d ≡ 0 → ⊥) → InPhase terms (closedWorld w)
-    level d s (inl e) = ended (d - 1) (closed-last given s (ready-complete given (invariant .shaped) (facts .ready) s) e)
-    level d s (inr ne) = searching (suc d) (closed-next given s (ready-complete given (invariant .shaped) (facts .ready) s) (facts .fits) ne)
+    level : (d : ℕ) → Searches terms w d → (countOf (w .job) d ≡ 0) ⊎ (countOf (w .job) d ≡ 0 → ⊥) → InPhase terms (closedWorld w way)
+    level d s (inl e) = ended (d - 1) (closed-last given s (ready-complete given (invariant .shaped) (facts .ready) s) way e)
+    level d s (inr ne) = searching (suc d) (closed-next given s (ready-complete given (invariant .shaped) (facts .ready) s) way (facts .fits) ne)
 
-    go : InPhase terms w → InPhase terms (closedWorld w)
-    go (blanking s) = searching 1 (closed-blanks given (invariant .shaped) (facts .ready) s)
+    go : InPhase terms w → InPhase terms (closedWorld w way)
+    go (blanking s) = searching 1 (closed-blanks given way (invariant .shaped) (facts .ready) s)
     go (searching d s) = level d s (eq-or-ne (countOf (w .job) d) 0)
     go (ended d s) = never (ap isFinished (s .phase-is)) (facts .unfinished)
 
@@ -430,12 +500,17 @@ module _ {terms : Terms} {w : World} (given : Given terms) (invariant : Invarian
       go (searching d s) = subst (Searches terms w) (sym (ap levelOf (s .phase-is)) ∙ at-last) s
       go (ended d s) = absurd (omega (arith, ap levelOf (s .phase-is), at-last, s .last))
 
+  last-ready : isReady (w .job) ≡ true
+  last-ready = refused-14 (w .job) h .0
+
+  pub last-complete : Complete terms w lastLevel
+  last-complete = ready-complete given (invariant .shaped) last-ready last-searches
+
   pub last-deep : (v : ℕ) × (v < N terms) × (D terms v ≡ lastLevel)
-  last-deep =
-      level-some given last-searches (ready-complete given (invariant .shaped) (refused-14 (w .job) h .0) last-searches) some-last
+  last-deep = level-some given last-searches last-complete some-last
 
-  pub last-passed : (j : ℕ) → j < G terms → passedOf (w .job) j ≡ m terms j
-  last-passed = ready-passed (invariant .shaped) (refused-14 (w .job) h .0)
+  pub last-passed : isReverse (w .job .way) ≡ false → (j : ℕ) → j < G terms → passedOf (w .job) j ≡ m terms j
+  last-passed = ready-forward given (invariant .shaped) last-ready last-searches
 
-  pub last-settled : (j : ℕ) → waitingOf (w .job) j ≡ 0
-  last-settled = ready-complete given (invariant .shaped) (refused-14 (w .job) h .0) last-searches .none-waits
+  pub last-swept : isReverse (w .job .way) ≡ true → (b j : ℕ) → b < G terms → j < G terms → isSwept (w .job) b j ≡ true
+  last-swept = ready-reverse given (invariant .shaped) last-ready last-searches

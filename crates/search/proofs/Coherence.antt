@@ -3,19 +3,19 @@ use mathlib.Core.Path.{_≡_}
 use mathlib.Core.Logic.{_⊎_, inl, inr}
 use mathlib.Core.Bool.{true, _&&_, cond}
 use mathlib.Core.List.{List}
-use Prim.Native.Nat.{ℕ, _-_, _≤_, _<_}
+use Prim.Native.Nat.{ℕ, _-_, _^_, _≤_, _<_}
 use native.Mathlib.Omega.{arith}
 use lib.Dec.{leb, ltb, eqb}
 use lib.IntN.{ℤ}
 use lib.ListN.{length, getD, List·getD-eq-default}
-use borrow.Author.Tests.{leb-true, le-leb, eqb-true, eq-eqb}
+use borrow.Author.Tests.{leb-true, le-leb, ltb-true, lt-ltb, eqb-true, eq-eqb}
 use Rattle.base.specs.Words.{unless, all, from}
 use Rattle.base.proofs.Counting.{all-at, at-all, all-below, below-all}
 use Rattle.base.proofs.Tests.{unless-zero, and-left, and-right, and-both, lt-or-ge}
 use Rattle.stacks.specs.Operations.{kindRefusal}
 use Rattle.stacks.specs.Turn.{isGroupSet}
 use Rattle.stacks.specs.Stack.{isKind, isPaneCount, isStack, stackCount}
-use Rattle.search.specs.JobState.{countLimit, beginRefusal, segmentCountOf, stackCountAt, passedOf, waitingOf, countOf, phaseFits, segmentFits, countFits, isCoherent}
+use Rattle.search.specs.JobState.{countLimit, beginRefusal, segmentCountOf, stackCountAt, passedOf, waitingOf, countOf, phaseFits, segmentFits, countFits, isCoherent, sweptOf, sweptFits, loadedFits}
 use Rattle.search.specs.Segments.{segmentLimit, isSegmentSize, isLogRoom}
 use Rattle.search.specs.declared.Job.{Job}
 use Rattle.search.proofs.Terms.{Terms, termsWith, Given}
@@ -48,16 +48,21 @@ pub record Coherent (job : Job) : Type 0 where
   pub passed-fits : (j : ℕ) → j < segmentLimit → passedOf job j ≤ stackCountAt job j
   pub waiting-fits : (j : ℕ) → j < segmentLimit → waitingOf job j ≤ cond (ltb j (segmentCountOf job)) (job .room) 0
   pub counts-fit : (d : ℕ) → countOf job d ≤ countLimit
+  pub loaded-fits : loadedFits job ≡ true
+  pub swept-fits : (b : ℕ) → b < segmentLimit → sweptOf job b < cond (ltb b (segmentCountOf job)) (2 ^ segmentCountOf job) 1
 
 module _ (job : Job) where
   pub coherent-facts : isCoherent job ≡ true → Coherent job
-  unfolding isCoherent segmentFits countFits countOf
+  unfolding isCoherent segmentFits countFits countOf sweptFits
   coherent-facts h =
       let begins = eqb (beginRefusal (job .kind) (job .n) (job .wanted) (job .groups) (job .size) (job .room)) 0 in
       let phase = phaseFits (job .phase) in
       let segments = all (segmentFits job) (from 0 segmentLimit) in
       let counts = all countFits (job .counts) in
-      let three = and-left (begins && phase && segments) counts h in
+      let swept = all (sweptFits job) (from 0 segmentLimit) in
+      let five = and-left (begins && phase && segments && counts && loadedFits job) swept h in
+      let four = and-left (begins && phase && segments && counts) (loadedFits job) five in
+      let three = and-left (begins && phase && segments) counts four in
       let two = and-left (begins && phase) segments three in
       let each : (j : ℕ) → j < segmentLimit → segmentFits job j ≡ true =
       λ j l. all-below (segmentFits job) segmentLimit j (and-right (begins && phase) segments three) l in
@@ -68,7 +73,10 @@ module _ (job : Job) where
             (and-left (leb (passedOf job j) (stackCountAt job j)) (leb (waitingOf job j) (cond (ltb j (segmentCountOf job)) (job .room) 0)) (each j l));
         waiting-fits = λ j l. leb-true (waitingOf job j) (cond (ltb j (segmentCountOf job)) (job .room) 0)
             (and-right (leb (passedOf job j) (stackCountAt job j)) (leb (waitingOf job j) (cond (ltb j (segmentCountOf job)) (job .room) 0)) (each j l));
-        counts-fit = λ d. go d (and-right (begins && phase && segments) counts h) (lt-or-ge d (length (job .counts)));
+        counts-fit = λ d. go d (and-right (begins && phase && segments) counts four) (lt-or-ge d (length (job .counts)));
+        loaded-fits = and-right (begins && phase && segments && counts) (loadedFits job) five;
+        swept-fits = λ b l. ltb-true (sweptOf job b) (cond (ltb b (segmentCountOf job)) (2 ^ segmentCountOf job) 1)
+            (all-below (sweptFits job) segmentLimit b (and-right (begins && phase && segments && counts && loadedFits job) swept h) l);
       }
     where
       go : (d : ℕ) → all countFits (job .counts) ≡ true → (d < length (job .counts)) ⊎ (length (job .counts) ≤ d) → getD (job .counts) d 0 ≤ countLimit
@@ -76,17 +84,23 @@ module _ (job : Job) where
       go d h (inr l) = rw (List·getD-eq-default (job .counts) 0 l) (omega arith)
 
   pub facts-coherent : Coherent job → isCoherent job ≡ true
-  unfolding isCoherent segmentFits countFits countOf
+  unfolding isCoherent segmentFits countFits countOf sweptFits
   facts-coherent c =
       let begins = eqb (beginRefusal (job .kind) (job .n) (job .wanted) (job .groups) (job .size) (job .room)) 0 in
       let phase = phaseFits (job .phase) in
       let segments = all (segmentFits job) (from 0 segmentLimit) in
       let counts = all countFits (job .counts) in
-      and-both (begins && phase && segments) counts
+      let swept = all (sweptFits job) (from 0 segmentLimit) in
+      and-both (begins && phase && segments && counts && loadedFits job) swept
+      (and-both (begins && phase && segments && counts) (loadedFits job)
+      (and-both (begins && phase && segments) counts
       (and-both (begins && phase) segments
       (and-both begins phase (eq-eqb (beginRefusal (job .kind) (job .n) (job .wanted) (job .groups) (job .size) (job .room)) 0 (c .begins)) (c .phase-fits))
       (below-all (segmentFits job) segmentLimit
       (λ j l. and-both (leb (passedOf job j) (stackCountAt job j)) (leb (waitingOf job j) (cond (ltb j (segmentCountOf job)) (job .room) 0))
       (le-leb (passedOf job j) (stackCountAt job j) (c .passed-fits j l))
       (le-leb (waitingOf job j) (cond (ltb j (segmentCountOf job)) (job .room) 0) (c .waiting-fits j l)))))
-      (at-all countFits (job .counts) 0 (λ d l. le-leb (getD (job .counts) d 0) countLimit (c .counts-fit d)))
+      (at-all countFits (job .counts) 0 (λ d l. le-leb (getD (job .counts) d 0) countLimit (c .counts-fit d))))
+      (c .loaded-fits))
+      (below-all (sweptFits job) segmentLimit
+      (λ b l. lt-ltb (sweptOf job b) (cond (ltb b (segmentCountOf job)) (2 ^ segmentCountOf job) 1) (c .swept-fits b l)))

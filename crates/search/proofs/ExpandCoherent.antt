@@ -13,7 +13,7 @@ use Rattle.base.proofs.Tests.{eq-or-ne}
 use Rattle.graph.proofs.Tally.{tally-le}
 use Rattle.search.specs.Entries.{entryAt, bytesFor}
 use Rattle.search.specs.Expand.{Expansion, placeChild, placeAll, passOne, waitFor, expandNext, expandRun, expansion, expandedJob, expandRefusal, expandOf}
-use Rattle.search.specs.JobState.{countLimit, levelOf, segmentCountOf, stackCountAt, stackCountOf, movesOf, passedOf, waitingOf, countOf, isCoherent, progressed}
+use Rattle.search.specs.JobState.{countLimit, levelOf, segmentCountOf, stackCountAt, stackCountOf, movesOf, passedOf, waitingOf, countOf, isCoherent, progressed, sweptOf, isLoaded, loadedFits}
 use Rattle.search.specs.Segments.{segmentLimit}
 use Rattle.search.specs.Logs.{logOne, fallingIn, lacksRoom}
 use Rattle.search.specs.Marks.{marksFrom}
@@ -217,7 +217,7 @@ module _ (job : Job) (coherent : isCoherent job ≡ true) (j : ℕ) (inside : j 
 
     expanded-coherent : countOf job (levelOf (job .phase)) + stackCountAt job j ≤ countLimit
         → isCoherent (expandedJob job j (expansion job j segment log)) ≡ true
-    unfolding expandedJob progressed passedOf waitingOf countOf stackCountAt stackCountOf segmentCountOf
+    unfolding expandedJob progressed passedOf waitingOf sweptOf countOf stackCountAt stackCountOf segmentCountOf loadedFits isLoaded
     expanded-coherent room =
         let e = expansion job j segment log in
         let f = end-fitting in
@@ -230,6 +230,8 @@ module _ (job : Job) (coherent : isCoherent job ≡ true) (j : ℕ) (inside : j 
           counts-fit = λ d. set-fits (job .counts) (levelOf (job .phase)) (e .marks .count) d countLimit
               (λ q. omega (arith, f .budget, tally-le (λ i. eqb (entryAt segment i) 3) (stackCountAt job j)))
               (facts .counts-fit d);
+          loaded-fits = facts .loaded-fits;
+          swept-fits = facts .swept-fits;
         })
 
 pub expand-coherent : (job : Job) → isCoherent job ≡ true → (j : ℕ) (segment log : List ℕ)

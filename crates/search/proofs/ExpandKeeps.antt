@@ -17,7 +17,7 @@ use Rattle.search.specs.Expand.{Expansion, isParent, childrenOf, placeCh
 use Rattle.search.specs.JobState.{stackCountOf, segmentCountOf, stackCountAt, levelOf, passedOf, countOf}
 use Rattle.search.specs.Logs.{logOne, fallingIn, lacksRoom}
 use Rattle.search.specs.declared.Expanded.{Expanded}
-use Rattle.search.proofs.Accepted.{expand-facts, expand-accepted}
+use Rattle.search.proofs.Accepted.{forward-level, expand-facts, expand-accepted}
 use Rattle.search.proofs.Children.{child-listed, listed-child, children-inside}
 use Rattle.search.proofs.ExpandCases.{first-before, room-enough, falling-here, falling-elsewhere, place-here, place-elsewhere, place-at, NextCase, stopped, skipped, blocked, expanded, next-case, next-at, nextWait}
 use Rattle.search.proofs.Invariant.{entryIn}
@@ -226,7 +226,8 @@ module _ (w : World) (given : Given (termsOf (w .job))) (search : Searching (ter
       let e = expansion (w .job) j (getD (w .segments) j []) (w .log) in
       subst (λ (x : World). Searching terms x d)
       (sym (ap leaves (expand-accepted (w .job) j (getD (w .segments) j []) (w .log) accepted)))
-      (stage-end given search j inside expansion-going)
+      (stage-end given search j inside expansion-going
+      (λ r. never r (forward-level (w .job) (expand-facts (w .job) j (length (getD (w .segments) j [])) (length (w .log)) accepted .0 .called .in-phase) .1)))
     where
       leaves : List ℕ × List ℕ × Expanded → World
       leaves o = withJob (o .2 .job) (withLog (o .1) (withSegment j (o .0) w))

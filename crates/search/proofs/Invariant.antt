@@ -2,12 +2,14 @@
 --   Shaped      the job has the terms that Begin was given, and every array and buffer its right length
 --   Blanks      in Blanking: each segment is untouched or blanked
 --   Searches    in Level d: the level invariant of the search, with a log that holds what it says
+--   Listing     in a reverse level: the changed list is that of the loaded segment
 --   Ended       in Finished: every entry and count is right
 use mathlib.Core.Path.{_≡_}
 use mathlib.Core.Logic.{_⊎_}
-use mathlib.Core.Bool.{true}
+use mathlib.Core.Bool.{Bool, true, _&&_, cond}
 use mathlib.Core.List.{List, []}
-use Prim.Native.Nat.{ℕ, suc, _+_, _*_, _/_, _%_, _≤_, _<_}
+use Prim.Native.Nat.{ℕ, suc, _+_, _-_, _*_, _/_, _%_, _^_, _≤_, _<_}
+use lib.Dec.{ltb, eqb}
 use lib.ListN.{length, getD}
 use Rattle.base.specs.Words.{tally, from}
 use Rattle.graph.specs.Walks.{isMove}
@@ -15,8 +17,9 @@ use Rattle.graph.proofs.Levels as Levels
 use Rattle.graph.proofs.Counts.{found}
 use Rattle.search.specs.Blank.{blanked}
 use Rattle.search.specs.Build.{World}
+use Rattle.search.specs.Changed.{listBytes, bitAt}
 use Rattle.search.specs.Entries.{entryAt, bytesFor}
-use Rattle.search.specs.JobState.{passedOf, waitingOf, countOf, lastLevel, countPlaces}
+use Rattle.search.specs.JobState.{passedOf, waitingOf, countOf, sweptOf, isSwept, isReverse, lastLevel, noSegment, countPlaces}
 use Rattle.search.specs.Segments.{segmentLimit}
 use Rattle.search.specs.declared.Job.{Job}
 use Rattle.search.specs.declared.Phase.the-variants.{Blanking, Level, Finished}
@@ -26,10 +29,15 @@ use Rattle.search.proofs.Terms.{Terms, termsOf, N, G, m, moves, step, b
 unfoldable pub entryIn : ℕ → List (List ℕ) → ℕ → ℕ
 entryIn S segments v = entryAt (getD segments (v / S) []) (v % S)
 
--- in this level, stack u was passed and has child v
+-- in this level, stack u was passed, or its segment is swept by v's, and it has child v
 unfoldable pub Looked : Terms → Job → ℕ → ℕ → Type 0
 Looked terms job u v =
-    (u % terms .S < passedOf job (u / terms .S)) × ((k : ℕ) × (isMove (moves terms) k ≡ true) × (step terms k u ≡ v))
+    ((u % terms .S < passedOf job (u / terms .S)) ⊎ (isSwept job (u / terms .S) (v / terms .S) ≡ true))
+    × ((k : ℕ) × (isMove (moves terms) k ≡ true) × (step terms k u ≡ v))
+
+-- a stack of this depth has the entry of the level before d
+unfoldable pub isDue : ℕ → ℕ → Bool
+isDue d depth = ltb depth d && eqb (depth % 3) ((d - 1) % 3)
 
 -- stack v waits in the log of its segment
 unfoldable pub Logged : Terms → World → ℕ → Type 0
@@ -42,10 +50,14 @@ module _ (terms : Terms) where
     pub terms-is : termsOf (w .job) ≡ terms
     pub passed-length : length (w .job .passed) ≡ segmentLimit
     pub waiting-length : length (w .job .waiting) ≡ segmentLimit
+    pub swept-length : length (w .job .swept) ≡ segmentLimit
     pub counts-length : length (w .job .counts) ≡ countPlaces
     pub segments-length : length (w .segments) ≡ G terms
     pub segment-bytes : (j : ℕ) → j < G terms → length (getD (w .segments) j []) ≡ bytesFor (m terms j)
     pub log-length : length (w .log) ≡ G terms * terms .C
+    -- nothing of G or above is loaded or swept
+    pub loaded-fits : (w .job .loaded ≡ noSegment) ⊎ (w .job .loaded < G terms)
+    pub swept-fits : (b : ℕ) → sweptOf (w .job) b < cond (ltb b (G terms)) (2 ^ G terms) 1
 
   -- the spare entries of each segment's last byte are 3
   pub record Spares (w : World) : Type 0 where
@@ -58,6 +70,10 @@ module _ (terms : Terms) where
     pub none-beyond : (j : ℕ) → G terms ≤ j → passedOf (w .job) j ≡ 0
     pub each : (j : ℕ) → j < G terms
         → (passedOf (w .job) j ≡ 0) ⊎ ((passedOf (w .job) j ≡ m terms j) × (getD (w .segments) j [] ≡ blanked (w .job) j))
+
+  pub record Listing (w : World) (d : ℕ) : Type 0 where
+    pub long : length (w .changed) ≡ listBytes (m terms (w .job .loaded))
+    pub bits : (i : ℕ) → i < m terms (w .job .loaded) → bitAt (w .changed) i ≡ isDue d (D terms (w .job .loaded * terms .S + i))
 
   pub record Searches (w : World) (d : ℕ) : Type 0 where
     pub phase-is : w .job .phase ≡ Level d
@@ -74,6 +90,9 @@ module _ (terms : Terms) where
     pub counts-below : (i : ℕ) → i < d → countOf (w .job) i ≡ levelCount terms i
     pub counts-here : countOf (w .job) d ≡ tally (found (λ v. true) (D terms) d (entryIn (terms .S) (w .segments))) (from 0 (N terms))
     pub counts-above : (i : ℕ) → d < i → countOf (w .job) i ≡ 0
+    -- in a reverse level nothing waits, and what is loaded is listed
+    pub idle : isReverse (w .job .way) ≡ true → (j : ℕ) → waitingOf (w .job) j ≡ 0
+    pub listed : isReverse (w .job .way) ≡ true → w .job .loaded < G terms → Listing w d
 
   pub record Ended (w : World) (d : ℕ) : Type 0 where
     pub phase-is : w .job .phase ≡ Finished d

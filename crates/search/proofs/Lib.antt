@@ -1,6 +1,7 @@
 -- Laws of the calls, and the whole-build theorem.
 -- entries, segments, and stacks as a graph
 pub mod EntryLaws
+pub mod ChangedLaws
 pub mod SegmentLaws
 pub mod CutLaws
 pub mod Turning
@@ -12,11 +13,13 @@ pub mod Terms
 pub mod Coherence
 pub mod Accepted
 pub mod MarkLaws
+pub mod PairLaws
 pub mod ExpandCases
 pub mod ExpandLaws
 pub mod CallsCoherent
 pub mod ExpandCoherent
 pub mod LogReads
+pub mod ListReads
 pub mod PlanLaws
 -- a build
 pub mod Invariant
@@ -26,6 +29,8 @@ pub mod Staging
 pub mod BlankKeeps
 pub mod ExpandKeeps
 pub mod SettleKeeps
+pub mod LoadKeeps
+pub mod SweepKeeps
 pub mod CloseKeeps
 pub mod Steps
 pub mod Finishing
@@ -33,6 +38,7 @@ pub mod BuildCoherent
 pub mod WorkLeft
 pub mod Advancing
 pub mod WholeBuild
+pub mod EitherWay
 pub mod AllTurns
 pub mod Driving
 pub mod WholeTable

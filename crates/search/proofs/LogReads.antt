@@ -12,7 +12,7 @@ use Rattle.base.specs.Words.{unless, all, firstFrom}
 use Rattle.base.proofs.Tests.{test-cases, lt-or-ge, eq-or-ne}
 use Rattle.search.specs.Entries.{entryAt}
 use Rattle.search.specs.Expand.{Expansion, isParent, childrenOf, placeChild, placeAll, passOne, waitFor, expandStack, expandNext, expandRun, expansion, expandedJob, expandOf, expandRefusal}
-use Rattle.search.specs.JobState.{isCoherent, isLevel, levelOf, stackCountOf, segmentCountOf, stackCountAt, movesOf, passedOf, waitingOf}
+use Rattle.search.specs.JobState.{isCoherent, inForward, levelOf, stackCountOf, segmentCountOf, stackCountAt, movesOf, passedOf, waitingOf}
 use Rattle.search.specs.Look.{lookRefusal, lookOf}
 use Rattle.search.specs.Settle.{settleRefusal, settleOf}
 use Rattle.search.specs.Logs.{indexesOf, logOne, lacksRoom, pending}
@@ -132,7 +132,7 @@ module _ (job : Job) (j : ℕ) (log log′ : List ℕ) (long : length log ≡ le
   -- Settle and Look give the same for two log areas of one length with the same stretch of segment j
   pub settle-log-own : (segment : List ℕ) → settleOf job j segment log ≡ settleOf job j segment log′
   unfolding settleOf settleRefusal levelRefusal segmentRefusal callRefusal
-  settle-log-own segment = go (test-cases (isCoherent job)) (test-cases (isLevel (job .phase))) (lt-or-ge j (segmentCountOf job))
+  settle-log-own segment = go (test-cases (isCoherent job)) (test-cases (inForward job)) (lt-or-ge j (segmentCountOf job))
     where
       by : ℕ → List ℕ → List ℕ × Answer
       by logs offsets =
@@ -142,7 +142,7 @@ module _ (job : Job) (j : ℕ) (log log′ : List ℕ) (long : length log ≡ le
           (marks .segment, record { refusal = 0; job = markedJob job (job .passed) (set (job .waiting) j 0) marks })
           (segment, record { refusal = r; job = job })
 
-      go : (isCoherent job ≡ true) ⊎ (isCoherent job ≡ false) → (isLevel (job .phase) ≡ true) ⊎ (isLevel (job .phase) ≡ false)
+      go : (isCoherent job ≡ true) ⊎ (isCoherent job ≡ false) → (inForward job ≡ true) ⊎ (inForward job ≡ false)
           → (j < segmentCountOf job) ⊎ (segmentCountOf job ≤ j) → settleOf job j segment log ≡ settleOf job j segment log′
       go (inl h) (inl g) (inl l) = λ i. by (long i) (pending-same h l i)
       go (inl h) (inl g) (inr l) = rw (h, g, le-ltb j (segmentCountOf job) l)

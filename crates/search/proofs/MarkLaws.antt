@@ -1,8 +1,8 @@
 -- Marking stacks of a segment: what it does to the entries, the spare ones among them, and to the count of the level.
-use mathlib.Core.Path.{_≡_, sym, ap, _∙_, subst}
+use mathlib.Core.Path.{_≡_, refl, sym, ap, _∙_, subst}
 use mathlib.Core.Logic.{_⊎_, inl, inr}
 use mathlib.Core.Bool.{true}
-use mathlib.Core.List.{List, []}
+use mathlib.Core.List.{List, [], _∷_, _++_}
 use Prim.Native.Nat.{ℕ, _+_, _*_, _/_, _%_, _<_, _≤_}
 use native.Mathlib.Nat.{div-add-mod'}
 use native.Mathlib.Omega.{arith}
@@ -15,7 +15,7 @@ use Rattle.graph.proofs.Counts.{found, found-mark}
 use Rattle.graph.proofs.Levels.{Level, Marked, marked-seen}
 use Rattle.search.specs.Entries.{entryAt, setEntry, bytesFor, unseen}
 use Rattle.search.specs.Segments.{stackCountIn}
-use Rattle.search.specs.Marks.{Marks, markOne}
+use Rattle.search.specs.Marks.{Marks, markOne, markAll}
 use Rattle.search.proofs.EntryLaws.{set-length, get-set-same, get-set-other, byte-inside}
 use Rattle.search.proofs.Invariant.{entryIn}
 use Rattle.search.proofs.SegmentLaws.{segment-stack-div, segment-stack-mod, stack-offset}
@@ -124,3 +124,9 @@ module _ (N S : ℕ) (some : 0 < S) (segments : List (List ℕ)) (j : ℕ) (insi
               found-mark (λ v. true) level fits near (own-entry (marks .segment) ∙ e) mark-marked,
             )
         go (inr ne) = rw (mark-seen S d v marks ne) count
+
+-- the stacks of two lists are marked one list after the other
+pub marks-append : (S d : ℕ) (xs ys : List ℕ) (marks : Marks) → markAll S d (xs ++ ys) marks ≡ markAll S d ys (markAll S d xs marks)
+unfolding markAll
+marks-append S d [] ys marks = refl
+marks-append S d (x ∷ xs) ys marks = marks-append S d xs ys (markOne S d x marks)

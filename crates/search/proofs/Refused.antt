@@ -1,24 +1,30 @@
 -- A refused call leaves the world as it was; in a build whose buffers have their right lengths, every call that is lent another buffer is
 -- refused.
 use mathlib.Core.Path.{_≡_, refl, sym, ap, _∙_}
-use mathlib.Core.Bool.{true, _&&_}
+use mathlib.Core.Bool.{Bool, true, false, _&&_, cond}
 use mathlib.Core.List.{List, []}
 use Prim.Native.Nat.{ℕ}
+use lib.Dec.{eqb}
 use lib.ListN.{length, getD, set}
 use lib.Seq.{set-getD}
+use borrow.Author.Tests.{eqb-false, ne-eqb}
 use Rattle.base.proofs.Tests.{and-both}
 use Rattle.search.specs.Blank.{blankRefusal}
-use Rattle.search.specs.Build.{World, withJob, withSegment, withLog, Lengths, Lent, Call, own, other, doBlank, doExpand, doSettle, doLook, doClose, lent, kept, isOwn, isLentOwn, outcome}
+use Rattle.search.specs.Build.{World, withJob, withSegment, withLog, withChanged, Lengths, Lent, Listed, Call, own, other, ownList, otherList, doBlank, doExpand, doSettle, doLook, doLoad, doSweep, doClose, lent, kept, lentList, isOwn, isLentOwn, outcome}
 use Rattle.search.specs.Close.{closeRefusal, closeOf}
 use Rattle.search.specs.Entries.{bytesFor}
 use Rattle.search.specs.Expand.{expandRefusal}
 use Rattle.search.specs.JobState.{stackCountAt, logLength}
 use Rattle.search.specs.Look.{lookRefusal, lookOf}
 use Rattle.search.specs.Promise.{rightBytes, rightWords}
+use Rattle.search.specs.Changed.{listBytes}
+use Rattle.search.specs.Load.{loadRefusal}
 use Rattle.search.specs.Settle.{settleRefusal}
+use Rattle.search.specs.Sweep.{sweepRefusal}
 use Rattle.search.specs.declared.Answer.{Answer}
 use Rattle.search.specs.declared.Expanded.{Expanded}
-use Rattle.search.proofs.Accepted.{LevelFacts, blank-facts, expand-facts, settle-facts, look-facts, blank-refused, blank-refusal, expand-refused, expand-refusal, settle-refused, settle-refusal, close-refused}
+use Rattle.search.specs.declared.Job.{Job}
+use Rattle.search.proofs.Accepted.{LevelFacts, blank-facts, expand-facts, settle-facts, look-facts, load-facts, sweep-facts, load-refused, load-refusal, sweep-refused, sweep-refusal, blank-refused, blank-refusal, expand-refused, expand-refusal, settle-refused, settle-refusal, close-refused}
 use Rattle.search.proofs.Invariant.{Shaped}
 use Rattle.search.proofs.Shapes.{stacks-is, area-is}
 use Rattle.search.proofs.Terms.{Terms, lengthsOf}
@@ -40,7 +46,7 @@ given-back w j segment out = withJob (out .1 .job) (withSegment j (kept segment 
 
 -- a world with all segments replaced
 abbrev withSegments : World → List (List ℕ) → World
-withSegments w segments = record { job = w .job; segments = segments; log = w .log }
+withSegments w segments = record { job = w .job; segments = segments; log = w .log; changed = w .changed }
 
 module _ {right : Lengths} (w : World) where
   -- the refusal that a call meets
@@ -51,7 +57,10 @@ module _ {right : Lengths} (w : World) where
   refusalOf (doSettle j segment log) =
       settleRefusal (w .job) j (length (lent segment (getD (w .segments) j []))) (lent log (w .log))
   refusalOf (doLook j log) = lookRefusal (w .job) j (length (lent log (w .log)))
-  refusalOf doClose = closeRefusal (w .job)
+  refusalOf (doLoad b segment list) = loadRefusal (w .job) b (length (lent segment (getD (w .segments) b []))) (length list)
+  refusalOf (doSweep j segment list) =
+      sweepRefusal (w .job) j (length (lent segment (getD (w .segments) j []))) (length (lentList (w .job) list (w .changed)))
+  refusalOf (doClose way) = closeRefusal (w .job)
 
   pub refusal-is : (call : Call right) → outcome w call .refusal ≡ refusalOf call
   unfolding outcome refusalOf lookOf closeOf
@@ -59,7 +68,9 @@ module _ {right : Lengths} (w : World) where
   refusal-is (doExpand j segment log) = expand-refusal (w .job) j (lent segment (getD (w .segments) j [])) (lent log (w .log))
   refusal-is (doSettle j segment log) = settle-refusal (w .job) j (lent segment (getD (w .segments) j [])) (lent log (w .log))
   refusal-is (doLook j log) = refl
-  refusal-is doClose = refl
+  refusal-is (doLoad b segment list) = load-refusal (w .job) b (lent segment (getD (w .segments) b [])) list
+  refusal-is (doSweep j segment list) = sweep-refusal (w .job) j (lent segment (getD (w .segments) j [])) (lentList (w .job) list (w .changed))
+  refusal-is (doClose way) = refl
 
   same-world : (call : Call right) → (refusalOf call ≡ 0 → ⊥) → outcome w call .world ≡ w
   unfolding outcome refusalOf
@@ -75,12 +86,33 @@ module _ {right : Lengths} (w : World) where
       ap (given-back w j segment) (settle-refused (w .job) j (lent segment (getD (w .segments) j [])) (lent log (w .log)) h)
       ∙ ap (withSegments w) (keeps-segment (w .segments) j segment)
   same-world (doLook j log) h = refl
-  same-world doClose h = ap (λ (o : Answer). withJob (o .job) w) (close-refused (w .job) h)
+  same-world (doLoad b segment list) h =
+      let r = loadRefusal (w .job) b (length (lent segment (getD (w .segments) b []))) (length list) in
+      ap (λ (o : List ℕ × Answer). withJob (o .1 .job) (withChanged (cond (eqb (o .1 .refusal) 0) (o .0) (w .changed)) w)) (load-refused (w .job) b (lent segment (getD (w .segments) b [])) list h)
+      ∙ ap (λ (t : Bool). withChanged (cond t list (w .changed)) w) (ne-eqb r 0 h)
+  same-world (doSweep j segment list) h =
+      ap (given-back w j segment) (sweep-refused (w .job) j (lent segment (getD (w .segments) j [])) (lentList (w .job) list (w .changed)) h)
+      ∙ ap (withSegments w) (keeps-segment (w .segments) j segment)
+  same-world (doClose way) h = ap (λ (o : Answer). withJob (o .job) w) (close-refused (w .job) way h)
 
   pub refused-same : (call : Call right) → (outcome w call .refusal ≡ 0 → ⊥) → outcome w call .world ≡ w
   refused-same call h = same-world call (λ e. h (refusal-is call ∙ e))
 
 -- ---- wrong arguments are refused
+
+-- a list of the right length is the build's own
+pub own-list : (job : Job) (list : Listed) (changed : List ℕ) → length (lentList job list changed) ≡ listBytes (stackCountAt job (job .loaded))
+    → lentList job list changed ≡ changed
+unfolding lentList
+own-list job ownList changed h = refl
+own-list job (otherList xs) changed h = go (eqb (length xs) right) refl h
+  where
+    right : ℕ
+    right = listBytes (stackCountAt job (job .loaded))
+
+    go : (t : Bool) → eqb (length xs) right ≡ t → length (cond t changed xs) ≡ right → cond t changed xs ≡ changed
+    go true e l = refl
+    go false e l = absurd (eqb-false (length xs) right e l)
 
 module _ {terms : Terms} {w : World} (shaped : Shaped terms w) where
   own-segment : (j : ℕ) (segment : Lent (lengthsOf terms .bytes j))
@@ -107,7 +139,12 @@ module _ {terms : Terms} {w : World} (shaped : Shaped terms w) where
   own-accepted (doSettle j segment log) e =
       own-both j segment log (settle-facts (w .job) j (length (lent segment (getD (w .segments) j []))) (lent log (w .log)) e .0)
   own-accepted (doLook j log) e = own-log log (look-facts (w .job) j (length (lent log (w .log))) e .1)
-  own-accepted doClose e = refl
+  own-accepted (doLoad b segment list) e =
+      own-segment b segment (load-facts (w .job) b (length (lent segment (getD (w .segments) b []))) (length list) e .long)
+  own-accepted (doSweep j segment list) e =
+      own-segment j segment
+      (sweep-facts (w .job) j (length (lent segment (getD (w .segments) j []))) (length (lentList (w .job) list (w .changed))) e .long)
+  own-accepted (doClose way) e = refl
 
   -- a call lent another buffer is refused
   pub accepted-own : (call : Call (lengthsOf terms)) → outcome w call .refusal ≡ 0 → isLentOwn call ≡ true

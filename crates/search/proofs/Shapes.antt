@@ -1,10 +1,15 @@
 -- Laws of a shaped world: G, m and the log area's length by its job are those of what Begin was given.
 use mathlib.Core.Path.{_≡_, ap, _∙_}
-use Prim.Native.Nat.{ℕ, _*_}
+use mathlib.Core.Logic.{_⊎_, inl, inr}
+use mathlib.Core.Bool.{true}
+use Prim.Native.Nat.{ℕ, _*_, _<_}
 use native.Mathlib.Omega.{arith}
+use lib.Dec.{eqb}
+use borrow.Author.Tests.{eq-eqb, not-true}
+use Rattle.base.proofs.Tests.{never}
 use Rattle.search.specs.Blank.{goalOf}
 use Rattle.search.specs.Build.{World}
-use Rattle.search.specs.JobState.{beginRefusal, stackCountOf, segmentCountOf, stackCountAt, logLength}
+use Rattle.search.specs.JobState.{noSegment, isLoaded, beginRefusal, stackCountOf, segmentCountOf, stackCountAt, logLength}
 use Rattle.search.proofs.Coherence.{given-begin}
 use Rattle.search.proofs.Invariant.{Shaped}
 use Rattle.search.proofs.SegmentLaws.{Segmented, segment-size-facts}
@@ -36,6 +41,15 @@ module _ {terms : Terms} {w : World} (shaped : Shaped terms w) where
   pub goal-is : goalOf (w .job) ≡ goal terms
   unfolding goalOf
   goal-is = ap goal (shaped .terms-is)
+
+  -- what is loaded is a segment
+  pub loaded-low : isLoaded (w .job) ≡ true → w .job .loaded < G terms
+  unfolding isLoaded
+  loaded-low h = go (shaped .loaded-fits)
+    where
+      go : (w .job .loaded ≡ noSegment) ⊎ (w .job .loaded < G terms) → w .job .loaded < G terms
+      go (inl e) = never (eq-eqb (w .job .loaded) noSegment e) (not-true (eqb (w .job .loaded) noSegment) h)
+      go (inr l) = l
 
   pub begins-is : Given terms → beginRefusal (w .job .kind) (w .job .n) (w .job .wanted) (w .job .groups) (w .job .size) (w .job .room) ≡ 0
   begins-is given =

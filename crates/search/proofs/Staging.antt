@@ -1,17 +1,20 @@
--- A build in the midst of a call on segment j, and each step of Expand and Settle that keeps the invariant of the search.
+-- A build in the midst of a call on segment j, and each step of Expand, Settle and Sweep that keeps the invariant of the search.
 --   MarksFit    the segment's bytes have their right length, and its spare entries are 3
 --   LogsFit     what waits fits the logs, and is an offset of its segment
 --   stage       the world that a call on segment j of w has come to
 --   Staged      what holds of it
 --   Searching   what holds before and after a call: shape and search
+--   Marking     what holds when the stacks of a list are marked
+--   redirect    a world with another loaded segment, other pairs and another changed list
 use mathlib.Core.Path.{_≡_, sym, ap, _∙_, subst}
 use mathlib.Core.Logic.{_⊎_, inl, inr}
-use mathlib.Core.Bool.{true}
-use mathlib.Core.List.{List, []}
-use Prim.Native.Nat.{ℕ, suc, _+_, _*_, _/_, _%_, _<_, _≤_}
+use mathlib.Core.Bool.{true, cond}
+use mathlib.Core.List.{List, [], _∷_}
+use Prim.Native.Nat.{ℕ, zero, suc, _+_, _*_, _/_, _%_, _^_, _<_, _≤_}
 use native.Mathlib.Nat.{div-add-mod', mul-le-mul-right, suc-mul}
 use native.Mathlib.Omega.{arith}
 use lib.Arith.{digits-div, digits-mod}
+use lib.Dec.{ltb, eqb}
 use lib.ListN.{length, getD, set, length-set}
 use lib.Seq.{getD-set-same, getD-set-other, set-getD}
 use Rattle.base.specs.Words.{tally, from}
@@ -19,14 +22,14 @@ use Rattle.base.proofs.Tests.{eq-or-ne, lt-or-ge}
 use Rattle.graph.specs.Walks.{isMove}
 use Rattle.graph.proofs.Counts.{found}
 use Rattle.graph.proofs.Levels.{Level, Marked, level-mark, level-log, level-look, level-unlog}
-use Rattle.search.specs.Build.{World, withJob, withSegment, withLog}
+use Rattle.search.specs.Build.{World, withJob, withSegment, withLog, withChanged}
 use Rattle.search.specs.Entries.{entryAt, bytesFor}
-use Rattle.search.specs.JobState.{passedOf, waitingOf, countOf, progressed}
+use Rattle.search.specs.JobState.{passedOf, waitingOf, countOf, sweptOf, isSwept, isReverse, noSegment, progressed, directed}
 use Rattle.search.specs.Segments.{segmentLimit}
-use Rattle.search.specs.Marks.{Marks, markOne}
+use Rattle.search.specs.Marks.{Marks, markOne, markAll}
 use Rattle.search.specs.Logs.{Logs, logOne}
-use Rattle.search.proofs.Invariant.{Shaped, Searches, Looked, Logged, entryIn}
-use Rattle.search.proofs.MarkLaws.{mark-length, mark-other, mark-marked, mark-count}
+use Rattle.search.proofs.Invariant.{Shaped, Searches, Listing, Looked, Logged, entryIn}
+use Rattle.search.proofs.MarkLaws.{mark-length, mark-other, mark-marked, mark-count, marked-before, marked-after}
 use Rattle.search.proofs.SegmentLaws.{stack-segment, stack-offset}
 use Rattle.search.proofs.Terms.{Terms, Given, N, G, m, moves, step, D, some, few}
 
@@ -41,14 +44,15 @@ pub record LogsFit (terms : Terms) (logs : Logs) : Type 0 where
   pub waiting-beyond : (t : ℕ) → G terms ≤ t → getD (logs .waiting) t 0 ≡ 0
   pub offsets : (t i : ℕ) → t < G terms → i < getD (logs .waiting) t 0 → getD (logs .log) (t * terms .C + i) 0 < m terms t
 
--- stack v waits in its log; stack u was passed and has child v
+-- stack v waits in its log; stack u was passed, or its segment is swept by v's, and it has child v
 abbrev pub Held : Terms → Logs → ℕ → Type 0
 Held terms logs v =
     (v < N terms) × ((i : ℕ) × (i < getD (logs .waiting) (v / terms .S) 0) × (getD (logs .log) (v / terms .S * terms .C + i) 0 ≡ v % terms .S))
 
-abbrev pub Met : Terms → List ℕ → ℕ → ℕ → Type 0
-Met terms passed u v =
-    (u % terms .S < getD passed (u / terms .S) 0) × ((k : ℕ) × (isMove (moves terms) k ≡ true) × (step terms k u ≡ v))
+abbrev pub Met : Terms → List ℕ → List ℕ → ℕ → ℕ → Type 0
+Met terms swept passed u v =
+    ((u % terms .S < getD passed (u / terms .S) 0) ⊎ (eqb (getD swept (u / terms .S) 0 / 2 ^ (v / terms .S) % 2) 1 ≡ true))
+    × ((k : ℕ) × (isMove (moves terms) k ≡ true) × (step terms k u ≡ v))
 
 pub mark-fits : (terms : Terms) (j d v : ℕ) (marks : Marks) → v % terms .S < m terms j → MarksFit terms j marks
     → MarksFit terms j (markOne (terms .S) d v marks)
@@ -170,7 +174,7 @@ module _ (terms : Terms) where
     pub at-fits : at ≤ m terms j
     pub marks-fit : MarksFit terms j marks
     pub logs-fit : LogsFit terms logs
-    pub level : Level (N terms) (D terms) d (entryIn (terms .S) (set (w .segments) j (marks .segment))) (Met terms (set (w .job .passed) j at)) (Held terms logs)
+    pub level : Level (N terms) (D terms) d (entryIn (terms .S) (set (w .segments) j (marks .segment))) (Met terms (w .job .swept) (set (w .job .passed) j at)) (Held terms logs)
     pub count : marks .count ≡ tally (found (λ v. true) (D terms) d (entryIn (terms .S) (set (w .segments) j (marks .segment)))) (from 0 (N terms))
 
 module _ {terms : Terms} (given : Given terms) {w : World} {d : ℕ} (search : Searching terms w d) (j : ℕ) (inside : j < G terms) where
@@ -188,7 +192,7 @@ module _ {terms : Terms} (given : Given terms) {w : World} {d : ℕ} (search : S
   -- a call starts from the world as it is
   pub stage-start : Staged terms w d j (record { segment = getD (w .segments) j []; count = countOf (w .job) d })
       (record { log = w .log; waiting = w .job .waiting }) (passedOf (w .job) j)
-  unfolding countOf passedOf waitingOf Looked Logged
+  unfolding countOf passedOf waitingOf sweptOf isSwept Looked Logged
   stage-start =
       record {
         at-fits = search .searches .passed-fits j;
@@ -255,31 +259,34 @@ module _ {terms : Terms} (given : Given terms) {w : World} {d : ℕ} (search : S
           at-fits = h;
           marks-fit = staged .marks-fit;
           logs-fit = staged .logs-fit;
-          level = level-look (staged .level) (λ u v g i s m e. go u v s m e (eq-or-ne (u / terms .S) j) (eq-or-ne (u % terms .S) at));
+          level = level-look (staged .level) (λ u v g i s m e. go u v s (m .0) (m .1) e (eq-or-ne (u / terms .S) j) (eq-or-ne (u % terms .S) at));
           count = staged .count;
         }
       where
-        go : (u v : ℕ) → suc (D terms u) ≡ d → Met terms (set (w .job .passed) j (suc at)) u v
+        go : (u v : ℕ) → suc (D terms u) ≡ d
+            → (u % terms .S < getD (set (w .job .passed) j (suc at)) (u / terms .S) 0) ⊎ (eqb (getD (w .job .swept) (u / terms .S) 0 / 2 ^ (v / terms .S) % 2) 1 ≡ true)
+            → ((k : ℕ) × (isMove (moves terms) k ≡ true) × (step terms k u ≡ v))
             → entryIn (terms .S) (set (w .segments) j (marks .segment)) v ≡ 3 → (u / terms .S ≡ j) ⊎ (u / terms .S ≡ j → ⊥) → (u % terms .S ≡ at) ⊎ (u % terms .S ≡ at → ⊥)
-            → (Met terms (set (w .job .passed) j at) u v) ⊎ (Held terms logs v)
-        go u v s m e (inl i) (inl l) =
-            let k = m .1 .0 in
+            → (Met terms (w .job .swept) (set (w .job .passed) j at) u v) ⊎ (Held terms logs v)
+        go u v s (inr swept) edge e i l = inl (inr swept, edge)
+        go u v s (inl p) edge e (inl i) (inl l) =
+            let k = edge .0 in
             let this : u ≡ j * terms .S + at = omega (arith, div-add-mod' u (terms .S), ap (λ (x : ℕ). x * terms .S) i) in
-            let child : step terms k (j * terms .S + at) ≡ v = ap (step terms k) (sym this) ∙ m .1 .2 in
+            let child : step terms k (j * terms .S + at) ≡ v = ap (step terms k) (sym this) ∙ edge .2 in
             inr
             (subst (Held terms logs) child
-            (placed k (m .1 .1) (ap (λ (x : ℕ). suc (D terms x)) (sym this) ∙ s)
+            (placed k (edge .1) (ap (λ (x : ℕ). suc (D terms x)) (sym this) ∙ s)
             (ap (entryIn (terms .S) (set (w .segments) j (marks .segment))) child ∙ e)))
-        go u v s m e (inl i) (inr l) =
-            inl (omega (arith, passed-here at (u / terms .S) i, passed-here (suc at) (u / terms .S) i), m .1)
-        go u v s m e (inr i) l =
+        go u v s (inl p) edge e (inl i) (inr l) =
+            inl (inl (omega (arith, passed-here at (u / terms .S) i, passed-here (suc at) (u / terms .S) i)), edge)
+        go u v s (inl p) edge e (inr i) l =
             inl (
-              omega (
+              inl (omega (
                 arith,
                 getD-set-other (w .job .passed) j (u / terms .S) at 0 i,
                 getD-set-other (w .job .passed) j (u / terms .S) (suc at) 0 i,
-              ),
-              m .1,
+              )),
+              edge,
             )
 
     -- segment j's log is emptied, if all that waits there is seen
@@ -321,18 +328,22 @@ module _ {terms : Terms} (given : Given terms) {w : World} {d : ℕ} (search : S
         keeps v h e i (inl here) = absurd (seen v h here e i)
         keeps v h e i (inr ne) = (h, (i .1 .0, omega (arith, getD-set-other (logs .waiting) j (v / terms .S) 0 0 ne), i .1 .2))
 
-    pub stage-end : Searching terms (stage w d j marks logs at) d
-    unfolding stage progressed passedOf waitingOf countOf Looked Logged
-    stage-end =
+    -- in a reverse level nothing may wait
+    pub stage-end : (isReverse (w .job .way) ≡ true → (t : ℕ) → getD (logs .waiting) t 0 ≡ 0) → Searching terms (stage w d j marks logs at) d
+    unfolding stage progressed passedOf waitingOf countOf sweptOf isSwept Looked Logged
+    stage-end idle =
         record {
           shaped = record {
             terms-is = search .shaped .terms-is;
             passed-length = length-set (w .job .passed) j at ∙ search .shaped .passed-length;
             waiting-length = staged .logs-fit .waiting-length;
+            swept-length = search .shaped .swept-length;
             counts-length = length-set (w .job .counts) d (marks .count) ∙ search .shaped .counts-length;
             segments-length = length-set (w .segments) j (marks .segment) ∙ search .shaped .segments-length;
             segment-bytes = λ t h. bytes t h (eq-or-ne t j);
             log-length = staged .logs-fit .log-length;
+            loaded-fits = search .shaped .loaded-fits;
+            swept-fits = search .shaped .swept-fits;
           };
           searches = record {
             phase-is = search .searches .phase-is;
@@ -347,6 +358,8 @@ module _ {terms : Terms} (given : Given terms) {w : World} {d : ℕ} (search : S
             counts-below = λ i h. getD-set-other (w .job .counts) d i (marks .count) 0 (λ e. omega arith) ∙ search .searches .counts-below i h;
             counts-here = getD-set-same (w .job .counts) d (marks .count) 0 counted ∙ staged .count;
             counts-above = λ i h. getD-set-other (w .job .counts) d i (marks .count) 0 (λ e. omega arith) ∙ search .searches .counts-above i h;
+            idle = idle;
+            listed = λ r l. record { long = search .searches .listed r l .long; bits = search .searches .listed r l .bits };
           };
         }
       where
@@ -367,3 +380,87 @@ module _ {terms : Terms} (given : Given terms) {w : World} {d : ℕ} (search : S
             ∙ staged .marks-fit .spare i (rw e at g) (rw e at k)
         spare t i h (inr ne) g k =
             ap (λ (b : List ℕ). entryAt b i) (getD-set-other (w .segments) j t (marks .segment) [] ne) ∙ search .searches .spares .spare t i h g k
+
+module _ {terms : Terms} (given : Given terms) {w : World} {d : ℕ} (search : Searching terms w d) (j : ℕ) (inside : j < G terms) where
+  -- the stacks of a list, each of this segment and no deeper than d, were marked: each is seen, and nothing else is unseen that was not
+  pub record Marking (logs : Logs) (at : ℕ) (stacks : List ℕ) (marks marks′ : Marks) : Type 0 where
+    pub staged : Staged terms w d j marks′ logs at
+    pub before : (v : ℕ) → v < N terms → entryIn (terms .S) (set (w .segments) j (marks′ .segment)) v ≡ 3
+        → entryIn (terms .S) (set (w .segments) j (marks .segment)) v ≡ 3
+    pub done : (k : ℕ) → k < length stacks → entryIn (terms .S) (set (w .segments) j (marks′ .segment)) (getD stacks k 0) ≡ 3 → ⊥
+
+  -- what must hold of each of them
+  pub record Due (v : ℕ) : Type 0 where
+    pub low : v < N terms
+    pub here : v / terms .S ≡ j
+    pub near : D terms v ≤ d
+
+  pub mark-all : (logs : Logs) (at : ℕ) (stacks : List ℕ) (marks : Marks) → Staged terms w d j marks logs at
+      → ((k : ℕ) → k < length stacks → Due (getD stacks k 0)) → Marking logs at stacks marks (markAll (terms .S) d stacks marks)
+  unfolding markAll
+  mark-all logs at [] marks staged due = record { staged = staged; before = λ v h e. e; done = λ k h. absurd (omega arith) }
+  mark-all logs at (v ∷ stacks) marks staged due =
+      let first : Due v = due 0 (omega arith) in
+      let one = stage-mark given search j inside staged v (first .low) (first .here) (first .near) in
+      let marked = stage-marked given search j inside staged v (first .low) (first .here) in
+      let rest = mark-all logs at stacks (markOne (terms .S) d v marks) one (λ k l. due (suc k) (omega arith)) in
+      record {
+        staged = rest .staged;
+        before = λ u l e. marked-before marked u l (rest .before u l e);
+        done = λ k. each marked rest k;
+      }
+    where
+      each : Marked (N terms) d (entryIn (terms .S) (set (w .segments) j (marks .segment)))
+          (entryIn (terms .S) (set (w .segments) j (markOne (terms .S) d v marks .segment))) v
+          → Marking logs at stacks (markOne (terms .S) d v marks) (markAll (terms .S) d stacks (markOne (terms .S) d v marks))
+          → (k : ℕ) → k < suc (length stacks)
+          → entryIn (terms .S) (set (w .segments) j (markAll (terms .S) d stacks (markOne (terms .S) d v marks) .segment)) (getD (v ∷ stacks) k 0) ≡ 3 → ⊥
+      each marked rest zero l e = marked-after marked (rest .before v (due 0 (omega arith) .low) e)
+      each marked rest (suc k) l e = rest .done k (omega arith) e
+
+-- ---- what is loaded and swept
+
+-- the world with another loaded segment, other swept pairs and another changed list
+abbrev pub redirect : World → ℕ → List ℕ → List ℕ → World
+redirect w loaded swept changed = withJob (directed (w .job) (w .job .way) loaded swept) (withChanged changed w)
+
+pub redirected : {terms : Terms} {w : World} {d : ℕ} → Searching terms w d → (loaded : ℕ) (swept changed : List ℕ)
+    → (let x = redirect w loaded swept changed in
+    (loaded ≡ noSegment) ⊎ (loaded < G terms)
+    → length swept ≡ segmentLimit
+    → ((b : ℕ) → getD swept b 0 < cond (ltb b (G terms)) (2 ^ G terms) 1)
+    → Level (N terms) (D terms) d (entryIn (terms .S) (w .segments)) (Looked terms (x .job)) (Logged terms w)
+    → (isReverse (w .job .way) ≡ true → loaded < G terms → Listing terms x d)
+    → Searching terms x d)
+unfolding directed passedOf waitingOf countOf sweptOf Logged
+redirected search loaded swept changed low long fits level listed =
+    record {
+      shaped = record {
+        terms-is = search .shaped .terms-is;
+        passed-length = search .shaped .passed-length;
+        waiting-length = search .shaped .waiting-length;
+        swept-length = long;
+        counts-length = search .shaped .counts-length;
+        segments-length = search .shaped .segments-length;
+        segment-bytes = search .shaped .segment-bytes;
+        log-length = search .shaped .log-length;
+        loaded-fits = low;
+        swept-fits = fits;
+      };
+      searches = record {
+        phase-is = search .searches .phase-is;
+        last = search .searches .last;
+        before = search .searches .before;
+        passed-fits = search .searches .passed-fits;
+        waiting-fits = search .searches .waiting-fits;
+        waiting-beyond = search .searches .waiting-beyond;
+        offsets = search .searches .offsets;
+        level = level;
+        spares = record { spare = search .searches .spares .spare };
+        counts-below = search .searches .counts-below;
+        counts-here = search .searches .counts-here;
+        counts-above = search .searches .counts-above;
+        idle = search .searches .idle;
+        listed = listed;
+      };
+    }

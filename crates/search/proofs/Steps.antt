@@ -6,15 +6,17 @@ use mathlib.Core.List.{List, [], _∷_}
 use Prim.Native.Nat.{ℕ}
 use lib.ListN.{length, getD}
 use Rattle.base.proofs.Tests.{never, eq-or-ne}
-use Rattle.search.specs.Build.{World, Call, own, other, doBlank, doExpand, doSettle, doLook, doClose, lent, kept, isOwn, isLentOwn, outcome, after}
+use Rattle.search.specs.Build.{World, Call, own, other, doBlank, doExpand, doSettle, doLook, doLoad, doSweep, doClose, lent, kept, lentList, isOwn, isLentOwn, outcome, after}
 use Rattle.search.specs.JobState.{isLevel}
-use Rattle.search.proofs.Accepted.{expand-facts, settle-facts}
+use Rattle.search.proofs.Accepted.{forward-level, reverse-level, expand-facts, settle-facts, load-facts, sweep-facts}
 use Rattle.search.proofs.BlankKeeps.{blank-world, blank-keeps}
 use Rattle.search.proofs.CloseKeeps.{close-world, close-keeps}
 use Rattle.search.proofs.ExpandKeeps.{expand-keeps}
 use Rattle.search.proofs.Invariant.{Invariant, InPhase, blanking, searching, ended}
 use Rattle.search.proofs.Refused.{refusalOf, refusal-is, refused-same, accepted-own}
+use Rattle.search.proofs.LoadKeeps.{load-keeps}
 use Rattle.search.proofs.SettleKeeps.{settle-keeps}
+use Rattle.search.proofs.SweepKeeps.{sweep-keeps}
 use Rattle.search.proofs.Staging.{Searching}
 use Rattle.search.proofs.Terms.{Terms, Given, lengthsOf}
 
@@ -42,17 +44,30 @@ module _ {terms : Terms} (given : Given terms) where
     own-keeps (doBlank j own) h o = subst (Invariant terms) (sym (blank-world w j h)) (blank-keeps given invariant j h)
     own-keeps (doBlank j (other xs wrong)) h o = absurd (false≢true o)
     own-keeps (doExpand j own own) h o =
-        let s = invariant-searching invariant (expand-facts (w .job) j (length (getD (w .segments) j [])) (length (w .log)) h .0 .called .in-phase) in
+        let s =
+        invariant-searching invariant (forward-level (w .job) (expand-facts (w .job) j (length (getD (w .segments) j [])) (length (w .log)) h .0 .called .in-phase) .0) in
         searching-invariant (expand-keeps given (s .1) (lengthsOf terms) j h)
     own-keeps (doExpand j own (other xs wrong)) h o = absurd (false≢true o)
     own-keeps (doExpand j (other xs wrong) log) h o = absurd (false≢true o)
     own-keeps (doSettle j own own) h o =
-        let s = invariant-searching invariant (settle-facts (w .job) j (length (getD (w .segments) j [])) (w .log) h .0 .called .in-phase) in
+        let s =
+        invariant-searching invariant (forward-level (w .job) (settle-facts (w .job) j (length (getD (w .segments) j [])) (w .log) h .0 .called .in-phase) .0) in
         searching-invariant (settle-keeps given (s .1) (lengthsOf terms) j h)
     own-keeps (doSettle j own (other xs wrong)) h o = absurd (false≢true o)
     own-keeps (doSettle j (other xs wrong) log) h o = absurd (false≢true o)
     own-keeps (doLook j log) h o = invariant
-    own-keeps doClose h o = subst (Invariant terms) (sym (close-world w h)) (close-keeps given invariant h)
+    own-keeps (doLoad b own list) h o =
+        let s =
+        invariant-searching invariant (reverse-level (w .job) (load-facts (w .job) b (length (getD (w .segments) b [])) (length list) h .called .in-phase) .0) in
+        searching-invariant (load-keeps given (s .1) (lengthsOf terms) b list h)
+    own-keeps (doLoad b (other xs wrong) list) h o = absurd (false≢true o)
+    own-keeps (doSweep j own list) h o =
+        let lent = lentList (w .job) list (w .changed) in
+        let s =
+        invariant-searching invariant (reverse-level (w .job) (sweep-facts (w .job) j (length (getD (w .segments) j [])) (length lent) h .called .in-phase) .0) in
+        searching-invariant (sweep-keeps given (s .1) (lengthsOf terms) j list h)
+    own-keeps (doSweep j (other xs wrong) list) h o = absurd (false≢true o)
+    own-keeps (doClose way) h o = subst (Invariant terms) (sym (close-world w way h)) (close-keeps way given invariant h)
 
     pub step-keeps : (call : Call (lengthsOf terms)) → Invariant terms (outcome w call .world)
     step-keeps call = go (eq-or-ne (outcome w call .refusal) 0)

@@ -1,39 +1,48 @@
 -- The whole-build theorem: demands 2 and 3 by any set, for every list of calls after an accepted Begin.
 use mathlib.Core.Path.{_≡_, refl, sym, ap, _∙_, subst}
 use mathlib.Core.Logic.{_⊎_, inl, inr}
-use mathlib.Core.Bool.{true, false, false≢true}
+use mathlib.Core.Bool.{true, false, not, false≢true}
 use mathlib.Core.List.{List, [], _∷_, _++_}
-use Prim.Native.Nat.{ℕ, zero, suc, _-_, _≤_}
+use Prim.Native.Nat.{ℕ, zero, suc, _-_, _≤_, _<_}
 use native.Mathlib.Nat.{le-refl}
 use native.Mathlib.Omega.{arith}
+use lib.Dec.{eqb}
 use lib.ListN.{length, getD, set}
 use lib.Seq.{set-getD}
-use Rattle.base.proofs.Tests.{test-cases, not-is-false, never, eq-or-ne}
+use borrow.Author.Tests.{eqb-true, not-true, not-false}
+use Rattle.base.proofs.Counting.{all-below}
+use Rattle.base.proofs.Tests.{or-cases, test-cases, not-is-false, never, eq-or-ne}
 use Rattle.search.specs.Begin.{begun}
-use Rattle.search.specs.Build.{World, Lengths, Call, CarriesOn, own, other, doBlank, doExpand, doSettle, doLook, doClose, withJob, withSegment, lent, kept, isOwn, isLentOwn, outcome, after, passes, empties, changes}
-use Rattle.search.specs.Close.{closeRefusal}
+use Rattle.search.specs.Build.{World, Lengths, Call, CarriesOn, own, other, doBlank, doExpand, doSettle, doLook, doLoad, doSweep, doClose, withJob, withSegment, loadedAs, lent, kept, lentList, isOwn, isLentOwn, isLoadDue, outcome, after, passes, empties, sweeps, loads, changes}
+use Rattle.search.specs.Close.{isDone, isSweptWhole, isReady, isPastLast, closeRefusal}
 use Rattle.search.specs.Drive.{hasEnded}
-use Rattle.search.specs.JobState.{isBlanking, isLevel, isFinished, levelOf, lastLevel, waitingOf, countOf, progressed}
+use Rattle.search.specs.JobState.{isBlanking, isLevel, isFinished, isReverse, inReverse, levelOf, lastLevel, noSegment, stackCountOf, segmentCountOf, stackCountAt, passedOf, waitingOf, countOf, isLoaded, isSwept, sweptOf, progressed, directed}
+use Rattle.search.specs.Load.{loadRefusal}
 use Rattle.search.specs.Logs.{logPart, indexesOf, pending}
 use Rattle.search.specs.Marks.{Marks, markAll, marksFrom, markedJob}
 use Rattle.search.specs.Promise.{Continues, FinishedByClose}
 use Rattle.search.specs.PromiseBy.{Needs, FinishesBy, AtEnd, PromiseBy, WholeBuildBy}
+use Rattle.search.specs.Segments.{segmentLimit}
 use Rattle.search.specs.Settle.{settleRefusal}
 use Rattle.search.specs.declared.Answer.{Answer}
 use Rattle.search.specs.declared.Phase.{Phase}
 use Rattle.search.specs.declared.Phase.the-variants.{Blanking, Level, Finished}
-use Rattle.search.proofs.Accepted.{blank-facts, expand-facts, settle-facts, close-facts, settle-accepted, blank-phase, expand-phase, settle-phase}
-use Rattle.search.proofs.Advancing.{ended-cases, invariant-advances}
+use Rattle.search.specs.declared.Way.{Way}
+use Rattle.search.specs.declared.Way.the-variants.{Forward}
+use Rattle.search.proofs.Accepted.{forward-level, reverse-level, blank-facts, expand-facts, settle-facts, load-facts, sweep-facts, close-facts, settle-accepted, blank-phase, expand-phase, settle-phase, load-phase, sweep-phase}
+use Rattle.search.proofs.Advancing.{ended-cases, close-14, invariant-advances}
 use Rattle.search.proofs.BlankKeeps.{begun-invariant}
-use Rattle.search.proofs.CloseKeeps.{last-searches, last-deep, last-passed, last-settled}
+use Rattle.search.proofs.BuildCoherent.{invariant-coherent}
+use Rattle.search.proofs.CloseKeeps.{refused-14, last-searches, last-complete, last-deep, last-passed, last-swept}
 use Rattle.search.proofs.Coherence.{begin-given}
 use Rattle.search.proofs.Finishing.{depth-needs, ended-finishes}
 use Rattle.search.proofs.Invariant.{Invariant, InPhase, blanking, searching, ended}
+use Rattle.search.proofs.LoadKeeps.{loadedWorld, load-world}
 use Rattle.search.proofs.Refused.{refusalOf, refusal-is, refused-same, accepted-own}
-use Rattle.search.proofs.Shapes.{segments-is, stacks-is}
+use Rattle.search.proofs.Shapes.{segments-is, stacks-is, loaded-low}
 use Rattle.search.proofs.Steps.{step-keeps, after-keeps}
 use Rattle.search.proofs.WorkLeft.{workLeft}
-use Rattle.search.proofs.Terms.{Terms, Given, N, lengthsOf}
+use Rattle.search.proofs.Terms.{Terms, Given, N, few, lengthsOf}
 
 -- ---- what has finished stays so
 
@@ -57,14 +66,23 @@ module _ {right : Lengths} where
       inl (λ e. never (blank-facts (w .job) j (length (lent segment (getD (w .segments) j []))) e .called .in-phase) (finished-blanking (w .job .phase) h))
   finished-refuses w (doExpand j segment log) h =
       inl (λ e. never
-      (expand-facts (w .job) j (length (lent segment (getD (w .segments) j []))) (length (lent log (w .log))) e .0 .called .in-phase)
+      (forward-level (w .job) (expand-facts (w .job) j (length (lent segment (getD (w .segments) j []))) (length (lent log (w .log))) e .0 .called .in-phase) .0)
       (finished-level (w .job .phase) h))
   finished-refuses w (doSettle j segment log) h =
       inl (λ e. never
-      (settle-facts (w .job) j (length (lent segment (getD (w .segments) j []))) (lent log (w .log)) e .0 .called .in-phase)
+      (forward-level (w .job) (settle-facts (w .job) j (length (lent segment (getD (w .segments) j []))) (lent log (w .log)) e .0 .called .in-phase) .0)
       (finished-level (w .job .phase) h))
   finished-refuses w (doLook j log) h = inr refl
-  finished-refuses w doClose h = inl (λ e. never h (close-facts (w .job) e .unfinished))
+  finished-refuses w (doLoad b segment list) h =
+      inl (λ e. never
+      (reverse-level (w .job) (load-facts (w .job) b (length (lent segment (getD (w .segments) b []))) (length list) e .called .in-phase) .0)
+      (finished-level (w .job .phase) h))
+  finished-refuses w (doSweep j segment list) h =
+      inl (λ e. never
+      (reverse-level (w .job)
+      (sweep-facts (w .job) j (length (lent segment (getD (w .segments) j []))) (length (lentList (w .job) list (w .changed))) e .called .in-phase) .0)
+      (finished-level (w .job .phase) h))
+  finished-refuses w (doClose way) h = inl (λ e. never h (close-facts (w .job) e .unfinished))
 
   pub finished-same : (w : World) (call : Call right) → isFinished (w .job .phase) ≡ true → outcome w call .world ≡ w
   finished-same w call h = go (finished-refuses w call h)
@@ -86,9 +104,9 @@ module _ {right : Lengths} where
 -- ---- only Close finishes a build
 
 module _ {right : Lengths} where
-  -- Blank, Expand and Settle answer a job of the same phase, accepted or refused
+  -- the other calls answer a job of the same phase, accepted or refused
   pub only-close-finishes : (w : World) (call : Call right) → isFinished (w .job .phase) ≡ false
-      → isFinished (outcome w call .world .job .phase) ≡ true → call ≡ doClose
+      → isFinished (outcome w call .world .job .phase) ≡ true → (way : Way) × (call ≡ doClose way)
   unfolding outcome
   only-close-finishes w (doBlank j segment) u f =
       never f (ap isFinished (blank-phase (w .job) j (lent segment (getD (w .segments) j []))) ∙ u)
@@ -97,7 +115,11 @@ module _ {right : Lengths} where
   only-close-finishes w (doSettle j segment log) u f =
       never f (ap isFinished (settle-phase (w .job) j (lent segment (getD (w .segments) j [])) (lent log (w .log))) ∙ u)
   only-close-finishes w (doLook j log) u f = never f u
-  only-close-finishes w doClose u f = refl
+  only-close-finishes w (doLoad b segment list) u f =
+      never f (ap isFinished (load-phase (w .job) b (lent segment (getD (w .segments) b [])) list) ∙ u)
+  only-close-finishes w (doSweep j segment list) u f =
+      never f (ap isFinished (sweep-phase (w .job) j (lent segment (getD (w .segments) j [])) (lentList (w .job) list (w .changed))) ∙ u)
+  only-close-finishes w (doClose way) u f = (way, refl)
 
   -- a call that finishes a build is accepted
   finishing-accepted : (w : World) (call : Call right) → isFinished (w .job .phase) ≡ false → isFinished (outcome w call .world .job .phase) ≡ true
@@ -117,13 +139,14 @@ module _ {right : Lengths} where
     where
       -- what holds of the call, as one of Close
       close : isFinished (outcome w call .world .job .phase) ≡ true
-          → (call ≡ doClose) × (outcome {right = right} w doClose .refusal ≡ 0)
-          × (isFinished (outcome {right = right} w doClose .world .job .phase) ≡ true)
+          → (way : Way) × (call ≡ doClose way) × (outcome {right = right} w (doClose way) .refusal ≡ 0)
+          × (isFinished (outcome {right = right} w (doClose way) .world .job .phase) ≡ true)
       close e =
           let c = only-close-finishes w call u e in (
-            c,
-            subst (λ (x : Call right). outcome w x .refusal ≡ 0) c (finishing-accepted w call u e),
-            subst (λ (x : Call right). isFinished (outcome w x .world .job .phase) ≡ true) c e,
+            c .0,
+            c .1,
+            subst (λ (x : Call right). outcome w x .refusal ≡ 0) (c .1) (finishing-accepted w call u e),
+            subst (λ (x : Call right). isFinished (outcome w x .world .job .phase) ≡ true) (c .1) e,
           )
 
       go : (isFinished (outcome w call .world .job .phase) ≡ false → FinishedByClose (outcome w call .world) calls)
@@ -133,16 +156,18 @@ module _ {right : Lengths} where
           record {
             before = [];
             later = calls;
-            place = ap (λ (c : Call right). c ∷ calls) (close e .0);
+            way = close e .0;
+            place = ap (λ (c : Call right). c ∷ calls) (close e .1);
             unfinished = u;
-            accepted = close e .1;
-            finished = close e .2;
+            accepted = close e .2;
+            finished = close e .3;
           }
       go rest (inr e) =
           let r = rest e in
           record {
             before = call ∷ r .before;
             later = r .later;
+            way = r .way;
             place = ap (λ (cs : List (Call right)). call ∷ cs) (r .place);
             unfinished = r .unfinished;
             accepted = r .accepted;
@@ -152,21 +177,50 @@ module _ {right : Lengths} where
   closed-is-finished : (w : World) (calls : List (Call right)) → FinishedByClose w calls → isFinished (after w calls .job .phase) ≡ true
   unfolding after
   closed-is-finished w calls f =
-      let end : World = outcome {right = right} (after w (f .before)) doClose .world in
+      let end : World = outcome {right = right} (after w (f .before)) (doClose (f .way)) .world in
       ap (λ (cs : List (Call right)). isFinished (after w cs .job .phase)) (f .place)
-      ∙ ap (λ (x : World). isFinished (x .job .phase)) (after-append w (f .before) (doClose ∷ f .later) ∙ finished-stays end (f .later) (f .finished))
+      ∙ ap (λ (x : World). isFinished (x .job .phase)) (after-append w (f .before) (doClose (f .way) ∷ f .later) ∙ finished-stays end (f .later) (f .finished))
       ∙ f .finished
 
 -- ---- where Close says 14
 
-still-carries : (w : World) → CarriesOn w w → ⊥
-still-carries w (passes j h) = omega arith
-still-carries w (empties j h e) = omega arith
-still-carries w (changes ne) = ne refl
+-- where nothing changes, nothing carries the build on
+still-carries : (w : World) → segmentCountOf (w .job) ≤ segmentLimit → CarriesOn w w → ⊥
+unfolding isLoadDue isLoaded isSweptWhole
+still-carries w few (passes j h) = omega arith
+still-carries w few (empties j h e) = omega arith
+still-carries w few (sweeps b j was is) = never is was
+still-carries w few (loads b j due e low l left) = go (or-cases (not (isLoaded (w .job))) (isSweptWhole (w .job) (w .job .loaded)) due)
+  where
+    go : (not (isLoaded (w .job)) ≡ true) ⊎ (isSweptWhole (w .job) (w .job .loaded) ≡ true) → ⊥
+    go (inl none) = omega (arith, few, low, e, eqb-true (w .job .loaded) noSegment (not-false (eqb (w .job .loaded) noSegment) (not-true (isLoaded (w .job)) none)))
+    go (inr whole) =
+        never (all-below (isSwept (w .job) (w .job .loaded)) (segmentCountOf (w .job)) j whole l) (ap (λ (x : ℕ). isSwept (w .job) x j) e ∙ left)
+still-carries w few (changes ne) = ne refl
+
+-- nor where only what is loaded changes and every pair is swept
+reloaded-carries : (w x : World) → x ≡ loadedAs x w → ((b j : ℕ) → b < segmentCountOf (w .job) → j < segmentCountOf (w .job) → isSwept (w .job) b j ≡ true)
+    → CarriesOn w x → ⊥
+unfolding directed passedOf waitingOf sweptOf isSwept
+reloaded-carries w x e all (passes j h) = omega (arith, ap (λ (y : World). passedOf (y .job) j) e)
+reloaded-carries w x e all (empties j h z) = omega (arith, ap (λ (y : World). waitingOf (y .job) j) e)
+reloaded-carries w x e all (sweeps b j was is) = never (sym (ap (λ (y : World). isSwept (y .job) b j) e) ∙ is) was
+reloaded-carries w x e all (loads b j due f low l left) = never (all b j low l) left
+reloaded-carries w x e all (changes ne) = ne (sym (ap (λ (y : World). y .job .phase) e))
 
 module _ {terms : Terms} (given : Given terms) {w : World} (invariant : Invariant terms w) (h : closeRefusal (w .job) ≡ 14) where
   last-is : w .job .phase ≡ Level lastLevel
   last-is = last-searches given invariant h .phase-is
+
+  swept-whole : isReverse (w .job .way) ≡ true → (b j : ℕ) → b < segmentCountOf (w .job) → j < segmentCountOf (w .job) → isSwept (w .job) b j ≡ true
+  swept-whole r b j low l =
+      last-swept given invariant h r b j (rw (segments-is (invariant .shaped)) at low) (rw (segments-is (invariant .shaped)) at l)
+
+  -- a Load changes only what is loaded
+  loads-only : (b : ℕ) (list : List ℕ) → loadRefusal (w .job) b (length (getD (w .segments) b [])) (length list) ≡ 0
+      → (let x = outcome {right = lengthsOf terms} w (doLoad b own list) .world in x ≡ loadedAs x w)
+  unfolding loadedWorld directed
+  loads-only b list e = let q = load-world (lengthsOf terms) w b list e in q ∙ sym (ap (λ (x : World). loadedAs x w) q)
 
   -- a Settle of an empty log changes nothing
   settle-still : (j : ℕ) → settleRefusal (w .job) j (length (getD (w .segments) j [])) (w .log) ≡ 0
@@ -175,7 +229,7 @@ module _ {terms : Terms} (given : Given terms) {w : World} (invariant : Invarian
   settle-still j accepted =
       let segment : List ℕ = getD (w .segments) j [] in
       let d : ℕ = levelOf (w .job .phase) in
-      let none : getD (w .job .waiting) j 0 ≡ 0 = last-settled given invariant h j in
+      let none : getD (w .job .waiting) j 0 ≡ 0 = last-complete given invariant h .none-waits j in
       ap (λ (o : List ℕ × Answer). withJob (o .1 .job) (withSegment j (o .0) w)) (settle-accepted (w .job) j segment (w .log) accepted)
       ∙ ap (λ (count : ℕ). settled j (markAll (w .job .size) d (indexesOf (w .job .size) j (logPart (w .job .room) j count (w .log))) (marksFrom (w .job) segment))) none
       ∙ ap (λ (x : List ℕ). relisted x (set (w .job .counts) d (getD (w .job .counts) d 0)) (set (w .segments) j segment))
@@ -188,10 +242,14 @@ module _ {terms : Terms} (given : Given terms) {w : World} (invariant : Invarian
 
       relisted : List ℕ → List ℕ → List (List ℕ) → World
       relisted waiting counts segments =
-          record { job = progressed (w .job) (w .job .phase) (w .job .passed) waiting counts; segments = segments; log = w .log }
+          record { job = progressed (w .job) (w .job .phase) (w .job .passed) waiting counts; segments = segments; log = w .log; changed = w .changed }
 
-  own-still : (call : Call (lengthsOf terms)) → refusalOf w call ≡ 0 → isLentOwn call ≡ true → outcome w call .world ≡ w
-  unfolding outcome refusalOf isLentOwn isOwn lent kept isBlanking
+  -- a call leaves the world as it is, or loads a segment in a reverse level
+  Stays : World → Type 0
+  Stays x = (x ≡ w) ⊎ ((isReverse (w .job .way) ≡ true) × (x ≡ loadedAs x w))
+
+  own-still : (call : Call (lengthsOf terms)) → refusalOf w call ≡ 0 → isLentOwn call ≡ true → Stays (outcome w call .world)
+  unfolding Stays outcome refusalOf isLentOwn isOwn lent kept isBlanking
   own-still (doBlank j segment) e o =
       never (blank-facts (w .job) j (length (lent segment (getD (w .segments) j []))) e .called .in-phase) (ap isBlanking last-is)
   own-still (doExpand j segment log) e o =
@@ -201,38 +259,83 @@ module _ {terms : Terms} (given : Given terms) {w : World} (invariant : Invarian
         arith,
         f .1,
         stacks-is (invariant .shaped) j,
-        last-passed given invariant h j (rw (segments-is (invariant .shaped)) at (f .0 .called .inside)),
+        last-passed given invariant h (forward-level (w .job) (f .0 .called .in-phase) .1) j (rw (segments-is (invariant .shaped)) at (f .0 .called .inside)),
       ))
-  own-still (doSettle j own own) e o = settle-still j e
+  own-still (doSettle j own own) e o = inl (settle-still j e)
   own-still (doSettle j own (other xs wrong)) e o = absurd (false≢true o)
   own-still (doSettle j (other xs wrong) log) e o = absurd (false≢true o)
-  own-still (doLook j log) e o = refl
-  own-still doClose e o = absurd (omega (arith, h, e))
+  own-still (doLook j log) e o = inl refl
+  own-still (doLoad b own list) e o =
+      let f = load-facts (w .job) b (length (getD (w .segments) b [])) (length list) e in
+      inr (reverse-level (w .job) (f .called .in-phase) .1, loads-only b list e)
+  own-still (doLoad b (other xs wrong) list) e o = absurd (false≢true o)
+  own-still (doSweep j segment list) e o =
+      let f = sweep-facts (w .job) j (length (lent segment (getD (w .segments) j []))) (length (lentList (w .job) list (w .changed))) e in
+      never
+      (last-swept given invariant h (reverse-level (w .job) (f .called .in-phase) .1) (w .job .loaded) j (loaded-low (invariant .shaped) (f .loaded))
+      (rw (segments-is (invariant .shaped)) at (f .called .inside)))
+      (f .left)
+  own-still (doClose way) e o = absurd (omega (arith, h, e))
 
-  end-still : (call : Call (lengthsOf terms)) → outcome w call .world ≡ w
-  end-still call = go (eq-or-ne (outcome w call .refusal) 0)
+  end-stays : (call : Call (lengthsOf terms)) → Stays (outcome w call .world)
+  unfolding Stays
+  end-stays call = go (eq-or-ne (outcome w call .refusal) 0)
     where
-      go : (outcome w call .refusal ≡ 0) ⊎ (outcome w call .refusal ≡ 0 → ⊥) → outcome w call .world ≡ w
+      go : (outcome w call .refusal ≡ 0) ⊎ (outcome w call .refusal ≡ 0 → ⊥) → Stays (outcome w call .world)
       go (inl e) = own-still call (sym (refusal-is w call) ∙ e) (accepted-own (invariant .shaped) call e)
-      go (inr ne) = refused-same w call ne
+      go (inr ne) = inl (refused-same w call ne)
+
+  end-still : (call : Call (lengthsOf terms)) → outcome w call .world ≡ loadedAs (outcome w call .world) w
+  unfolding Stays directed
+  end-still call = go (end-stays call)
+    where
+      go : Stays (outcome w call .world) → outcome w call .world ≡ loadedAs (outcome w call .world) w
+      go (inl e) = e ∙ sym (ap (λ (x : World). loadedAs x w) e)
+      go (inr r) = r .1
+
+  end-carries : (call : Call (lengthsOf terms)) → CarriesOn w (outcome w call .world) → ⊥
+  unfolding Stays
+  end-carries call c = go (end-stays call)
+    where
+      go : Stays (outcome w call .world) → ⊥
+      go (inl e) = still-carries w (omega (arith, segments-is (invariant .shaped), few given)) (subst (CarriesOn w) e c)
+      go (inr r) = reloaded-carries w (outcome w call .world) (r .1) (swept-whole (r .0)) c
 
   pub at-end : AtEnd (terms .kind) (terms .n) (terms .groups) (terms .wanted) (lengthsOf terms) w
   unfolding refusalOf
   at-end =
       record {
         level = last-is;
-        passed = λ j l. last-passed given invariant h j (rw (segments-is (invariant .shaped)) at l) ∙ sym (stacks-is (invariant .shaped) j);
-        settled = λ j l. last-settled given invariant h j;
-        refused = refusal-is w doClose ∙ h;
+        passed = λ f j l. last-passed given invariant h f j (rw (segments-is (invariant .shaped)) at l) ∙ sym (stacks-is (invariant .shaped) j);
+        settled = λ j l. last-complete given invariant h .none-waits j;
+        swept = swept-whole;
+        refused = λ way. refusal-is w (doClose way) ∙ h;
         still = end-still;
-        none-carries = λ call c. still-carries w (subst (CarriesOn w) (end-still call) c);
+        none-carries = end-carries;
         deep = depth-needs given lastLevel (last-deep given invariant h) (omega arith);
       }
 
-still-stays : {right : Lengths} (w : World) → ((call : Call right) → outcome w call .world ≡ w) → (calls : List (Call right)) → after w calls ≡ w
-unfolding after
-still-stays w still [] = refl
-still-stays w still (call ∷ calls) = ap (λ (x : World). after x calls) (still call) ∙ still-stays w still calls
+-- Close says 14 whatever is loaded, and so the end stays what it is
+module _ {terms : Terms} (given : Given terms) where
+  still-14 : {w : World} → Invariant terms w → closeRefusal (w .job) ≡ 14 → (x : World) → Invariant terms x → x ≡ loadedAs x w → closeRefusal (x .job) ≡ 14
+  unfolding directed isReady isDone isSweptWhole inReverse isSwept sweptOf passedOf waitingOf countOf stackCountAt segmentCountOf stackCountOf isPastLast isFinished levelOf
+  still-14 {w} invariant h x kept e =
+      let f = refused-14 (w .job) h in
+      close-14 (x .job) (invariant-coherent given kept)
+      (ap (λ (y : World). isFinished (y .job .phase)) e ∙ ap isFinished (last-searches given invariant h .phase-is))
+      (ap (λ (y : World). isReady (y .job)) e ∙ f .0)
+      (ap (λ (y : World). isPastLast (y .job)) e ∙ f .1)
+
+  end-after : (calls : List (Call (lengthsOf terms))) {w : World} → Invariant terms w → closeRefusal (w .job) ≡ 14
+      → (closeRefusal (after w calls .job) ≡ 14) × (after w calls ≡ loadedAs (after w calls) w)
+  unfolding after directed
+  end-after [] invariant h = (h, refl)
+  end-after (call ∷ calls) {w} invariant h =
+      let x = outcome w call .world in
+      let kept : Invariant terms x = step-keeps given invariant call in
+      let e = end-still given invariant h call in
+      let rest = end-after calls kept (still-14 invariant h x kept e) in
+      (rest .0, rest .1 ∙ ap (loadedAs (after x calls)) e)
 
 -- ---- every world of a build
 
@@ -341,7 +444,7 @@ module _ {terms : Terms} (given : Given terms) where
         since-close = closed-is-finished start calls;
         finishes = finishes-is invariant;
         continues = continues-is invariant;
-        closes = λ h. at-end given invariant (sym (refusal-is w doClose) ∙ h);
+        closes = λ way h. at-end given invariant (sym (refusal-is w (doClose way)) ∙ h);
         levels = levels-is invariant;
         ends = λ none. (end .0, ap (λ (x : World). isFinished (x .job .phase)) (joins (end .0)) ∙ ended-finished last (end .1) none);
         never-finished = unfinished-is invariant;
@@ -350,10 +453,15 @@ module _ {terms : Terms} (given : Given terms) where
           subst (AtEnd (terms .kind) (terms .n) (terms .groups) (terms .wanted) (lengthsOf terms)) (sym (joins (end .0))) (ended-stands last (end .1) s),
         );
         stays = λ more h. ap (λ (x : World). isFinished (x .job .phase)) (joins more ∙ finished-stays w more h) ∙ h;
-        stays-at-end = λ more e. joins more ∙ still-stays w (e .still) more;
+        stays-at-end = λ more e.
+            let end = end-after given more invariant (sym (refusal-is w (doClose Forward)) ∙ e .refused Forward) in (
+              subst (AtEnd (terms .kind) (terms .n) (terms .groups) (terms .wanted) (lengthsOf terms)) (sym (joins more))
+                  (at-end given (after-keeps given invariant more) (end .0)),
+              joins more ∙ end .1 ∙ ap (λ (x : World). loadedAs x w) (sym (joins more)),
+            );
       }
 
 pub whole-build-by : WholeBuildBy
 unfolding WholeBuildBy begun isFinished
-whole-build-by kind n wanted groups S C segments log accepted buffers calls =
-    promise-by (begin-given kind n wanted groups S C accepted) (begun-invariant kind n wanted groups S C segments log buffers) refl calls
+whole-build-by kind n wanted groups S C segments log changed accepted buffers calls =
+    promise-by (begin-given kind n wanted groups S C accepted) (begun-invariant kind n wanted groups S C segments log changed buffers) refl calls

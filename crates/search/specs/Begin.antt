@@ -6,13 +6,14 @@ use lib.Dec.{eqb}
 use lib.IntN.{ℤ, pos}
 use lib.ListN.{replicate}
 use Rattle.stacks.specs.Stack.{stackPlaces}
-use Rattle.search.specs.JobState.{countPlaces, beginRefusal}
+use Rattle.search.specs.JobState.{countPlaces, noSegment, beginRefusal}
 use Rattle.search.specs.Segments.{segmentLimit}
 use Rattle.search.specs.declared.Answer.{Answer}
 use Rattle.search.specs.declared.Job.{Job}
 use Rattle.search.specs.declared.Phase.the-variants.{Blanking}
+use Rattle.search.specs.declared.Way.the-variants.{Forward}
 
--- a job in Blanking with all passed and waiting numbers and counts 0
+-- a job in Blanking with all passed and waiting numbers and counts 0; its way is forward, with nothing loaded or swept
 unfoldable pub begun : ℕ → ℕ → List ℤ → ℕ → ℕ → ℕ → Job
 begun kind n wanted groups S C =
     record {
@@ -23,8 +24,11 @@ begun kind n wanted groups S C =
       size = S;
       room = C;
       phase = Blanking;
+      way = Forward;
+      loaded = noSegment;
       passed = replicate segmentLimit 0;
       waiting = replicate segmentLimit 0;
+      swept = replicate segmentLimit 0;
       counts = replicate countPlaces 0;
     }
 

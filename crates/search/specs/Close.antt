@@ -5,19 +5,25 @@ use Prim.Native.Nat.{ℕ, _+_, _-_}
 use lib.Dec.{eqb}
 use lib.ListN.{getD, set, replicate}
 use Rattle.base.specs.Words.{unless, all, from}
-use Rattle.search.specs.JobState.{isCoherent, isFinished, levelOf, lastLevel, segmentCountOf, stackCountAt, passedOf, waitingOf, countOf, progressed}
+use Rattle.search.specs.JobState.{isCoherent, isFinished, inReverse, isSwept, levelOf, lastLevel, noSegment, segmentCountOf, stackCountAt, passedOf, waitingOf, countOf, progressed, directed}
 use Rattle.search.specs.Segments.{segmentLimit}
 use Rattle.search.specs.declared.Answer.{Answer}
 use Rattle.search.specs.declared.Job.{Job}
 use Rattle.search.specs.declared.Phase.{Phase}
 use Rattle.search.specs.declared.Phase.the-variants.{Blanking, Level, Finished}
+use Rattle.search.specs.declared.Way.{Way}
 
--- ready to close: each segment has all its stacks passed and no entry waiting
+-- a segment has all its stacks passed and no entry waiting
 unfoldable pub isDone : Job → ℕ → Bool
 isDone job j = eqb (passedOf job j) (stackCountAt job j) && eqb (waitingOf job j) 0
 
+-- every segment is swept against segment b
+unfoldable pub isSweptWhole : Job → ℕ → Bool
+isSweptWhole job b = all (isSwept job b) (from 0 (segmentCountOf job))
+
+-- ready to close: in a reverse level each pair is swept, else each segment is done
 unfoldable pub isReady : Job → Bool
-isReady job = all (isDone job) (from 0 (segmentCountOf job))
+isReady job = all (cond (inReverse job) (isSweptWhole job) (isDone job)) (from 0 (segmentCountOf job))
 
 -- no level after the last
 unfoldable pub isPastLast : Job → Bool
@@ -39,11 +45,15 @@ nextCounts counts Blanking = set counts 0 1
 nextCounts counts (Level d) = counts
 nextCounts counts (Finished d) = counts
 
--- each close sets all passed numbers to 0
-unfoldable pub closed : Job → Job
-closed job =
-    progressed job (nextPhase (job .counts) (job .phase)) (replicate segmentLimit 0) (job .waiting) (nextCounts (job .counts) (job .phase))
+-- each close sets all passed numbers to 0, and leaves nothing loaded or swept; the job takes the way that it is told, a finished one too
+unfoldable pub closed : Job → Way → Job
+closed job way =
+    directed
+    (progressed job (nextPhase (job .counts) (job .phase)) (replicate segmentLimit 0) (job .waiting) (nextCounts (job .counts) (job .phase)))
+    way
+    noSegment
+    (replicate segmentLimit 0)
 
-unfoldable pub closeOf : Job → Answer
-closeOf job =
-    let r = closeRefusal job in record { refusal = r; job = cond (eqb r 0) (closed job) job }
+unfoldable pub closeOf : Job → Way → Answer
+closeOf job way =
+    let r = closeRefusal job in record { refusal = r; job = cond (eqb r 0) (closed job way) job }

@@ -2,10 +2,12 @@
 --   beginRefusal   of kind, n, wanted stack, set of group sizes, S and C: what Begin is given
 --   stackCountAt   m of segment j
 --   movesOf        the moves that make children: the turns of its set, rising
+--   sweptOf        the segments that are swept against segment b, as bits
 --   progressed     the job with another phase, passed, waiting and counts
-use mathlib.Core.Bool.{Bool, true, false, _&&_, cond}
+--   directed       the job with another way, loaded segment and swept pairs
+use mathlib.Core.Bool.{Bool, true, false, not, _&&_, _||_, cond}
 use mathlib.Core.List.{List}
-use Prim.Native.Nat.{ℕ, _^_, _*_}
+use Prim.Native.Nat.{ℕ, _^_, _*_, _/_, _%_}
 use lib.Dec.{leb, ltb, eqb}
 use lib.IntN.{ℤ}
 use lib.ListN.{getD}
@@ -17,6 +19,8 @@ use Rattle.search.specs.Segments.{segmentLimit, segmentCount, stackCount
 use Rattle.search.specs.declared.Job.{Job}
 use Rattle.search.specs.declared.Phase.{Phase}
 use Rattle.search.specs.declared.Phase.the-variants.{Blanking, Level, Finished}
+use Rattle.search.specs.declared.Way.{Way}
+use Rattle.search.specs.declared.Way.the-variants.{Forward, Reverse}
 
 -- the limits: the last level that is searched, the places that the counts of the levels take, and the most that a count may be in a
 -- coherent job
@@ -61,6 +65,20 @@ waitingOf job j = getD (job .waiting) j 0
 unfoldable pub countOf : Job → ℕ → ℕ
 countOf job d = getD (job .counts) d 0
 
+-- what stands for the loaded segment where none is loaded
+abbrev pub noSegment : ℕ
+noSegment = segmentLimit
+
+unfoldable pub isLoaded : Job → Bool
+isLoaded job = not (eqb (job .loaded) noSegment)
+
+unfoldable pub sweptOf : Job → ℕ → ℕ
+sweptOf job b = getD (job .swept) b 0
+
+-- segment j is swept against segment b: bit j of b's number is set
+unfoldable pub isSwept : Job → ℕ → ℕ → Bool
+isSwept job b j = eqb (sweptOf job b / 2 ^ j % 2) 1
+
 unfoldable pub isBlanking : Phase → Bool
 isBlanking Blanking = true
 isBlanking (Level d) = false
@@ -75,6 +93,17 @@ unfoldable pub isFinished : Phase → Bool
 isFinished Blanking = false
 isFinished (Level d) = false
 isFinished (Finished d) = true
+
+unfoldable pub isReverse : Way → Bool
+isReverse Forward = false
+isReverse Reverse = true
+
+-- a level that is searched forward, and one that is searched reverse
+unfoldable pub inForward : Job → Bool
+inForward job = isLevel (job .phase) && not (isReverse (job .way))
+
+unfoldable pub inReverse : Job → Bool
+inReverse job = isLevel (job .phase) && isReverse (job .way)
 
 -- the level that a phase carries
 unfoldable pub levelOf : Phase → ℕ
@@ -92,6 +121,13 @@ phaseFits (Finished d) = ltb d lastLevel
 unfoldable pub segmentFits : Job → ℕ → Bool
 segmentFits job j = leb (passedOf job j) (stackCountAt job j) && leb (waitingOf job j) (cond (ltb j (segmentCountOf job)) (job .room) 0)
 
+-- no pair is swept with a segment of G or above: b's number has only its lowest G bits, and none from segment G up
+unfoldable pub sweptFits : Job → ℕ → Bool
+sweptFits job b = ltb (sweptOf job b) (cond (ltb b (segmentCountOf job)) (2 ^ segmentCountOf job) 1)
+
+unfoldable pub loadedFits : Job → Bool
+loadedFits job = not (isLoaded job) || ltb (job .loaded) (segmentCountOf job)
+
 unfoldable pub countFits : ℕ → Bool
 countFits count = leb count countLimit
 
@@ -101,6 +137,8 @@ isCoherent job =
     && phaseFits (job .phase)
     && all (segmentFits job) (from 0 segmentLimit)
     && all countFits (job .counts)
+    && loadedFits job
+    && all (sweptFits job) (from 0 segmentLimit)
 
 unfoldable pub progressed : Job → Phase → List ℕ → List ℕ → List ℕ → Job
 progressed job phase passed waiting counts =
@@ -112,7 +150,28 @@ progressed job phase passed waiting counts =
       size = job .size;
       room = job .room;
       phase = phase;
+      way = job .way;
+      loaded = job .loaded;
       passed = passed;
       waiting = waiting;
+      swept = job .swept;
       counts = counts;
+    }
+
+unfoldable pub directed : Job → Way → ℕ → List ℕ → Job
+directed job way loaded swept =
+    record {
+      kind = job .kind;
+      n = job .n;
+      wanted = job .wanted;
+      groups = job .groups;
+      size = job .size;
+      room = job .room;
+      phase = job .phase;
+      way = way;
+      loaded = loaded;
+      passed = job .passed;
+      waiting = job .waiting;
+      swept = swept;
+      counts = job .counts;
     }

@@ -10,10 +10,14 @@ pub mod Blank
 pub mod Expand
 pub mod Settle
 pub mod Look
+pub mod Changed
+pub mod Load
+pub mod Sweep
 pub mod Close
 pub mod Read
 pub mod Plan
 pub mod Build
 pub mod Promise
 pub mod PromiseBy
+pub mod EitherWay
 pub mod Drive

@@ -20,6 +20,7 @@ use Rattle.search.specs.Plan.{planOf, planLimit}
 use Rattle.search.specs.Segments.{segmentCount, stackCountIn, joined}
 use Rattle.search.specs.declared.Phase.the-variants.{Level}
 use Rattle.search.specs.declared.Planned.{Planned}
+use Rattle.search.specs.declared.Way.{Way}
 
 -- the right lengths of segment j and of the log area
 unfoldable pub rightBytes : ℕ → ℕ → ℕ → ℕ → ℕ
@@ -79,10 +80,11 @@ pub record Continues (right : Lengths) (w : World) : Type 0 where
 pub record FinishedByClose {right : Lengths} (start : World) (calls : List (Call right)) : Type 0 where
   pub before : List (Call right)
   pub later : List (Call right)
-  pub place : calls ≡ before ++ (doClose ∷ later)
+  pub way : Way
+  pub place : calls ≡ before ++ (doClose way ∷ later)
   pub unfinished : isFinished (after start before .job .phase) ≡ false
-  pub accepted : outcome {right = right} (after start before) doClose .refusal ≡ 0
-  pub finished : isFinished (outcome {right = right} (after start before) doClose .world .job .phase) ≡ true
+  pub accepted : outcome {right = right} (after start before) (doClose way) .refusal ≡ 0
+  pub finished : isFinished (outcome {right = right} (after start before) (doClose way) .world .job .phase) ≡ true
 
 -- the claim, for one list of calls
 pub record Promise (kind n : ℕ) (wanted : List ℤ) (right : Lengths) (start : World) (calls : List (Call right))
@@ -94,7 +96,7 @@ pub record Promise (kind n : ℕ) (wanted : List ℤ) (right : Lengths) (start :
   pub continues : isFinished (after start calls .job .phase) ≡ false → Continues right (after start calls)
   -- no list brings the job past level 31, or has a Close refused 14
   pub levels : (d : ℕ) → after start calls .job .phase ≡ Level d → d ≤ suc mostTurns
-  pub closes : outcome {right = right} (after start calls) doClose .refusal ≡ 14 → ⊥
+  pub closes : (way : Way) → outcome {right = right} (after start calls) (doClose way) .refusal ≡ 14 → ⊥
   -- every list can be continued to one that has finished; what has finished stays so
   pub ends : (more : List (Call right)) × (isFinished (after start (calls ++ more) .job .phase) ≡ true)
   pub stays : (more : List (Call right)) → isFinished (after start calls .job .phase) ≡ true
@@ -106,12 +108,12 @@ pub record Buffers (kind n S C : ℕ) (segments : List (List ℕ)) (log : List �
   pub each : (j : ℕ) → j < segmentCount (stackCount kind n) S → length (getD segments j []) ≡ rightBytes kind n S j
   pub area : length log ≡ rightWords kind n S C
 
--- demands 2 and 3: whatever kind, n, wanted stack, S, C, buffers and list of calls, where all turns make children
+-- demands 2 and 3: whatever kind, n, wanted stack, S, C, buffers and list of calls, in any mixture of ways, where all turns make children
 unfoldable pub WholeBuild : Type 0
 WholeBuild =
-    (kind n : ℕ) (wanted : List ℤ) (S C : ℕ) (segments : List (List ℕ)) (log : List ℕ)
+    (kind n : ℕ) (wanted : List ℤ) (S C : ℕ) (segments : List (List ℕ)) (log changed : List ℕ)
     → beginRefusal kind n wanted (allGroups kind n) S C ≡ 0
     → Buffers kind n S C segments log
     → (calls : List (Call (rightLengths kind n S C)))
     → Promise kind n wanted (rightLengths kind n S C)
-    (record { job = begun kind n wanted (allGroups kind n) S C; segments = segments; log = log }) calls
+    (record { job = begun kind n wanted (allGroups kind n) S C; segments = segments; log = log; changed = changed }) calls

@@ -22,13 +22,14 @@ use Rattle.stacks.specs.Index.{rankOf}
 use Rattle.stacks.specs.Stack.{isStack, stackCount}
 use Rattle.stacks.specs.Turn.{turnsIn, RoadBy, FewestBy}
 use Rattle.search.specs.Begin.{begun}
-use Rattle.search.specs.Build.{World, Lengths, Call, outcome, after, CarriesOn, doClose}
+use Rattle.search.specs.Build.{World, Lengths, Call, outcome, after, loadedAs, CarriesOn, doClose}
 use Rattle.search.specs.Entries.{entryAt, seenIn}
-use Rattle.search.specs.JobState.{beginRefusal, segmentCountOf, stackCountAt, passedOf, waitingOf, countOf, isFinished, levelOf, lastLevel}
+use Rattle.search.specs.JobState.{beginRefusal, segmentCountOf, stackCountAt, passedOf, waitingOf, countOf, isSwept, isFinished, isReverse, levelOf, lastLevel}
 use Rattle.search.specs.Plan.{planLimit, planOf}
 use Rattle.search.specs.Promise.{rightLengths, planIn, Continues, FinishedByClose, Buffers}
 use Rattle.search.specs.Segments.{joined}
 use Rattle.search.specs.declared.Phase.the-variants.{Level}
+use Rattle.search.specs.declared.Way.{Way}
 
 abbrev pub RoadIn : ℕ → ℕ → ℕ → List ℕ → List ℤ → List ℤ → Type 0
 RoadIn kind n groups = RoadBy kind (isMove (turnsIn kind n groups))
@@ -81,13 +82,15 @@ module _ (kind n groups : ℕ) (wanted : List ℤ) where
         → NoRoad given → planIn w given list .1 .refusal ≡ 20
 
   module _ (right : Lengths) where
-    -- Level 255 with all passed and settled: Close says 14, no call carries the build on or changes it, and some stack needs 255 turns
+    -- Level 255 with all passed and settled, or each pair swept: Close says 14, no call carries the build on or changes more than what is loaded,
+    -- and some stack needs 255 turns
     pub record AtEnd (w : World) : Type 0 where
       pub level : w .job .phase ≡ Level lastLevel
-      pub passed : (j : ℕ) → j < segmentCountOf (w .job) → passedOf (w .job) j ≡ stackCountAt (w .job) j
+      pub passed : isReverse (w .job .way) ≡ false → (j : ℕ) → j < segmentCountOf (w .job) → passedOf (w .job) j ≡ stackCountAt (w .job) j
       pub settled : (j : ℕ) → j < segmentCountOf (w .job) → waitingOf (w .job) j ≡ 0
-      pub refused : outcome {right = right} w doClose .refusal ≡ 14
-      pub still : (call : Call right) → outcome w call .world ≡ w
+      pub swept : isReverse (w .job .way) ≡ true → (b j : ℕ) → b < segmentCountOf (w .job) → j < segmentCountOf (w .job) → isSwept (w .job) b j ≡ true
+      pub refused : (way : Way) → outcome {right = right} w (doClose way) .refusal ≡ 14
+      pub still : (call : Call right) → outcome w call .world ≡ loadedAs (outcome w call .world) w
       pub none-carries : (call : Call right) → CarriesOn w (outcome w call .world) → ⊥
       pub deep : Needs lastLevel
 
@@ -98,7 +101,7 @@ module _ (kind n groups : ℕ) (wanted : List ℤ) where
       pub finishes : isFinished (after start calls .job .phase) ≡ true → FinishesBy (after start calls)
       -- what has not finished can be carried on, or stands at the other end; a Close says 14 nowhere else
       pub continues : isFinished (after start calls .job .phase) ≡ false → (Continues right (after start calls)) ⊎ (AtEnd (after start calls))
-      pub closes : outcome {right = right} (after start calls) doClose .refusal ≡ 14 → AtEnd (after start calls)
+      pub closes : (way : Way) → outcome {right = right} (after start calls) (doClose way) .refusal ≡ 14 → AtEnd (after start calls)
       -- a level is searched where the one before has stacks, and none past the last
       pub levels : (d : ℕ) → after start calls .job .phase ≡ Level d → (1 ≤ d) × (d ≤ lastLevel) × Needs (d - 1)
       -- where no stack needs exactly 255 turns, every list can be continued to a finished build
@@ -107,20 +110,21 @@ module _ (kind n groups : ℕ) (wanted : List ℤ) where
       -- where one does, no list finishes, and every list can be continued to the other end
       pub never-finished : Needs lastLevel → isFinished (after start calls .job .phase) ≡ false
       pub stands : Needs lastLevel → (more : List (Call right)) × AtEnd (after start (calls ++ more))
-      -- what has ended, either way, stays as it is
+      -- what has finished stays so, and the other end stays as it is but for what is loaded
       pub stays : (more : List (Call right)) → isFinished (after start calls .job .phase) ≡ true
           → isFinished (after start (calls ++ more) .job .phase) ≡ true
-      pub stays-at-end : (more : List (Call right)) → AtEnd (after start calls) → after start (calls ++ more) ≡ after start calls
+      pub stays-at-end : (more : List (Call right)) → AtEnd (after start calls)
+          → AtEnd (after start (calls ++ more)) × (after start (calls ++ more) ≡ loadedAs (after start (calls ++ more)) (after start calls))
 
--- demands 2 and 3: whatever kind, n, wanted stack, set, S, C, buffers and list of calls
+-- demands 2 and 3: whatever kind, n, wanted stack, set, S, C, buffers and list of calls, in any mixture of ways
 unfoldable pub WholeBuildBy : Type 0
 WholeBuildBy =
-    (kind n : ℕ) (wanted : List ℤ) (groups S C : ℕ) (segments : List (List ℕ)) (log : List ℕ)
+    (kind n : ℕ) (wanted : List ℤ) (groups S C : ℕ) (segments : List (List ℕ)) (log changed : List ℕ)
     → beginRefusal kind n wanted groups S C ≡ 0
     → Buffers kind n S C segments log
     → (calls : List (Call (rightLengths kind n S C)))
     → PromiseBy kind n groups wanted (rightLengths kind n S C)
-    (record { job = begun kind n wanted groups S C; segments = segments; log = log }) calls
+    (record { job = begun kind n wanted groups S C; segments = segments; log = log; changed = changed }) calls
 
 -- an accepted plan arrives, also from a spoilt table: as many turns from the front of the list as Plan answers, at most 254
 unfoldable pub PlanArrives : Type 0

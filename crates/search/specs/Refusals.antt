@@ -1,13 +1,13 @@
 -- The refusals that the calls on a segment share. Each takes the rest of its call's list.
 --   callRefusal      7, 8 where the call has no part in the job's phase, 9
 --   segmentRefusal   those, then 10 for the segment
---   levelRefusal     those of a call of a level, then 10 for the log area
+--   levelRefusal     those of a call of a forward level, then 10 for the log area
 use mathlib.Core.Bool.{Bool}
 use Prim.Native.Nat.{ℕ}
 use lib.Dec.{ltb, eqb}
 use Rattle.base.specs.Words.{unless}
 use Rattle.search.specs.Entries.{bytesFor}
-use Rattle.search.specs.JobState.{isCoherent, isLevel, segmentCountOf, stackCountAt, logLength}
+use Rattle.search.specs.JobState.{isCoherent, inForward, segmentCountOf, stackCountAt, logLength}
 use Rattle.search.specs.declared.Job.{Job}
 
 unfoldable pub callRefusal : Bool → Job → ℕ → ℕ → ℕ
@@ -19,4 +19,4 @@ segmentRefusal inPhase job j bytes rest = callRefusal inPhase job j (unless (eqb
 
 unfoldable pub levelRefusal : Job → ℕ → ℕ → ℕ → ℕ → ℕ
 levelRefusal job j bytes words rest =
-    segmentRefusal (isLevel (job .phase)) job j bytes (unless (eqb words (logLength job)) 10 rest)
+    segmentRefusal (inForward job) job j bytes (unless (eqb words (logLength job)) 10 rest)

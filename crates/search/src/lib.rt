@@ -7,6 +7,9 @@ use stacks::PLACES;
 // levels take, the most that a count may be, and the turns of a plan.
 pub const SEGMENT_LIMIT: usize = 64;
 
+// No segment has this number: a job holds it where none is loaded.
+pub const NO_SEGMENT: u8 = 64;
+
 pub const LEAST_SIZE: u32 = 4;
 
 pub const MOST_SIZE: u32 = 67108864;
@@ -30,6 +33,12 @@ pub enum Phase {
     Finished(u8),
 }
 
+// The way that a level is searched: from the stacks of the level before (forward, top-down), or from the unseen ones (reverse, bottom-up).
+pub enum Way {
+    Forward,
+    Reverse,
+}
+
 // A build. groups is the set of group sizes that the frame lifts, size k as its bit of weight 2^(k - 1); size is document 01's S, room its C.
 pub struct Job {
     pub kind: u8,
@@ -39,14 +48,19 @@ pub struct Job {
     pub size: u32,
     pub room: u32,
     pub phase: Phase,
+    // The way of the level, and of a reverse one the segment that is loaded, or NO_SEGMENT.
+    pub way: Way,
+    pub loaded: u8,
     // Of each segment: its stacks passed in this phase (scanned), and its log entries waiting (pending).
     pub passed: [u32; SEGMENT_LIMIT],
     pub waiting: [u32; SEGMENT_LIMIT],
+    // Of each segment b: the segments that are swept against it, segment j as the bit of weight 2^j.
+    pub swept: [u64; SEGMENT_LIMIT],
     // Of each level: how many stacks are at exactly that many turns of the set.
     pub counts: [u64; COUNT_PLACES],
 }
 
-// What Begin, Blank, Settle and Close answer: the job after the call. Refused, the job as it was; of Begin, a job of zeros. The job stands
+// What Begin, Blank, Settle, Load, Sweep and Close answer: the job after the call. Refused, the job as it was; of Begin, a job of zeros. The job stands
 // first: behind padding it would be copied once more.
 pub struct Answer {
     pub job: Job,

@@ -1,4 +1,4 @@
--- How much of the table and the log area is used, and that there is as much.
+-- How much of the table, the log area and the changed list is used, and that there is as much.
 use mathlib.Core.Path.{_≡_, sym, ap, ap₂, _∙_}
 use mathlib.Core.Bool.{true, false, cond}
 use mathlib.Core.List.{List, _++_}
@@ -12,14 +12,15 @@ use Rattle.base.proofs.Lists.{take-replicate}
 use Rattle.base.proofs.Tests.{and-left, and-right, and-fails-right}
 use Rattle.stacks.specs.Turn.{allGroups}
 use Rattle.stacks.specs.Stack.{isPaneCount, stackCount}
+use Rattle.search.specs.Changed.{listBytes}
 use Rattle.search.specs.Drive.{buildOf}
 use Rattle.search.specs.Entries.{bytesFor}
-use Rattle.search.specs.Segments.{segmentCount, isSegmentSize}
+use Rattle.search.specs.Segments.{segmentCount, stackCountIn, isSegmentSize}
 use Rattle.search.specs.declared.Answer.{Answer}
 use Rattle.search.proofs.SegmentLaws.{segment-size-facts}
 use Rattle.frames.specs.Frame.{stackLimit, tableLimit, reportRoom}
-use Rattle.session.specs.Report.{isReported, reportGroups, tableBytes, logWords, builtIn}
-use Rattle.session.specs.Reader.{logLimit}
+use Rattle.session.specs.Report.{isReported, reportGroups, tableBytes, logWords, changedBytes, builtIn}
+use Rattle.session.specs.Reader.{logLimit, listLimit}
 
 pub reported-panes : (kind n : ℕ) → isReported kind n ≡ true → isPaneCount kind n ≡ true
 unfolding isReported
@@ -70,18 +71,38 @@ pub log-some : (kind n S segments : ℕ) → isReported kind n ≡ true → isSe
 unfolding logWords
 log-some kind n S segments h t e = (rw (e, h, t), omega (arith, segment-size-facts (stackCount kind n) S t .few))
 
+-- the changed list: no segment has more stacks than there are
+pub changed-none : (kind n S : ℕ) → isReported kind n ≡ false → 0 ≡ changedBytes kind n S
+unfolding changedBytes
+changed-none kind n S h = rw h
+
+pub changed-some : (kind n S bytes : ℕ) → isReported kind n ≡ true → bytes ≡ listBytes (stackCountIn (stackCount kind n) S 0)
+    → (bytes ≡ changedBytes kind n S) × (bytes ≤ listLimit)
+unfolding changedBytes listBytes stackCountIn
+changed-some kind n S bytes h e =
+    let limit = reported-limit kind n h in
+    (e ∙ ap (λ t. cond t (listBytes (stackCountIn (stackCount kind n) S 0)) 0) (sym h), omega arith)
+
 -- ---- what is lent of what there is
 
 -- a build in the parts that are lent leaves what the definition says
-pub built-is : (kind n : ℕ) (wanted : List ℤ) (S : ℕ) (table part log : List ℕ) (answer : Answer) (groups bytes words : ℕ) → groups ≡ reportGroups kind n
-    → bytes ≡ tableBytes kind n → words ≡ logWords kind n S → words ≤ logLimit
-    → (part, log, answer) ≡ buildOf kind n wanted groups S reportRoom (take bytes table) (take words (replicate logLimit 0))
+pub built-is : (kind n : ℕ) (wanted : List ℤ) (S : ℕ) (table part log list : List ℕ) (answer : Answer) (groups bytes words listed : ℕ)
+    → groups ≡ reportGroups kind n → bytes ≡ tableBytes kind n → words ≡ logWords kind n S → words ≤ logLimit
+    → listed ≡ changedBytes kind n S → listed ≤ listLimit
+    → (part, log, list, answer)
+    ≡ buildOf kind n wanted groups S reportRoom (take bytes table) (take words (replicate logLimit 0)) (take listed (replicate listLimit 0))
     → (part ++ drop bytes table, answer .job) ≡ builtIn kind n wanted S table
 unfolding builtIn
-built-is kind n wanted S table part log answer groups bytes words g b w l h =
-    ap₂ (λ (x : List ℕ × List ℕ × Answer) (rest : List ℕ). (x .0 ++ rest, x .2 .job))
+built-is kind n wanted S table part log list answer groups bytes words listed g b w l c m h =
+    let buildBy : ℕ → List ℕ → List ℕ → List ℕ → List ℕ × List ℕ × List ℕ × Answer = λ x. buildOf kind n wanted x S reportRoom in
+    let front : List ℕ = take bytes table in
+    let logs : List ℕ = take words (replicate logLimit 0) in
+    let lists : List ℕ = take listed (replicate listLimit 0) in
+    ap₂ (λ (x : List ℕ × List ℕ × List ℕ × Answer) (rest : List ℕ). (x .0 ++ rest, x .3 .job))
     (h
-    ∙ ap (λ (x : ℕ). buildOf kind n wanted x S reportRoom (take bytes table) (take words (replicate logLimit 0))) g
-    ∙ ap₂ (buildOf kind n wanted (reportGroups kind n) S reportRoom) (ap (λ (j : ℕ). take j table) b)
-    (take-replicate words logLimit 0 l ∙ ap (λ (j : ℕ). replicate j 0) w))
+    ∙ ap (λ (x : ℕ). buildBy x front logs lists) g
+    ∙ ap₂ (λ (t w′ : List ℕ). buildBy (reportGroups kind n) t w′ lists) (ap (λ (j : ℕ). take j table) b)
+    (take-replicate words logLimit 0 l ∙ ap (λ (j : ℕ). replicate j 0) w)
+    ∙ ap (buildBy (reportGroups kind n) (take (tableBytes kind n) table) (replicate (logWords kind n S) 0))
+    (take-replicate listed listLimit 0 m ∙ ap (λ (j : ℕ). replicate j 0) c))
     (ap (λ (j : ℕ). drop j table) b)

@@ -22,13 +22,14 @@ use Rattle.stacks.proofs.Numbering.{rank-lt}
 use Rattle.stacks.proofs.GroupLaws.{all-groups}
 use Rattle.stacks.proofs.TurnLaws.{turn-last}
 use Rattle.search.specs.Build.{World}
+use Rattle.search.specs.Changed.{listBytes}
 use Rattle.search.specs.Drive.{buildRefusal, built, buildOf, Builds}
 use Rattle.search.specs.Entries.{bytesFor}
 use Rattle.search.specs.JobState.{lastLevel, countOf, levelOf}
 use Rattle.search.specs.Plan.{planOf, planLimit, planRefusal, routeFrom}
 use Rattle.search.specs.Promise.{rightWords, Plans, Finishes}
 use Rattle.search.specs.PromiseBy.{PlanArrives}
-use Rattle.search.specs.Segments.{segmentCount, isLogRoom, joined}
+use Rattle.search.specs.Segments.{segmentCount, stackCountIn, isLogRoom, joined}
 use Rattle.search.specs.declared.Answer.{Answer}
 use Rattle.search.specs.declared.Job.{Job}
 use Rattle.search.specs.declared.Planned.{Planned}
@@ -43,9 +44,9 @@ use Rattle.frames.specs.Hex.{isByte, bytesOf, fourBytes}
 use Rattle.frames.specs.Output.{levelLine, levelsFrom, levelLines, deepestLine, planLine, refusalLine}
 use Rattle.frames.proofs.FrameRefusals.{FirstPasses, first-passes, later-passes}
 use Rattle.frames.proofs.HexLaws.{number-four, line-says}
-use Rattle.session.specs.Report.{isReported, reportGroups, tableBytes, logWords, builtIn, headText, planText, laterTexts, reportFrom, reportOf}
+use Rattle.session.specs.Report.{isReported, reportGroups, tableBytes, logWords, changedBytes, builtIn, headText, planText, laterTexts, reportFrom, reportOf}
 use Rattle.session.specs.Promise.{Answers, Reports}
-use Rattle.session.proofs.LentLaws.{groups-some, table-some, log-some}
+use Rattle.session.proofs.LentLaws.{groups-some, table-some, log-some, changed-some}
 use Rattle.session.proofs.AnswerLaws.{plan-accepted, later-accepted, later-refused}
 
 -- as many turns are answered as stand at the front of the list
@@ -163,6 +164,9 @@ module _ (cs table : List ℕ) (h : firstRefusal cs ≡ 0) (long : length table 
   abbrev log : List ℕ
   log = replicate (logWords kind n S) 0
 
+  abbrev list : List ℕ
+  list = replicate (changedBytes kind n S) 0
+
   passes : FirstPasses cs
   passes = first-passes cs h
 
@@ -185,29 +189,33 @@ module _ (cs table : List ℕ) (h : firstRefusal cs ≡ 0) (long : length table 
   unfolding rightWords
   words-are = sym (log-some kind n S (segmentCount (stackCount kind n) S) reported (passes .segments) refl .0)
 
-  accepted : buildRefusal kind n wanted (allGroups kind n) S reportRoom (length part) (length log) ≡ 0
+  listed-are : changedBytes kind n S ≡ listBytes (stackCountIn (stackCount kind n) S 0)
+  listed-are = sym (changed-some kind n S (listBytes (stackCountIn (stackCount kind n) S 0)) reported refl .0)
+
+  accepted : buildRefusal kind n wanted (allGroups kind n) S reportRoom (length part) (length log) (length list) ≡ 0
   unfolding buildRefusal
   accepted =
       rw (
         given-begin (termsWith kind n wanted (allGroups kind n) S reportRoom) given,
         eq-eqb (length part) (bytesFor (stackCount kind n)) (part-length ∙ bytes-are),
         eq-eqb (length log) (rightWords kind n S reportRoom) (length-replicate (logWords kind n S) 0 ∙ words-are),
+        eq-eqb (length list) (listBytes (stackCountIn (stackCount kind n) S 0)) (length-replicate (changedBytes kind n S) 0 ∙ listed-are),
       )
 
-  builds : Builds kind n wanted (allGroups kind n) S reportRoom part log
-  builds = build-ends kind n wanted (allGroups kind n) S reportRoom part log accepted
+  builds : Builds kind n wanted (allGroups kind n) S reportRoom part log list
+  builds = build-ends kind n wanted (allGroups kind n) S reportRoom part log list accepted
 
   abbrev end : World
-  end = built kind n wanted (allGroups kind n) S reportRoom part log
+  end = built kind n wanted (allGroups kind n) S reportRoom part log list
 
   finishes : Finishes kind n wanted end
-  finishes = build-finishes kind n wanted S reportRoom part log accepted .1
+  finishes = build-finishes kind n wanted S reportRoom part log list accepted .1
 
   built-end : builtIn kind n wanted S table ≡ (joined (end .segments) ++ drop (tableBytes kind n) table, end .job)
   unfolding builtIn
   built-end =
-      ap (λ (x : List ℕ × List ℕ × Answer). (x .0 ++ drop (tableBytes kind n) table, x .2 .job))
-      (ap (λ (g : ℕ). buildOf kind n wanted g S reportRoom part log) (groups-some kind n reported) ∙ builds .leaves)
+      ap (λ (x : List ℕ × List ℕ × List ℕ × Answer). (x .0 ++ drop (tableBytes kind n) table, x .3 .job))
+      (ap (λ (g : ℕ). buildOf kind n wanted g S reportRoom part log list) (groups-some kind n reported) ∙ builds .leaves)
 
   -- the part of the table that later frames are answered from
   table-is : take (tableBytes kind n) (builtIn kind n wanted S table .0) ≡ joined (end .segments)

@@ -1,6 +1,6 @@
 -- What the reader's functions promise one another: how an input is read character by character. The theorem `read-report` says that so
 -- read it prints the report of its lines.
---   logLimit                  the most that a build is lent of the log area
+--   logLimit, listLimit       the most that a build is lent of the log area and of the changed list
 --   Effect                    what comes of a character: the reader and the table after it, and what is printed
 --   byteRead, endRead         a character of the input, and its end
 --   readAll                   the reader and the table after some characters
@@ -28,6 +28,9 @@ use Rattle.session.specs.declared.Stage.the-variants.{Start, Later, Over
 
 abbrev pub logLimit : ℕ
 logLimit = 1024
+
+abbrev pub listLimit : ℕ
+listLimit = 5760
 
 pub record Effect : Type 0 where
   pub reader : Reader

@@ -2,6 +2,7 @@
 --   isReported              the kinds and numbers of panes that a report is made of
 --   reportGroups            the set of a report: every size
 --   tableBytes, logWords    how much of its table and log area the build of a first frame is lent
+--   changedBytes            how much of its changed list: that of the first segment, which is the largest
 --   headText job            the levels of a finished build and the deepest
 --   builtIn S table         the build of a first frame: the table that it leaves, and its job
 --   laterText table cs      what a later frame of characters cs is answered
@@ -14,11 +15,12 @@ use lib.IntN.{ℤ}
 use lib.ListN.{take, drop, replicate}
 use Rattle.stacks.specs.Turn.{allGroups}
 use Rattle.stacks.specs.Stack.{isPaneCount, stackCount}
+use Rattle.search.specs.Changed.{listBytes}
 use Rattle.search.specs.Entries.{bytesFor}
 use Rattle.search.specs.Drive.{buildOf}
 use Rattle.search.specs.JobState.{levelOf}
 use Rattle.search.specs.Plan.{planOf, planLimit}
-use Rattle.search.specs.Segments.{segmentCount, isSegmentSize}
+use Rattle.search.specs.Segments.{segmentCount, stackCountIn, isSegmentSize}
 use Rattle.search.specs.declared.Job.{Job}
 use Rattle.frames.specs.Frame.{stackLimit, reportRoom, firstOf, laterOf}
 use Rattle.frames.specs.Output.{levelLines, deepestLine, planLine, refusalLine}
@@ -37,6 +39,9 @@ module _ (kind n : ℕ) where
   unfoldable pub logWords : ℕ → ℕ
   logWords S = cond (isReported && isSegmentSize (stackCount kind n) S) (segmentCount (stackCount kind n) S * reportRoom) 0
 
+  unfoldable pub changedBytes : ℕ → ℕ
+  changedBytes S = cond isReported (listBytes (stackCountIn (stackCount kind n) S 0)) 0
+
 -- what a finished build found: its levels with their counts, and the deepest
 unfoldable pub headText : Job → List ℕ
 headText job = levelLines (levelOf (job .phase)) (job .counts) ++ deepestLine (levelOf (job .phase))
@@ -47,8 +52,10 @@ module _ (kind n : ℕ) (wanted : List ℤ) where
   unfoldable pub builtIn : ℕ → List ℕ → List ℕ × Job
   builtIn S table =
       let bytes = tableBytes kind n in
-      let end = buildOf kind n wanted (reportGroups kind n) S reportRoom (take bytes table) (replicate (logWords kind n S) 0) in
-      (end .0 ++ drop bytes table, end .2 .job)
+      let log : List ℕ = replicate (logWords kind n S) 0 in
+      let list : List ℕ = replicate (changedBytes kind n S) 0 in
+      let end = buildOf kind n wanted (reportGroups kind n) S reportRoom (take bytes table) log list in
+      (end .0 ++ drop bytes table, end .3 .job)
 
   -- the plan of a stack, or Plan's refusal
   unfoldable pub planText : List ℕ → List ℤ → List ℕ

@@ -5,6 +5,7 @@ ghost use Rattle.frames.specs.Frame.{tableLimit};
 ghost use Rattle.frames.specs.Written.{Wrote};
 ghost use Rattle.session.specs.Report.{headText, builtIn};
 ghost use Rattle.session.specs.Reader.{afterFirst, firstLine, Shown};
+use crate::LIST_LIMIT;
 use crate::LOG_LIMIT;
 use crate::Printed;
 use crate::Reader;
@@ -27,9 +28,11 @@ fn build_in(kind: u8, n: u8, wanted: [i8; PLACES], size: u32, table: &mut [u8]) 
     ensures { λ r. ⌜ (now (table .exit), r) ≡ builtIn kind n wanted size (now (table .entry)) ⌝ }
 {
     let mut log = [0u32; LOG_LIMIT];
+    let mut list = [0u8; LIST_LIMIT];
     let groups = lent::report_groups(kind, n);
     let bytes = lent::table_bytes(kind, n);
     let words = lent::log_words(kind, n, size);
+    let listed = lent::changed_bytes(kind, n, size);
     let answer = build::build::build_table(
         kind,
         n,
@@ -39,6 +42,7 @@ fn build_in(kind: u8, n: u8, wanted: [i8; PLACES], size: u32, table: &mut [u8]) 
         REPORT_ROOM,
         &mut table[..bytes],
         &mut log[..words],
+        &mut list[..listed],
     );
     answer.job
 }

@@ -1,13 +1,15 @@
-// The set that a report uses, and how much of its table and log area: nothing of either where a first frame is none of those that are accepted.
+// The set that a report uses, and how much of its table, log area and changed list: nothing of them where a first frame is none of those that
+// are accepted.
 ghost use mathlib.Core.Path.{_≡_};
 ghost use Prim.Native.Nat.{_≤_};
 ghost use Rattle.frames.specs.Frame.{tableLimit};
-ghost use Rattle.session.specs.Report.{isReported, reportGroups, tableBytes, logWords};
-ghost use Rattle.session.specs.Reader.{logLimit};
+ghost use Rattle.session.specs.Report.{isReported, reportGroups, tableBytes, logWords, changedBytes};
+ghost use Rattle.session.specs.Reader.{logLimit, listLimit};
 use frames::REPORT_ROOM;
 use frames::STACK_LIMIT;
 use perm::groups;
 use perm::kind;
+use twobit::list;
 use twobit::segment;
 
 fn is_reported(kind: u8, n: u8) -> bool
@@ -49,4 +51,15 @@ pub(crate) fn log_words(kind: u8, n: u8, size: u32) -> usize
         return 0;
     }
     (segment::segment_count(stacks, size) * REPORT_ROOM) as usize
+}
+
+// The list of the first segment, which is the largest.
+pub(crate) fn changed_bytes(kind: u8, n: u8, size: u32) -> usize
+    ensures { λ r. ⌜ (r ≡ changedBytes kind n size) × (r ≤ listLimit) ⌝ }
+{
+    if !is_reported(kind, n) {
+        return 0;
+    }
+    let stacks = kind::stack_count(kind, n);
+    list::list_bytes(segment::stack_count_in(stacks, size, 0)) as usize
 }

@@ -10,6 +10,9 @@ use stacks::PLACES;
 // The places of the most logs, one for each segment that a job may have.
 pub(crate) const LOG_LIMIT: usize = 1024;
 
+// The bytes of the longest changed list: a bit for each of the most stacks that a report is made of.
+pub(crate) const LIST_LIMIT: usize = 5760;
+
 // Which frame comes next: the first (Start), a later one, or none, as the first was refused and the run is over.
 pub enum Stage {
     Start,

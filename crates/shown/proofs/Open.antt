@@ -23,7 +23,7 @@ unfolding Output.levelLine Output.levelsFrom Output.levelLines Output.deepestLin
 lines = tt
 
 answers : Unit {0}
-unfolding Report.isReported Report.reportGroups Report.tableBytes Report.logWords Report.builtIn Report.headText Report.planText Report.laterText Report.laterTexts
+unfolding Report.isReported Report.reportGroups Report.tableBytes Report.logWords Report.changedBytes Report.builtIn Report.headText Report.planText Report.laterText Report.laterTexts
 answers = tt
 
 unfoldable pub report-open : Unit {0}

@@ -126,9 +126,9 @@ module _ (kind n : ℕ) (wanted : List ℤ) (groups : ℕ) (w : World) (f : Fini
 
 pub price-finished : PriceFinished
 unfolding PriceFinished WholeBuildBy
-price-finished kind n wanted groups S C segments log accepted buffers calls h given list tariff stack l =
-    let w : World = after (record { job = begun kind n wanted groups S C; segments = segments; log = log }) calls in
-    let f : FinishesBy kind n groups wanted w = whole-build-by kind n wanted groups S C segments log accepted buffers calls .finishes h in
+price-finished kind n wanted groups S C segments log changed accepted buffers calls h given list tariff stack l =
+    let w : World = after (record { job = begun kind n wanted groups S C; segments = segments; log = log; changed = changed }) calls in
+    let f : FinishesBy kind n groups wanted w = whole-build-by kind n wanted groups S C segments log changed accepted buffers calls .finishes h in
     (finishes-prices kind n wanted groups w f given list tariff stack l, finishes-refuses kind n wanted groups w f given list tariff stack l)
 
 -- ---- what is priced

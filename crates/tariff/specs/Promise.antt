@@ -66,11 +66,11 @@ pub record Prices (kind n groups : ℕ) (wanted : List ℤ) (w : World) (given :
 -- any tariff: so it is where the stack has a road, and 20 where it has none
 unfoldable pub PriceFinished : Type 0
 PriceFinished =
-    (kind n : ℕ) (wanted : List ℤ) (groups S C : ℕ) (segments : List (List ℕ)) (log : List ℕ)
+    (kind n : ℕ) (wanted : List ℤ) (groups S C : ℕ) (segments : List (List ℕ)) (log changed : List ℕ)
     → beginRefusal kind n wanted groups S C ≡ 0
     → Buffers kind n S C segments log
     → (calls : List (Call (rightLengths kind n S C)))
-    → (let w = after (record { job = begun kind n wanted groups S C; segments = segments; log = log }) calls in
+    → (let w = after (record { job = begun kind n wanted groups S C; segments = segments; log = log; changed = changed }) calls in
     isFinished (w .job .phase) ≡ true
     → (given : List ℤ) (list : List ℕ) (tariff : Tariff)
     → isStack kind n given ≡ true

@@ -9,6 +9,9 @@ use search::Answer;
 use stacks::PLACES;
 use twobit::segment;
 
+// Room for the changed list of each segment of the checks.
+const LIST_BYTES: usize = 45360;
+
 // N; 0 where the kind or n is refused.
 pub fn stack_count(kind: u8, n: u8) -> u32 {
     if operations::kind_refusal(kind, n) != 0 {
@@ -57,10 +60,12 @@ fn is_over(answer: Answer) -> bool {
 fn run(
     begun: Answer,
     order: u8,
+    ways: u8,
     stacks: u32,
     segments: u32,
     table: &mut [u8],
     log: &mut [u32],
+    list: &mut [u8],
     budget: u32,
 ) -> Answer {
     let mut answer = begun;
@@ -70,7 +75,7 @@ fn run(
             return answer;
         }
         let job = answer.job;
-        answer = step::step(job, order, stacks, segments, table, log);
+        answer = step::step(job, order, ways, stacks, segments, table, log, list);
         left -= 1;
     }
     answer
@@ -81,8 +86,16 @@ fn log_length(segments: u32, room: u32) -> usize {
     (segments as usize) * (room as usize)
 }
 
-// The build after Begin. Refused 10 where the table or the log area has no room.
-fn run_in(begun: Answer, order: u8, stacks: u32, table: &mut [u8], log: &mut [u32]) -> Answer {
+// The build after Begin. Refused 10 where the table, the log area or the changed list has no room.
+fn run_in(
+    begun: Answer,
+    order: u8,
+    ways: u8,
+    stacks: u32,
+    table: &mut [u8],
+    log: &mut [u32],
+) -> Answer {
+    let mut list = [0u8; LIST_BYTES];
     let job = begun.job;
     let bytes = segment::bytes_for(stacks) as usize;
     let segments = segments_for(stacks, job.size);
@@ -96,15 +109,18 @@ fn run_in(begun: Answer, order: u8, stacks: u32, table: &mut [u8], log: &mut [u3
     run(
         begun,
         order,
+        ways,
         stacks,
         segments,
         table,
         &mut log[0..words],
+        &mut list,
         1000000,
     )
 }
 
-// A whole build by the turns of a set. Refused as Begin is, and where a call of the build is.
+// A whole build by the turns of a set, with its segments in an order and its levels by a rule of ways. Refused as Begin is, and where a call of
+// the build is.
 pub fn build(
     kind: u8,
     n: u8,
@@ -113,6 +129,7 @@ pub fn build(
     size: u32,
     room: u32,
     order: u8,
+    ways: u8,
     table: &mut [u8],
     log: &mut [u32],
 ) -> Answer {
@@ -120,5 +137,5 @@ pub fn build(
     if begun.refusal != 0 {
         return begun;
     }
-    run_in(begun, order, stack_count(kind, n), table, log)
+    run_in(begun, order, ways, stack_count(kind, n), table, log)
 }

@@ -1,4 +1,4 @@
-// Code of the executed checks: builds run call by call with the segments in a chosen order, and printing.
+// Code of the executed checks: builds run call by call, with the segments in a chosen order and the levels by a rule of ways, and printing.
 pub mod build;
 pub mod part;
 pub mod print;

@@ -50,6 +50,16 @@ pub fn lifting(groups: u32) {
     }
 }
 
+// By which rule of ways the levels of a build are searched. Where each is forward the line does not say so.
+pub fn ways(ways: u8) {
+    if ways == 1 {
+        word(b" reverse");
+    }
+    if ways == 2 {
+        word(b" alternating");
+    }
+}
+
 // What became of a call.
 pub fn verdict(refusal: u8) {
     if refusal == 0 {

@@ -1,14 +1,14 @@
 -- A mark that was made or not, and what it is to the marks of a segment.
 use mathlib.Core.Path.{_≡_, refl, sym, ap, _∙_}
 use mathlib.Core.Bool.{Bool, true, false, cond}
-use mathlib.Core.List.{List}
+use mathlib.Core.List.{List, [], _∷_}
 use Prim.Native.Nat.{ℕ, _+_, _%_, _<_, _≤_}
 use native.Mathlib.Nat.{mod-eq-of-lt, mod-mod}
 use native.Mathlib.Omega.{arith}
 use lib.Dec.{eqb}
 use borrow.Author.Tests.{eq-eqb, ne-eqb}
 use Rattle.search.specs.Entries.{entryAt, setEntry, unseen}
-use Rattle.search.specs.Marks.{Marks, markOne}
+use Rattle.search.specs.Marks.{Marks, markOne, markAll}
 use Rattle.twobit.specs.Mark.{Marked, marksOf}
 use Rattle.twobit.specs.declared.marking.Found.{Found}
 
@@ -54,3 +54,8 @@ pub mark-level : (S d v : ℕ) (marks : Marks) → markOne S (d % 3) v marks ≡
 unfolding markOne
 mark-level S d v marks =
     ap (λ (x : ℕ). cond (eqb (entryAt (marks .segment) (v % S)) unseen) (record { segment = setEntry (marks .segment) (v % S) x; count = marks .count + 1 }) marks) (mod-mod d 3)
+
+pub marks-level : (S d : ℕ) (stacks : List ℕ) (marks : Marks) → markAll S (d % 3) stacks marks ≡ markAll S d stacks marks
+unfolding markAll
+marks-level S d [] marks = refl
+marks-level S d (v ∷ stacks) marks = ap (markAll S (d % 3) stacks) (mark-level S d v marks) ∙ marks-level S d stacks (markOne S d v marks)

@@ -5,6 +5,9 @@ ghost use lib.ListN.{length, replicate};
 ghost use Rattle.search.specs.Entries.{entryAt, setEntry, nextEntry};
 ghost use Rattle.twobit.specs.Mark.{Marked};
 
+// The entry of a stack that no level has found yet.
+pub const UNSEEN: u8 = 3;
+
 // A match on a number must have a default, the `_`: the contract lets nothing above 3 come to it.
 pub fn next_entry(v: u8) -> u8
     requires { ⌜ v < 4 ⌝ }
@@ -44,7 +47,7 @@ pub fn mark(bytes: &mut [u8], i: u32, label: u8) -> bool
     requires { ⌜ (label < 4) × (i / 4 < length (now bytes)) ⌝ }
     ensures { λ r. ⌜ Marked (now (bytes .entry)) i label (now (bytes .exit)) r ⌝ }
 {
-    if get_entry(bytes, i) != 3 {
+    if get_entry(bytes, i) != UNSEEN {
         return false;
     }
     set_entry(bytes, i, label);

@@ -28,13 +28,21 @@ use Rattle.search.specs.Promise.{Finishes}
 use Rattle.search.specs.Expand.{expandRefusal, expandOf}
 use Rattle.search.specs.JobState.{countLimit, stackCountAt, passedOf, countOf, levelOf, isFinished, isCoherent}
 use Rattle.search.specs.Look.{lookOf}
+use Rattle.search.specs.Changed.{listBytes, bitAt}
+use Rattle.search.specs.EitherWay.{EitherWay}
+use Rattle.search.specs.Load.{changedOf, loadOf}
 use Rattle.search.specs.Settle.{settleOf}
+use Rattle.search.specs.Sweep.{sweepOf}
 use Rattle.search.specs.declared.Job.{Job}
+use Rattle.search.specs.declared.Way.{Way}
 use Rattle.search.proofs.AllStacks
 use Rattle.search.proofs.CallsCoherent
+use Rattle.search.proofs.EitherWay as Either
 use Rattle.search.proofs.ExpandCoherent
 use Rattle.search.proofs.ExpandLaws
 use Rattle.search.proofs.ExpandLaws.{MustWait}
+use Rattle.search.proofs.ListReads
+use Rattle.search.proofs.LoadKeeps
 use Rattle.search.proofs.LogReads
 use Rattle.search.proofs.WholeBuild
 use Rattle.search.proofs.WholeTable
@@ -103,7 +111,8 @@ module _ (job : Job) (j : ℕ) (log log′ : List ℕ) (long : length log ≡ le
     look-log-own : lookOf job j log ≡ lookOf job j log′
     look-log-own = LogReads.look-log-own job j log log′ long stretch
 
--- Begin's job is coherent, Blank and Close keep coherence, and so do Settle and Expand where the count has room for the segment's stacks
+-- Begin's job is coherent, Blank, Load and Close keep coherence, and so do Settle, Expand and Sweep where the count has room for the segment's
+-- stacks
 begin-coherent : (kind n : ℕ) (wanted : List ℤ) (groups S C : ℕ) → beginOf kind n wanted groups S C .refusal ≡ 0
     → isCoherent (beginOf kind n wanted groups S C .job) ≡ true
 begin-coherent = CallsCoherent.begin-coherent
@@ -112,7 +121,7 @@ module _ (job : Job) (coherent : isCoherent job ≡ true) where
   blank-coherent : (j : ℕ) (segment : List ℕ) → isCoherent (blankOf job j segment .1 .job) ≡ true
   blank-coherent = CallsCoherent.blank-coherent job coherent
 
-  close-coherent : isCoherent (closeOf job .job) ≡ true
+  close-coherent : (way : Way) → isCoherent (closeOf job way .job) ≡ true
   close-coherent = CallsCoherent.close-coherent job coherent
 
   module _ (j : ℕ) (segment log : List ℕ) (room : countOf job (levelOf (job .phase)) + stackCountAt job j ≤ countLimit) where
@@ -122,13 +131,39 @@ module _ (job : Job) (coherent : isCoherent job ≡ true) where
     expand-coherent : isCoherent (expandOf job j segment log .2 .job) ≡ true
     expand-coherent = ExpandCoherent.expand-coherent job coherent j segment log room
 
+  load-coherent : (b : ℕ) (segment list : List ℕ) → isCoherent (loadOf job b segment list .1 .job) ≡ true
+  load-coherent = CallsCoherent.load-coherent job coherent
+
+  sweep-coherent : (j : ℕ) (segment list : List ℕ) → countOf job (levelOf (job .phase)) + stackCountAt job j ≤ countLimit
+      → isCoherent (sweepOf job j segment list .1 .job) ≡ true
+  sweep-coherent = CallsCoherent.sweep-coherent job coherent
+
+-- of the changed list Load reads the length alone, Sweep also the bits of the loaded segment's stacks
+load-list-own : (job : Job) (b : ℕ) (segment list list′ : List ℕ) → length list ≡ length list′
+    → (loadOf job b segment list .1 ≡ loadOf job b segment list′ .1)
+    × (loadOf job b segment list .1 .refusal ≡ 0 → loadOf job b segment list .0 ≡ loadOf job b segment list′ .0)
+load-list-own = ListReads.load-list-own
+
+sweep-list-own : (job : Job) (j : ℕ) (segment list list′ : List ℕ) → length list ≡ length list′
+    → ((i : ℕ) → i < stackCountAt job (job .loaded) → bitAt list i ≡ bitAt list′ i) → sweepOf job j segment list ≡ sweepOf job j segment list′
+sweep-list-own = ListReads.sweep-list-own
+
+-- a Load that is not refused leaves spare bits 0
+load-spare : (job : Job) (b : ℕ) (segment : List ℕ) (i : ℕ) → stackCountAt job b ≤ i → i < 8 * listBytes (stackCountAt job b)
+    → bitAt (changedOf job b segment) i ≡ false
+load-spare = LoadKeeps.load-spare
+
+-- a level leaves the same by either way
+either-way : EitherWay
+either-way = Either.either-way
+
 -- Build the whole table ends, by the full set in a finished build
-build-finishes : (kind n : ℕ) (wanted : List ℤ) (S C : ℕ) (table log : List ℕ)
-    → buildRefusal kind n wanted (allGroups kind n) S C (length table) (length log) ≡ 0
-    → (let w = built kind n wanted (allGroups kind n) S C table log in (isFinished (w .job .phase) ≡ true) × Finishes kind n wanted w)
+build-finishes : (kind n : ℕ) (wanted : List ℤ) (S C : ℕ) (table log list : List ℕ)
+    → buildRefusal kind n wanted (allGroups kind n) S C (length table) (length log) (length list) ≡ 0
+    → (let w = built kind n wanted (allGroups kind n) S C table log list in (isFinished (w .job .phase) ≡ true) × Finishes kind n wanted w)
 build-finishes = WholeTable.build-finishes
 
 -- only Close finishes a build
 only-close-finishes : {right : Lengths} (w : World) (call : Call right) → isFinished (w .job .phase) ≡ false
-    → isFinished (outcome w call .world .job .phase) ≡ true → call ≡ doClose
+    → isFinished (outcome w call .world .job .phase) ≡ true → (way : Way) × (call ≡ doClose way)
 only-close-finishes = WholeBuild.only-close-finishes

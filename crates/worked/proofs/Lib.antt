@@ -6,4 +6,5 @@ pub mod PlainThree
 pub mod Pricing
 pub mod Limited
 pub mod Succession
+pub mod Reverse
 pub mod Cited

@@ -18,17 +18,17 @@ use Rattle.search.specs.Plan.{planLimit}
 use Rattle.search.specs.PromiseBy.{FewestIn, NoRoad, EntryBy, Needs, FinishesBy}
 use Rattle.search.specs.Segments.{joined}
 use Rattle.search.proofs.WholeTable.{build-ends}
-use Rattle.worked.specs.Cases.{plain, ordered, any}
+use Rattle.worked.specs.Cases.{plain, ordered, anyList}
 use Rattle.worked.specs.Limited.{only-2, near, Limited}
 use Rattle.worked.specs.PlainThree.{given}
 use Rattle.worked.proofs.Open.{all-open}
 
 abbrev end : World
-end = built plain 3 (ordered 3) only-2 8 16 (0 ∷ 0 ∷ []) (replicate 16 0)
+end = built plain 3 (ordered 3) only-2 8 16 (0 ∷ 0 ∷ []) (replicate 16 0) (0 ∷ [])
 
-builds : Builds plain 3 (ordered 3) only-2 8 16 (0 ∷ 0 ∷ []) (replicate 16 0)
+builds : Builds plain 3 (ordered 3) only-2 8 16 (0 ∷ 0 ∷ []) (replicate 16 0) (0 ∷ [])
 unfolding all-open
-builds = build-ends plain 3 (ordered 3) only-2 8 16 (0 ∷ 0 ∷ []) (replicate 16 0) refl
+builds = build-ends plain 3 (ordered 3) only-2 8 16 (0 ∷ 0 ∷ []) (replicate 16 0) (0 ∷ []) refl
 
 -- it ends in level 1, so that no stack needs 255 turns
 none-deep : Needs plain 3 only-2 (ordered 3) lastLevel → ⊥
@@ -52,7 +52,7 @@ roadless = go (entry-of given refl)
 one-turn : FewestIn plain 3 only-2 near (ordered 3) 1
 unfolding all-open
 one-turn =
-    finishes .plans near (any (λ i. 0) planLimit) refl (omega arith) (2 ∷ []) (record { turns = refl; arrives = refl }) .shortest
+    finishes .plans near (anyList (λ i. 0) planLimit) refl (omega arith) (2 ∷ []) (record { turns = refl; arrives = refl }) .shortest
 
 pub limited : (slots : ℕ → ℕ) → Limited slots
 unfolding all-open

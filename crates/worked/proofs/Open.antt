@@ -17,6 +17,9 @@ use Rattle.search.specs.Refusals
 use Rattle.search.specs.Expand
 use Rattle.search.specs.Settle
 use Rattle.search.specs.Look
+use Rattle.search.specs.Changed
+use Rattle.search.specs.Load
+use Rattle.search.specs.Sweep
 use Rattle.search.specs.Close
 use Rattle.search.specs.Plan
 use Rattle.search.specs.Build
@@ -26,9 +29,10 @@ use Rattle.tariff.specs.Tariffs
 use Rattle.tariff.specs.Price
 use Rattle.worked.specs.Cases
 use Rattle.worked.specs.PlainThree
+use Rattle.worked.specs.Reverse
 
 words : Unit {0}
-unfolding Walks.isMove Words.all Words.tally Words.filter Words.total Words.largest Words.fact Words.from Words.without Words.firstFrom
+unfolding Walks.isMove Words.all Words.any Words.tally Words.filter Words.total Words.largest Words.fact Words.from Words.without Words.firstFrom
 words = tt
 
 stacks : Unit {0}
@@ -56,15 +60,15 @@ unfolding Segments.segmentCount Segments.stackCountIn Segments.isSegmentSize Seg
 segments = tt
 
 jobs : Unit {0}
-unfolding JobState.stackCountOf JobState.segmentCountOf JobState.stackCountAt JobState.logLength JobState.passedOf JobState.waitingOf JobState.countOf JobState.progressed
+unfolding JobState.stackCountOf JobState.segmentCountOf JobState.stackCountAt JobState.logLength JobState.passedOf JobState.waitingOf JobState.countOf JobState.sweptOf JobState.isLoaded JobState.isSwept JobState.progressed JobState.directed
 jobs = tt
 
 phases : Unit {0}
-unfolding JobState.isBlanking JobState.isLevel JobState.isFinished JobState.levelOf JobState.phaseFits
+unfolding JobState.isBlanking JobState.isLevel JobState.isFinished JobState.isReverse JobState.inForward JobState.inReverse JobState.levelOf JobState.phaseFits
 phases = tt
 
 coherence : Unit {0}
-unfolding JobState.beginRefusal JobState.countLimit JobState.segmentFits JobState.countFits JobState.isCoherent
+unfolding JobState.beginRefusal JobState.countLimit JobState.segmentFits JobState.countFits JobState.sweptFits JobState.loadedFits JobState.isCoherent
 coherence = tt
 
 begins : Unit {0}
@@ -100,8 +104,16 @@ unfolding Look.lookRefusal Look.lookOf
 looks = tt
 
 closes : Unit {0}
-unfolding Close.isDone Close.isReady Close.isPastLast Close.closeRefusal Close.nextPhase Close.nextCounts Close.closed Close.closeOf
+unfolding Close.isDone Close.isSweptWhole Close.isReady Close.isPastLast Close.closeRefusal Close.nextPhase Close.nextCounts Close.closed Close.closeOf
 closes = tt
+
+lists : Unit {0}
+unfolding Changed.listBytes Changed.bitAt Changed.byteOf Changed.listOf Load.loadRefusal Load.changedOf Load.loadOf
+lists = tt
+
+sweeps : Unit {0}
+unfolding Sweep.sweepRefusal Sweep.isChanged Sweep.isReached Sweep.reachedIn Sweep.withPair Sweep.sweepOf
+sweeps = tt
 
 plans : Unit {0}
 unfolding Plan.planRow Plan.planRefusal Plan.hasPlan Plan.planOf
@@ -112,15 +124,15 @@ unfolding Plan.entryOf Plan.leadsTo Plan.turnTo Plan.nearerEntry Plan.follow Pla
 routes = tt
 
 builds : Unit {0}
-unfolding Build.lent Build.kept Build.isOwn Build.isLentOwn Build.outcome Build.after Promise.rightBytes Promise.rightWords
+unfolding Build.lent Build.kept Build.lentList Build.isLoadDue Build.isOwn Build.isLentOwn Build.outcome Build.after Promise.rightBytes Promise.rightWords
 builds = tt
 
 drives : Unit {0}
-unfolding Drive.isOpen Drive.isPending Drive.firstOpen Drive.firstPending Drive.nextCall Drive.advanced Drive.hasEnded Drive.drive Drive.mostCalls
+unfolding Drive.isOpen Drive.isPending Drive.isUnswept Drive.firstOpen Drive.firstPending Drive.firstUnswept Drive.firstPair Drive.isFew Drive.wayAfter Drive.listBytesAt Drive.nextBlank Drive.nextForward Drive.nextLoad Drive.nextReverse Drive.nextCall Drive.advanced Drive.hasEnded Drive.drive Drive.mostCalls
 drives = tt
 
 whole-tables : Unit {0}
-unfolding Drive.cut Drive.held Drive.buildRefusal Drive.built Drive.buildOf
+unfolding Drive.cut Drive.held Drive.laid Drive.buildRefusal Drive.ended Drive.built Drive.buildOf
 whole-tables = tt
 
 tariffs : Unit {0}
@@ -132,9 +144,9 @@ unfolding Price.costOf Price.priceRefusal Price.priceOf
 prices = tt
 
 cases : Unit {0}
-unfolding Cases.ordered Cases.any Cases.tooLong Cases.refusals Cases.blankAll Cases.searchLevel Cases.searchLevels Cases.startOf Cases.endOf Cases.whole PlainThree.start PlainThree.early PlainThree.calls
+unfolding Cases.ordered Cases.anyList Cases.tooLong Cases.refusals Cases.blankAll Cases.searchLevel Cases.searchLevels Cases.sweepLevel Cases.startOf Cases.endOf Cases.whole PlainThree.start PlainThree.early PlainThree.calls Reverse.mixed Reverse.onward
 cases = tt
 
 unfoldable pub all-open : Unit {0}
-unfolding words stacks indexes turns operations entries segments jobs phases coherence begins blanks marks logs expands expand-runs settles looks closes plans routes builds drives whole-tables tariffs prices cases
+unfolding words stacks indexes turns operations entries segments jobs phases coherence begins blanks marks logs expands expand-runs settles looks lists sweeps closes plans routes builds drives whole-tables tariffs prices cases
 all-open = tt

@@ -23,7 +23,7 @@ use Rattle.search.specs.Promise.{rightBytes, rightLengths, Buffers, Promise, Co
 use Rattle.search.specs.PromiseBy.{PlanArrives}
 use Rattle.search.proofs.Finishing.{plan-arrives}
 use Rattle.search.proofs.AllTurns.{full-road, whole-build}
-use Rattle.worked.specs.Cases.{plain, ordered, any}
+use Rattle.worked.specs.Cases.{plain, ordered, anyList}
 use Rattle.worked.specs.PlainThree.{Calls, start, part, end, early, calls, given, table, PlainThree, all}
 use Rattle.worked.proofs.Open.{all-open}
 
@@ -82,7 +82,7 @@ module _ (first second : ℕ) (words : ℕ → ℕ) where
 
   promise : (list : Calls) → Promise plain 3 (ordered 3) (rightLengths plain 3 4 16) (start first second words) list
   unfolding all-open WholeBuild
-  promise = whole-build plain 3 (ordered 3) 4 16 (start first second words .segments) (start first second words .log) refl buffers
+  promise = whole-build plain 3 (ordered 3) 4 16 (start first second words .segments) (start first second words .log) [] refl buffers
 
   pub finished : isFinished (end first second words .job .phase) ≡ true
   unfolding all-open
@@ -114,9 +114,9 @@ module _ (first second : ℕ) (words : ℕ → ℕ) where
   next = promise early .continues refl
 
   module _ (slots : ℕ → ℕ) where
-    plans : Plans (end first second words) given (any slots planLimit)
+    plans : Plans (end first second words) given (anyList slots planLimit)
     unfolding all-open
-    plans = finishes .plans given (any slots planLimit) refl (omega arith)
+    plans = finishes .plans given (anyList slots planLimit) refl (omega arith)
 
     pub plain-three : PlainThree first second words slots
     unfolding all-open PlanArrives
@@ -130,7 +130,7 @@ module _ (first second : ℕ) (words : ℕ → ℕ) where
           closes = promise early .closes;
           ends = promise early .ends;
           finished = level;
-          by-close = (close .before, close .later, close .place, close .unfinished, close .accepted, close .finished);
+          by-close = (close .before, close .later, close .way, close .place, close .unfinished, close .accepted, close .finished);
           since-close = promise calls .since-close;
           stays = λ more. promise calls .stays more finished;
           leaves = leaves;
@@ -161,5 +161,5 @@ module _ (first second : ℕ) (words : ℕ → ℕ) where
           larger = record { turns = refl; arrives = refl };
           takes-larger = refl;
           spoilt = refl;
-          spoilt-road = full-road plain 3 refl (plan-arrives plain 3 (ordered 3) given all (0x90 ∷ 0xf5 ∷ []) (any slots planLimit) refl .0);
+          spoilt-road = full-road plain 3 refl (plan-arrives plain 3 (ordered 3) given all (0x90 ∷ 0xf5 ∷ []) (anyList slots planLimit) refl .0);
         }

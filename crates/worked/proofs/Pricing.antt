@@ -13,18 +13,18 @@ use Rattle.tariff.proofs.PriceLaws.{plan-first, price-plans, price-finished, pr
 use Rattle.tariff.proofs.Rearranging.{any-order, split-alike}
 use Rattle.tariff.proofs.Rounding.{rounded-once}
 use Rattle.tariff.proofs.TariffLaws.{one-price-each}
-use Rattle.worked.specs.Cases.{plain, ordered, any}
+use Rattle.worked.specs.Cases.{plain, ordered, anyList}
 use Rattle.worked.specs.PlainThree.{all, start, end, calls, given, table}
 use Rattle.worked.specs.Pricing.{example, swapped, single, Pricing}
 use Rattle.worked.proofs.Open.{all-open}
 use Rattle.worked.proofs.PlainThree.{buffers, finished}
 
 module _ (slots : ℕ → ℕ) (first second : ℕ) (words : ℕ → ℕ) where
-  prices : (tariff : Tariff) → Prices plain 3 all (ordered 3) (end first second words) given (any slots planLimit) tariff
+  prices : (tariff : Tariff) → Prices plain 3 all (ordered 3) (end first second words) given (anyList slots planLimit) tariff
   unfolding all-open PriceFinished
   prices tariff =
-      price-finished plain 3 (ordered 3) all 4 16 (start first second words .segments) (start first second words .log) refl (buffers first second words) calls
-      (finished first second words) given (any slots planLimit) tariff refl (omega arith) .0 (3 ∷ 2 ∷ []) (record { turns = refl; arrives = refl })
+      price-finished plain 3 (ordered 3) all 4 16 (start first second words .segments) (start first second words .log) [] refl (buffers first second words) calls
+      (finished first second words) given (anyList slots planLimit) tariff refl (omega arith) .0 (3 ∷ 2 ∷ []) (record { turns = refl; arrives = refl })
 
   pub pricing : Pricing slots first second words
   unfolding all-open rounded PlanFirst PricePlans OnePriceEach PricedTurns RoundedOnce AnyOrder SplitAlike
@@ -46,12 +46,12 @@ module _ (slots : ℕ → ℕ) (first second : ℕ) (words : ℕ → ℕ) where
         two-lines = refl;
         line-first = refl;
         gap-first = refl;
-        road-first = plan-first plain 3 (ordered 3) given all (0xff ∷ 0xff ∷ []) (any slots planLimit);
-        plan-first = plan-first plain 3 (ordered 3) given all (0x91 ∷ 0xf6 ∷ []) (any slots planLimit);
+        road-first = plan-first plain 3 (ordered 3) given all (0xff ∷ 0xff ∷ []) (anyList slots planLimit);
+        plan-first = plan-first plain 3 (ordered 3) given all (0x91 ∷ 0xf6 ∷ []) (anyList slots planLimit);
         kept = refl;
-        plans = price-plans plain 3 (ordered 3) given all table (any slots planLimit) example refl;
+        plans = price-plans plain 3 (ordered 3) given all table (anyList slots planLimit) example refl;
         one-price = one-price-each 3 example refl 2 (omega arith) (omega arith);
-        turns-priced = priced-turns plain 3 (ordered 3) given all table (any slots planLimit) example refl;
+        turns-priced = priced-turns plain 3 (ordered 3) given all table (anyList slots planLimit) example refl;
         any-order = any-order example swapped refl (swap (tariffLine 1 2 1250) (tariffLine 3 3 1250) []);
         in-parts = split-alike single example
             (record {

@@ -15,4 +15,6 @@ whole-table =
       long-table = refl;
       short-log = refl;
       long-log = refl;
+      short-list = refl;
+      long-list = refl;
     }

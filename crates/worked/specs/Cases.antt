@@ -4,7 +4,8 @@
 --   startOf    Begin for the ordered stack by all turns with C = 16, and buffers that hold zeros
 --   endOf      the world that such a build comes to after as many levels
 --   whole      Build the whole table for the same, in buffers of these lengths
---   any        any list of a length, by the number at each place
+--   sweepLevel the calls of a reverse level of two segments, with the way of the next
+--   anyList    any list of a length, by the number at each place
 --   tooLong    a buffer that is lent with one number too many
 --   refusals   what each call of a list answers, 0 where it is not refused
 use mathlib.Core.List.{List, [], _∷_, _++_, map}
@@ -15,12 +16,14 @@ use lib.ListN.{take, replicate, length-replicate}
 use Rattle.base.specs.Words.{from}
 use Rattle.stacks.specs.Stack.{stackPlaces, stackCount}
 use Rattle.search.specs.Begin.{beginOf}
-use Rattle.search.specs.Build.{World, Lengths, Lent, Call, own, other, doBlank, doExpand, doSettle, doClose, outcome, after}
+use Rattle.search.specs.Build.{World, Lengths, Lent, Call, own, other, ownList, doBlank, doExpand, doSettle, doLoad, doSweep, doClose, outcome, after}
 use Rattle.stacks.specs.Turn.{allGroups}
 use Rattle.search.specs.Drive.{buildOf}
 use Rattle.search.specs.Promise.{rightBytes, rightWords, rightLengths}
 use Rattle.search.specs.Segments.{segmentCount}
 use Rattle.search.specs.declared.Answer.{Answer}
+use Rattle.search.specs.declared.Way.{Way}
+use Rattle.search.specs.declared.Way.the-variants.{Forward}
 
 abbrev pub plain : ℕ
 plain = 0
@@ -41,8 +44,8 @@ places panes = take stackPlaces (panes ++ replicate stackPlaces (pos 0))
 unfoldable pub ordered : ℕ → List ℤ
 ordered n = places (map up (from 1 n))
 
-unfoldable pub any : (ℕ → ℕ) → ℕ → List ℕ
-any number count = map number (from 0 count)
+unfoldable pub anyList : (ℕ → ℕ) → ℕ → List ℕ
+anyList number count = map number (from 0 count)
 
 unfoldable pub tooLong : {right : ℕ} → Lent right
 tooLong {right} = other (replicate (suc right) 0) (λ h. omega (arith, length-replicate {A = ℕ} (suc right) 0))
@@ -54,15 +57,27 @@ module _ {right : Lengths} where
 
   -- each of G segments is blanked, and the phase closed
   unfoldable pub blankAll : ℕ → List (Call right)
-  blankAll G = map (λ j. doBlank j own) (from 0 G) ++ (doClose ∷ [])
+  blankAll G = map (λ j. doBlank j own) (from 0 G) ++ (doClose Forward ∷ [])
 
   -- each is expanded, then each log settled, and the level closed
   unfoldable pub searchLevel : ℕ → List (Call right)
-  searchLevel G = map (λ j. doExpand j own own) (from 0 G) ++ (map (λ j. doSettle j own own) (from 0 G) ++ (doClose ∷ []))
+  searchLevel G = map (λ j. doExpand j own own) (from 0 G) ++ (map (λ j. doSettle j own own) (from 0 G) ++ (doClose Forward ∷ []))
 
   unfoldable pub searchLevels : ℕ → ℕ → List (Call right)
   searchLevels G zero = []
   searchLevels G (suc d) = searchLevel G ++ searchLevels G d
+
+  -- each is loaded, into a list of one byte, and each swept against it
+  unfoldable pub sweepLevel : Way → List (Call right)
+  sweepLevel way =
+      doLoad 0 own (0 ∷ [])
+      ∷ doSweep 0 own ownList
+      ∷ doSweep 1 own ownList
+      ∷ doLoad 1 own (0 ∷ [])
+      ∷ doSweep 0 own ownList
+      ∷ doSweep 1 own ownList
+      ∷ doClose way
+      ∷ []
 
 module _ (kind n S : ℕ) where
   unfoldable pub startOf : World
@@ -71,6 +86,7 @@ module _ (kind n S : ℕ) where
         job = beginOf kind n (ordered n) (allGroups kind n) S 16 .job;
         segments = map (λ j. replicate (rightBytes kind n S j) 0) (from 0 (segmentCount (stackCount kind n) S));
         log = replicate (rightWords kind n S 16) 0;
+        changed = [];
       }
 
   unfoldable pub endOf : ℕ → World
@@ -78,5 +94,5 @@ module _ (kind n S : ℕ) where
       let G = segmentCount (stackCount kind n) S in
       after {right = rightLengths kind n S 16} startOf (blankAll G ++ searchLevels G d)
 
-  unfoldable pub whole : ℕ → ℕ → List ℕ × List ℕ × Answer
-  whole bytes words = buildOf kind n (ordered n) (allGroups kind n) S 16 (replicate bytes 0) (replicate words 0)
+  unfoldable pub whole : ℕ → ℕ → ℕ → List ℕ × List ℕ × List ℕ × Answer
+  whole bytes words listed = buildOf kind n (ordered n) (allGroups kind n) S 16 (replicate bytes 0) (replicate words 0) (replicate listed 0)

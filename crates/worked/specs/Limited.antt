@@ -14,7 +14,7 @@ use Rattle.search.specs.PromiseBy.{FewestIn, NoRoad}
 use Rattle.search.specs.declared.Answer.{Answer}
 use Rattle.search.specs.declared.Phase.the-variants.{Finished}
 use Rattle.search.specs.declared.Planned.{Planned}
-use Rattle.worked.specs.Cases.{plain, coated, up, places, ordered, any}
+use Rattle.worked.specs.Cases.{plain, coated, up, places, ordered, anyList}
 use Rattle.worked.specs.PlainThree.{given}
 
 abbrev pub only-2 : ℕ
@@ -24,20 +24,20 @@ only-2 = 2
 abbrev pub near : List ℤ
 near = places (up 2 ∷ up 1 ∷ up 3 ∷ [])
 
-abbrev pub limited : ℕ → List ℕ × List ℕ × Answer
-limited groups = buildOf plain 3 (ordered 3) groups 8 16 (0 ∷ 0 ∷ []) (replicate 16 0)
+abbrev pub limited : ℕ → List ℕ × List ℕ × List ℕ × Answer
+limited groups = buildOf plain 3 (ordered 3) groups 8 16 (0 ∷ 0 ∷ []) (replicate 16 0) (0 ∷ [])
 
 -- slots are what the turn list held before
 module _ (slots : ℕ → ℕ) where
   abbrev pub planned : List ℤ → ℕ → List ℕ → List ℕ × Planned
-  planned s groups table = planOf plain 3 (ordered 3) s groups table (any slots planLimit)
+  planned s groups table = planOf plain 3 (ordered 3) s groups table (anyList slots planLimit)
 
   pub record Limited : Type 0 where
     -- the table: 3 where there is no road
-    pub finished : limited only-2 .2 .job .phase ≡ Finished 1
+    pub finished : limited only-2 .3 .job .phase ≡ Finished 1
     pub table : limited only-2 .0 ≡ 0xdc ∷ 0xff ∷ []
-    pub counts : take 3 (limited only-2 .2 .job .counts) ≡ 1 ∷ 1 ∷ 0 ∷ []
-    pub kept : limited only-2 .2 .job .groups ≡ only-2
+    pub counts : take 3 (limited only-2 .3 .job .counts) ≡ 1 ∷ 1 ∷ 0 ∷ []
+    pub kept : limited only-2 .3 .job .groups ≡ only-2
     -- a plan by turns of the set, and 20 where there is no road, also where the given stack is the wanted one
     pub plan : planned near only-2 (0xdc ∷ 0xff ∷ []) .1 ≡ record { refusal = 0; turns = 1 }
     pub front : take 1 (planned near only-2 (0xdc ∷ 0xff ∷ []) .0) ≡ 2 ∷ []

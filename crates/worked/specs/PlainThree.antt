@@ -24,7 +24,9 @@ use Rattle.search.specs.Plan.{planLimit, planOf}
 use Rattle.search.specs.Promise.{rightLengths, FinishedByClose}
 use Rattle.search.specs.Segments.{joined}
 use Rattle.search.specs.declared.Phase.the-variants.{Level, Finished}
-use Rattle.worked.specs.Cases.{plain, up, places, ordered, any, tooLong, refusals, searchLevels}
+use Rattle.search.specs.declared.Way.{Way}
+use Rattle.search.specs.declared.Way.the-variants.{Forward}
+use Rattle.worked.specs.Cases.{plain, up, places, ordered, anyList, tooLong, refusals, searchLevels}
 
 abbrev pub Calls : Type 0
 Calls = List (Call (rightLengths plain 3 4 16))
@@ -33,12 +35,12 @@ unfoldable pub early : Calls
 early =
     doBlank 2 own  -- 9: the segments are 0 and 1
     ∷ doBlank 1 own
-    ∷ doClose  -- 13: segment 0 is not passed
+    ∷ doClose Forward  -- 13: segment 0 is not passed
     ∷ doBlank 0 tooLong  -- 10
     ∷ doExpand 0 own own  -- 8: the phase is Blanking
     ∷ doBlank 0 own
     ∷ doBlank 0 own  -- 11: all its stacks are passed
-    ∷ doClose
+    ∷ doClose Forward
     ∷ doExpand 1 own own
     ∷ doExpand 0 own tooLong  -- 10
     ∷ doExpand 0 own own
@@ -47,12 +49,12 @@ early =
 unfoldable pub calls : Calls
 calls =
     early
-    ++ (doClose  -- 13: an entry waits in the log of segment 1
+    ++ (doClose Forward  -- 13: an entry waits in the log of segment 1
     ∷ doLook 1 own
     ∷ doSettle 1 tooLong own  -- 10
     ∷ doSettle 1 own own
-    ∷ doClose
-    ∷ (searchLevels 2 3 ++ (doClose ∷ doExpand 0 own own ∷ doLook 0 own ∷ [])))
+    ∷ doClose Forward
+    ∷ (searchLevels 2 3 ++ (doClose Forward ∷ doExpand 0 own own ∷ doLook 0 own ∷ [])))
 
 -- sizes 2 and 3
 abbrev pub all : ℕ
@@ -76,7 +78,8 @@ module _ (first second : ℕ) (words : ℕ → ℕ) where
       record {
         job = begun plain 3 (ordered 3) all 4 16;
         segments = (first ∷ []) ∷ (second ∷ []) ∷ [];
-        log = any words 32;
+        log = anyList words 32;
+        changed = [];
       }
 
   abbrev pub part : World
@@ -94,12 +97,12 @@ module _ (first second : ℕ) (words : ℕ → ℕ) where
     pub continues : (call : Call (rightLengths plain 3 4 16)) × (isLentOwn call ≡ true) × (outcome part call .refusal ≡ 0)
         × CarriesOn part (outcome part call .world)
     pub levels : (d : ℕ) → part .job .phase ≡ Level d → d ≤ 31
-    pub closes : outcome {right = rightLengths plain 3 4 16} part doClose .refusal ≡ 14 → ⊥
+    pub closes : (way : Way) → outcome {right = rightLengths plain 3 4 16} part (doClose way) .refusal ≡ 14 → ⊥
     pub ends : (more : Calls) × (isFinished (after start (early ++ more) .job .phase) ≡ true)
     -- the whole list: a Close of it has finished the build, and whatever follows leaves it so
     pub finished : end .job .phase ≡ Finished 3
-    pub by-close : (before : Calls) × (later : Calls) × (calls ≡ before ++ (doClose ∷ later)) × (isFinished (after start before .job .phase) ≡ false)
-        × (closeOf (after start before .job) .refusal ≡ 0) × (isFinished (closeOf (after start before .job) .job .phase) ≡ true)
+    pub by-close : (before : Calls) × (later : Calls) × (way : Way) × (calls ≡ before ++ (doClose way ∷ later)) × (isFinished (after start before .job .phase) ≡ false)
+        × (closeOf (after start before .job) way .refusal ≡ 0) × (isFinished (closeOf (after start before .job) way .job .phase) ≡ true)
     pub since-close : FinishedByClose start calls → isFinished (end .job .phase) ≡ true
     pub stays : (more : Calls) → isFinished (after start (calls ++ more) .job .phase) ≡ true
     -- the table: each entry is the fewest turns modulo 3, the two spare ones are 3
@@ -126,15 +129,15 @@ module _ (first second : ℕ) (words : ℕ → ℕ) where
     pub same-wanted : end .job .wanted ≡ ordered 3
     pub same-groups : end .job .groups ≡ all
     -- Plan takes 3 1 2 to the ordered stack by turns 3 and 2, and no road is shorter
-    pub accepts : planOf plain 3 (ordered 3) given all table (any slots planLimit) .1 .refusal ≡ 0
-    pub turns : planOf plain 3 (ordered 3) given all table (any slots planLimit) .1 .turns ≡ 2
+    pub accepts : planOf plain 3 (ordered 3) given all table (anyList slots planLimit) .1 .refusal ≡ 0
+    pub turns : planOf plain 3 (ordered 3) given all table (anyList slots planLimit) .1 .turns ≡ 2
     pub road : Road plain 3 (3 ∷ 2 ∷ []) given (ordered 3)
     pub fewest : Fewest plain 3 given (ordered 3) 2
-    pub few : planOf plain 3 (ordered 3) given all table (any slots planLimit) .1 .turns ≤ 30
+    pub few : planOf plain 3 (ordered 3) given all table (anyList slots planLimit) .1 .turns ≤ 30
     -- two shortest roads lead from 1 3 2: Plan takes the one that lifts the larger group first
     pub smaller : Road plain 3 (2 ∷ 3 ∷ 2 ∷ []) tied (ordered 3)
     pub larger : Road plain 3 (3 ∷ 2 ∷ 3 ∷ []) tied (ordered 3)
-    pub takes-larger : take 3 (planOf plain 3 (ordered 3) tied all table (any slots planLimit) .0) ≡ 3 ∷ 2 ∷ 3 ∷ []
+    pub takes-larger : take 3 (planOf plain 3 (ordered 3) tied all table (anyList slots planLimit) .0) ≡ 3 ∷ 2 ∷ 3 ∷ []
     -- from a spoilt table, in which 3 1 2 has entry 1, the plan is longer, and arrives
-    pub spoilt : planOf plain 3 (ordered 3) given all (0x90 ∷ 0xf5 ∷ []) (any slots planLimit) .1 ≡ record { refusal = 0; turns = 4 }
+    pub spoilt : planOf plain 3 (ordered 3) given all (0x90 ∷ 0xf5 ∷ []) (anyList slots planLimit) .1 ≡ record { refusal = 0; turns = 4 }
     pub spoilt-road : Road plain 3 (2 ∷ 3 ∷ 2 ∷ 3 ∷ []) given (ordered 3)

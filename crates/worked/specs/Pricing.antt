@@ -16,7 +16,7 @@ use Rattle.tariff.specs.Tariffs.{lineLimit, tariffLine, tariffLines, tariffRefu
 use Rattle.tariff.specs.declared.Line.{Line}
 use Rattle.tariff.specs.declared.Priced.{Priced}
 use Rattle.tariff.specs.declared.Tariff.{Tariff}
-use Rattle.worked.specs.Cases.{plain, ordered, any}
+use Rattle.worked.specs.Cases.{plain, ordered, anyList}
 use Rattle.worked.specs.PlainThree.{all, given, table, end}
 
 abbrev pub tariffOf : List Line → Tariff
@@ -35,13 +35,13 @@ single = tariffOf (tariffLine 1 3 1250 ∷ [])
 -- slots are what the turn list held before
 module _ (slots : ℕ → ℕ) where
   abbrev pub priced : List Line → List ℕ × Priced
-  priced lines = priceOf plain 3 (ordered 3) given all table (any slots planLimit) (tariffOf lines)
+  priced lines = priceOf plain 3 (ordered 3) given all table (anyList slots planLimit) (tariffOf lines)
 
   -- first, second and words are what the buffers of the build held before
   pub record Pricing (first second : ℕ) (words : ℕ → ℕ) : Type 0 where
     -- the plan 3, 2 costs 3: 2,500 thousandths, rounded once, halves up
-    pub costs : priceOf plain 3 (ordered 3) given all table (any slots planLimit) example .1 ≡ record { refusal = 0; turns = 2; pennies = 3 }
-    pub front : take 2 (priceOf plain 3 (ordered 3) given all table (any slots planLimit) example .0) ≡ 3 ∷ 2 ∷ []
+    pub costs : priceOf plain 3 (ordered 3) given all table (anyList slots planLimit) example .1 ≡ record { refusal = 0; turns = 2; pennies = 3 }
+    pub front : take 2 (priceOf plain 3 (ordered 3) given all table (anyList slots planLimit) example .0) ≡ 3 ∷ 2 ∷ []
     pub below-half : rounded 2499 ≡ 2
     pub above-half : rounded 2501 ≡ 3
     pub once : (turns : List ℕ)
@@ -63,18 +63,18 @@ module _ (slots : ℕ → ℕ) where
     -- 17 before 18, 18 before 19, and 20 and 15 before them all, whatever the tariff; refused, the list is as it was
     pub line-first : priced (tariffLine 2 3 1250 ∷ tariffLine 2 4 1250 ∷ []) .1 .refusal ≡ 17
     pub gap-first : priced (tariffLine 1 2 1250 ∷ tariffLine 2 2 1250 ∷ []) .1 .refusal ≡ 18
-    pub road-first : (tariff : Tariff) → priceOf plain 3 (ordered 3) given all (0xff ∷ 0xff ∷ []) (any slots planLimit) tariff .1 .refusal ≡ 20
-    pub plan-first : (tariff : Tariff) → priceOf plain 3 (ordered 3) given all (0x91 ∷ 0xf6 ∷ []) (any slots planLimit) tariff .1 .refusal ≡ 15
-    pub kept : priced [] ≡ (any slots planLimit, record { refusal = 18; turns = 0; pennies = 0 })
+    pub road-first : (tariff : Tariff) → priceOf plain 3 (ordered 3) given all (0xff ∷ 0xff ∷ []) (anyList slots planLimit) tariff .1 .refusal ≡ 20
+    pub plan-first : (tariff : Tariff) → priceOf plain 3 (ordered 3) given all (0x91 ∷ 0xf6 ∷ []) (anyList slots planLimit) tariff .1 .refusal ≡ 15
+    pub kept : priced [] ≡ (anyList slots planLimit, record { refusal = 18; turns = 0; pennies = 0 })
     -- the plan is Plan's
-    pub plans : unpriced (priceOf plain 3 (ordered 3) given all table (any slots planLimit) example) ≡ planOf plain 3 (ordered 3) given all table (any slots planLimit)
+    pub plans : unpriced (priceOf plain 3 (ordered 3) given all table (anyList slots planLimit) example) ≡ planOf plain 3 (ordered 3) given all table (anyList slots planLimit)
     -- each size has one price, and so has each of the plan's turns
     pub one-price : OnePrice (tariffLines example) 2
-    pub turns-priced : (i : ℕ) → i < 2 → OnePrice (tariffLines example) (getD (priceOf plain 3 (ordered 3) given all table (any slots planLimit) example .0) i 0)
+    pub turns-priced : (i : ℕ) → i < 2 → OnePrice (tariffLines example) (getD (priceOf plain 3 (ordered 3) given all table (anyList slots planLimit) example .0) i 0)
     -- the other order, and the two lines as one, change nothing, whatever is priced
     pub any-order : PricedAlike example swapped
     pub in-parts : PricedAlike single example
     -- after the build Price is refused for its tariff alone, and its plan is shortest
-    pub refused : (tariff : Tariff) → priceIn (end first second words) given (any slots planLimit) tariff .1 .refusal ≡ tariffRefusal 3 tariff
+    pub refused : (tariff : Tariff) → priceIn (end first second words) given (anyList slots planLimit) tariff .1 .refusal ≡ tariffRefusal 3 tariff
     pub arrives : Road plain 3 (3 ∷ 2 ∷ []) given (ordered 3)
     pub fewest : Fewest plain 3 given (ordered 3) 2

@@ -5,18 +5,30 @@ use crate::rng::Rng;
 use crate::search::{self, Distances};
 use crate::system::*;
 
+// The changed list has room for that of any segment; that of the loaded one stands at its front.
 #[derive(Clone)]
 pub struct Build {
     pub job: Job,
     pub measures: Measures,
     pub segments: Vec<Vec<u8>>,
     pub logs: Vec<u32>,
+    pub list: Vec<u8>,
 }
 
 // A refused call of a driver: the number and the call.
 pub type Refused = (u8, &'static str);
 
-// The order in which a driver takes the segments of a level.
+// A call that a driver makes, and the segment that it names.
+enum Step {
+    Blank(u32),
+    Expand(u32),
+    Settle(u32),
+    Load(u32),
+    Sweep(u32),
+    Close,
+}
+
+// The order in which a driver takes the segments of a level, or its pairs of segments.
 #[derive(Clone, Copy, PartialEq, Debug)]
 pub enum Order {
     Rising,
@@ -24,8 +36,25 @@ pub enum Order {
     Shuffled,
 }
 
+// The way that a driver tells each Close; mixed, any number, so that either way comes by chance.
+#[derive(Clone, Copy, PartialEq, Debug)]
+pub enum Ways {
+    Forward,
+    Reverse,
+    Mixed,
+}
+
+// How a driver goes.
+#[derive(Clone, Copy, PartialEq, Debug)]
+pub struct Manner {
+    pub order: Order,
+    pub ways: Ways,
+}
+
+pub const FORWARD_RISING: Manner = Manner { order: Order::Rising, ways: Ways::Forward };
+
 impl Build {
-    // Begins; segments and log area hold anything. Refused, the number.
+    // Begins; segments, log area and changed list hold anything. Refused, the number.
     pub fn begin<S: System + ?Sized>(system: &S, fields: &Fields, rng: &mut Rng) -> Result<Build, u8> {
         let begun = fields.begin(system);
         if begun.refusal != 0 {
@@ -33,7 +62,8 @@ impl Build {
         }
         let measures = fields.measures()?;
         let segments = (0..measures.segments).map(|j| rng.bytes(measures.bytes_of(j))).collect();
-        Ok(Build { job: begun.job, measures, segments, logs: rng.words(measures.log_numbers()) })
+        let (logs, list) = (rng.words(measures.log_numbers()), rng.bytes(measures.list_bytes_of(0)));
+        Ok(Build { job: begun.job, measures, segments, logs, list })
     }
 
     pub fn deepest(&self) -> Option<u8> {
@@ -68,44 +98,131 @@ impl Build {
                 return Err(format!("count {level} is {count} and not {right}"));
             }
         }
-        if self.job.passed != [0; 64] || self.job.waiting != [0; 64] {
-            return Err("passed or waiting is not 0 at the end".to_string());
+        let Job { loaded, passed, waiting, swept, .. } = self.job;
+        if (loaded, passed, waiting, swept) != (NO_SEGMENT, [0; 64], [0; 64], [0; 64]) {
+            return Err("something is loaded, passed, waiting or swept at the end".to_string());
         }
         Ok(())
     }
 
     // Brings a begun build to its end. A refusal is an error here: the number and the call.
-    pub fn finish<S: System + ?Sized>(&mut self, system: &S, order: Order, rng: &mut Rng) -> Result<u8, Refused> {
-        self.blank_all(system, order, rng)?;
+    pub fn finish<S: System + ?Sized>(&mut self, system: &S, manner: Manner, rng: &mut Rng) -> Result<u8, Refused> {
+        self.blank_all(system, manner, rng)?;
         loop {
             if let Some(deepest) = self.deepest() {
                 return Ok(deepest);
             }
-            self.level(system, order, rng)?;
+            self.level(system, manner, rng)?;
         }
     }
 
     // Blanks every segment and closes.
-    pub fn blank_all<S: System + ?Sized>(&mut self, system: &S, order: Order, rng: &mut Rng) -> Result<(), Refused> {
-        for j in self.in_order(order, rng) {
-            let blanked = system.blank(&self.job, j, &mut self.segments[j as usize]);
-            self.accept(blanked, "Blank")?;
+    pub fn blank_all<S: System + ?Sized>(&mut self, system: &S, manner: Manner, rng: &mut Rng) -> Result<(), Refused> {
+        for j in self.in_order(manner.order, rng) {
+            self.blank(system, j)?;
         }
-        self.accept(system.close(&self.job), "Close")
+        self.close(system, manner.ways, rng)
     }
 
-    // Expands and settles every segment and closes.
-    pub fn level<S: System + ?Sized>(&mut self, system: &S, order: Order, rng: &mut Rng) -> Result<(), Refused> {
+    // Goes through a level by its way and closes.
+    pub fn level<S: System + ?Sized>(&mut self, system: &S, manner: Manner, rng: &mut Rng) -> Result<(), Refused> {
+        if self.job.way == REVERSE {
+            self.sweep_all(system, manner.order, rng)?;
+        } else {
+            self.expand_all(system, manner.order, rng)?;
+        }
+        self.close(system, manner.ways, rng)
+    }
+
+    // Expands and settles every segment.
+    fn expand_all<S: System + ?Sized>(&mut self, system: &S, order: Order, rng: &mut Rng) -> Result<(), Refused> {
         let segments = self.in_order(order, rng);
         for &j in &segments {
-            self.expand_whole(system, j)?;
+            while let Some(on) = self.expand(system, j)? {
+                self.settle(system, on)?;
+            }
         }
         for j in segments {
             if self.job.waiting[j as usize] > 0 {
                 self.settle(system, j)?;
             }
         }
-        self.accept(system.close(&self.job), "Close")
+        Ok(())
+    }
+
+    // Sweeps every segment against every segment. Shuffled, what is loaded changes from pair to pair.
+    fn sweep_all<S: System + ?Sized>(&mut self, system: &S, order: Order, rng: &mut Rng) -> Result<(), Refused> {
+        for (b, j) in self.pairs(order, rng) {
+            self.load_once(system, b)?;
+            self.sweep(system, j)?;
+        }
+        Ok(())
+    }
+
+    // Every b and j in some order.
+    pub fn pairs(&self, order: Order, rng: &mut Rng) -> Vec<(u32, u32)> {
+        let segments = self.in_order(order, rng);
+        let mut pairs: Vec<(u32, u32)> = segments.iter().flat_map(|&b| segments.iter().map(move |&j| (b, j))).collect();
+        if order == Order::Shuffled {
+            rng.shuffle(&mut pairs);
+        }
+        pairs
+    }
+
+    // Brings a begun build to its end by the calls that Build the whole table makes, but for the way that each Close is told.
+    pub fn drive<S: System + ?Sized>(&mut self, system: &S, way: impl Fn(&Build) -> u8) -> Result<u8, Refused> {
+        loop {
+            if let Some(deepest) = self.deepest() {
+                return Ok(deepest);
+            }
+            match self.next_step() {
+                Step::Blank(j) => self.blank(system, j)?,
+                Step::Expand(j) => self.expand(system, j).map(drop)?,
+                Step::Settle(j) => self.settle(system, j)?,
+                Step::Load(b) => self.load(system, b)?,
+                Step::Sweep(j) => self.sweep(system, j)?,
+                Step::Close => self.accept(system.close(&self.job, way(self)), "Close")?,
+            }
+        }
+    }
+
+    // In Blanking the first open segment is blanked. Forward, the first pending one is settled, else the first open one expanded. Reverse, the
+    // first one not swept against the loaded one is swept, else the first one with pairs left loaded. With nothing left it closes.
+    fn next_step(&self) -> Step {
+        let forward = || self.pending().next().map(Step::Settle).or_else(|| self.open().next().map(Step::Expand));
+        let reverse = || self.unswept().next().map(Step::Sweep).or_else(|| self.due().next().map(Step::Load));
+        let step = match (self.job.phase, self.job.way) {
+            (Phase::Blanking, _) => self.open().next().map(Step::Blank),
+            (_, REVERSE) => reverse(),
+            _ => forward(),
+        };
+        step.unwrap_or(Step::Close)
+    }
+
+    fn segments_that<'a>(&'a self, fits: impl Fn(u64) -> bool + 'a) -> impl Iterator<Item = u32> + 'a {
+        (0..self.measures.segments).filter(move |&j| fits(j)).map(|j| j as u32)
+    }
+
+    // Segments with stacks not passed.
+    pub fn open(&self) -> impl Iterator<Item = u32> + '_ {
+        self.segments_that(|j| u64::from(self.job.passed[j as usize]) < self.measures.stacks_of(j))
+    }
+
+    // Segments with entries waiting.
+    pub fn pending(&self) -> impl Iterator<Item = u32> + '_ {
+        self.segments_that(|j| self.job.waiting[j as usize] > 0)
+    }
+
+    // Segments not swept against the loaded one.
+    pub fn unswept(&self) -> impl Iterator<Item = u32> + '_ {
+        let loaded = self.job.loaded;
+        self.segments_that(move |j| loaded != NO_SEGMENT && !paper::is_swept(&self.job, u64::from(loaded), j))
+    }
+
+    // Segments with pairs left.
+    pub fn due(&self) -> impl Iterator<Item = u32> + '_ {
+        let all = paper::segments_below(self.measures.segments);
+        self.segments_that(move |b| self.job.swept[b as usize] != all)
     }
 
     fn in_order(&self, order: Order, rng: &mut Rng) -> Vec<u32> {
@@ -118,21 +235,63 @@ impl Build {
         segments
     }
 
-    // Expands a segment until it is passed, settling whatever it waits on.
-    fn expand_whole<S: System + ?Sized>(&mut self, system: &S, j: u32) -> Result<(), Refused> {
-        loop {
-            let expanded = system.expand(&self.job, j, &mut self.segments[j as usize], &mut self.logs);
-            self.accept(Answer { refusal: expanded.refusal, job: expanded.job }, "Expand")?;
-            if !expanded.waits {
-                return Ok(());
-            }
-            self.settle(system, expanded.on)?;
-        }
+    // The stacks that no level has reached, and those of the level that closes, which in Blanking is level 0.
+    pub fn unseen_and_closing(&self) -> (u64, u64) {
+        let (_, level) = self.job.phase.numbers();
+        (self.measures.stacks.saturating_sub(self.job.counts.iter().sum()), self.job.counts[level as usize])
+    }
+
+    fn blank<S: System + ?Sized>(&mut self, system: &S, j: u32) -> Result<(), Refused> {
+        let blanked = system.blank(&self.job, j, &mut self.segments[j as usize]);
+        self.accept(blanked, "Blank")
+    }
+
+    // The segment waited on.
+    fn expand<S: System + ?Sized>(&mut self, system: &S, j: u32) -> Result<Option<u32>, Refused> {
+        let expanded = system.expand(&self.job, j, &mut self.segments[j as usize], &mut self.logs);
+        self.accept(Answer { refusal: expanded.refusal, job: expanded.job }, "Expand")?;
+        Ok(expanded.waits.then_some(expanded.on))
     }
 
     fn settle<S: System + ?Sized>(&mut self, system: &S, j: u32) -> Result<(), Refused> {
         let settled = system.settle(&self.job, j, &mut self.segments[j as usize], &self.logs);
         self.accept(settled, "Settle")
+    }
+
+    // Loads a segment that is not the loaded one.
+    pub fn load_once<S: System + ?Sized>(&mut self, system: &S, b: u32) -> Result<(), Refused> {
+        if u32::from(self.job.loaded) == b {
+            return Ok(());
+        }
+        self.load(system, b)
+    }
+
+    pub fn load<S: System + ?Sized>(&mut self, system: &S, b: u32) -> Result<(), Refused> {
+        let bytes = self.list_of(b).len();
+        let loaded = system.load(&self.job, b, &self.segments[b as usize], &mut self.list[..bytes]);
+        self.accept(loaded, "Load")
+    }
+
+    pub fn sweep<S: System + ?Sized>(&mut self, system: &S, j: u32) -> Result<(), Refused> {
+        let bytes = self.list_of(u32::from(self.job.loaded)).len();
+        let swept = system.sweep(&self.job, j, &mut self.segments[j as usize], &self.list[..bytes]);
+        self.accept(swept, "Sweep")
+    }
+
+    // The front of the changed list, as long as that of a segment; all of it where there is no such segment.
+    pub fn list_of(&self, b: u32) -> &[u8] {
+        let b = u64::from(b);
+        let bytes = if b < self.measures.segments { self.measures.list_bytes_of(b) } else { self.list.len() };
+        &self.list[..bytes]
+    }
+
+    pub fn close<S: System + ?Sized>(&mut self, system: &S, ways: Ways, rng: &mut Rng) -> Result<(), Refused> {
+        let way = match ways {
+            Ways::Forward => FORWARD,
+            Ways::Reverse => REVERSE,
+            Ways::Mixed => any_way(rng, 50),
+        };
+        self.accept(system.close(&self.job, way), "Close")
     }
 
     fn accept(&mut self, answer: Answer, call: &'static str) -> Result<(), Refused> {
@@ -144,26 +303,51 @@ impl Build {
     }
 }
 
-// Build the whole table by the system's own calls: Begin's refusals, then 10 for the table's length and for the log area's. Where Close gives 14
-// the build has ended too, at that level.
-pub fn whole_table<S: System + ?Sized>(system: &S, fields: &Fields, table: &mut [u8], logs: &mut [u32]) -> Answer {
+// A number for Close: one that means reverse in about so many of a hundred.
+pub fn any_way(rng: &mut Rng, reverse: u64) -> u8 {
+    if rng.chance(reverse) {
+        rng.pick(&[REVERSE, REVERSE, 2, 64, 128, 255])
+    } else {
+        FORWARD
+    }
+}
+
+// The way that Build the whole table tells Close: reverse where the unseen stacks, once for each segment, are no more than those of the level
+// that closes.
+pub fn chosen_way(build: &Build) -> u8 {
+    let (unseen, closing) = build.unseen_and_closing();
+    u8::from(unseen * build.measures.segments <= closing)
+}
+
+// Build the whole table by the system's own calls: Begin's refusals, then 10 for the table's length, for the log area's and for the changed
+// list's, which is that of the largest segment. Where Close gives 14 the build has ended too, at that level.
+pub fn whole_table<S: System + ?Sized>(
+    system: &S,
+    fields: &Fields,
+    way: impl Fn(&Build) -> u8,
+    table: &mut [u8],
+    logs: &mut [u32],
+    list: &mut [u8],
+) -> Answer {
     let begun = fields.begin(system);
     let measures = match fields.measures() {
         Ok(measures) if begun.refusal == 0 => measures,
         _ => return begun,
     };
-    if table.len() != paper::bytes_of(measures.stacks) || logs.len() != measures.log_numbers() {
+    let right = (paper::bytes_of(measures.stacks), measures.log_numbers(), measures.list_bytes_of(0));
+    if (table.len(), logs.len(), list.len()) != right {
         return Answer { refusal: 10, job: NO_JOB };
     }
     // As S is a multiple of 4, each segment but the last fills its bytes.
     let segments = table.chunks(fields.size as usize / 4).map(<[u8]>::to_vec).collect();
-    let mut build = Build { job: begun.job, measures, segments, logs: logs.to_vec() };
-    let refusal = match build.finish(system, Order::Rising, &mut Rng::new(0)) {
+    let mut build = Build { job: begun.job, measures, segments, logs: logs.to_vec(), list: list.to_vec() };
+    let refusal = match build.drive(system, way) {
         Ok(_) | Err((14, _)) => 0,
         Err((refusal, _)) => refusal,
     };
     table.copy_from_slice(&build.table());
     logs.copy_from_slice(&build.logs);
+    list.copy_from_slice(&build.list);
     Answer { refusal, job: build.job }
 }
 
@@ -182,6 +366,17 @@ impl Fields {
     pub fn begin<S: System + ?Sized>(&self, system: &S) -> Answer {
         let Fields { kind, n, wanted, groups, size, room } = *self;
         system.begin(kind, n, wanted, groups, size, room)
+    }
+
+    pub fn build_table<S: System + ?Sized>(
+        &self,
+        system: &S,
+        table: &mut [u8],
+        logs: &mut [u32],
+        list: &mut [u8],
+    ) -> Answer {
+        let Fields { kind, n, wanted, groups, size, room } = *self;
+        system.build_table(kind, n, wanted, groups, size, room, table, logs, list)
     }
 
     pub fn measures(&self) -> Result<Measures, u8> {

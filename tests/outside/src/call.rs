@@ -3,6 +3,7 @@
 use std::fmt;
 use std::rc::Rc;
 
+use crate::build::Fields;
 use crate::paper;
 use crate::system::*;
 
@@ -14,21 +15,23 @@ pub enum Call {
     Index { kind: u8, n: u8, stack: Stack },
     StackAt { kind: u8, n: u8, index: u32 },
     Turn { kind: u8, n: u8, stack: Stack, k: u8 },
-    Begin { kind: u8, n: u8, wanted: Stack, groups: Groups, size: u32, room: u32 },
+    Begin { fields: Fields },
     Blank { job: Job, j: u32, segment: Vec<u8> },
     Expand { job: Job, j: u32, segment: Vec<u8>, logs: Vec<u32> },
     Settle { job: Job, j: u32, segment: Vec<u8>, logs: Vec<u32> },
     Look { job: Job, j: u32, logs: Vec<u32> },
-    Close { job: Job },
+    Close { job: Job, way: u8 },
+    Load { job: Job, b: u32, segment: Vec<u8>, list: Vec<u8> },
+    Sweep { job: Job, j: u32, segment: Vec<u8>, list: Vec<u8> },
     ReadEntry { kind: u8, n: u8, table: Table, index: u32 },
     Plan { kind: u8, n: u8, wanted: Stack, given: Stack, groups: Groups, table: Table, list: Vec<u8> },
     Price { kind: u8, n: u8, wanted: Stack, given: Stack, groups: Groups, table: Table, list: Vec<u8>, tariff: Tariff },
-    Build { kind: u8, n: u8, wanted: Stack, groups: Groups, size: u32, room: u32, table: Vec<u8>, logs: Vec<u32> },
+    Build { fields: Fields, table: Vec<u8>, logs: Vec<u32>, list: Vec<u8> },
 }
 
-pub const OPERATIONS: [&str; 13] = [
-    "Index", "Stack at", "Turn", "Begin", "Blank", "Expand", "Settle", "Look", "Close", "Read", "Plan", "Price",
-    "Build",
+pub const OPERATIONS: [&str; 15] = [
+    "Index", "Stack at", "Turn", "Begin", "Blank", "Expand", "Settle", "Look", "Close", "Load", "Sweep", "Read",
+    "Plan", "Price", "Build",
 ];
 
 #[derive(Clone, PartialEq, Eq, Debug)]
@@ -66,7 +69,8 @@ impl Answered {
     }
 }
 
-// The answer, and the final contents of everything lent: segment holds Build's table too. Buffers that the call was not lent are empty.
+// The answer, and the final contents of everything lent: segment holds Build's table too, list the turn list or the changed list. Buffers that
+// the call was not lent are empty.
 #[derive(Clone, PartialEq, Eq)]
 pub struct Outcome {
     pub answer: Answered,
@@ -135,10 +139,12 @@ impl Call {
             Call::Settle { .. } => 6,
             Call::Look { .. } => 7,
             Call::Close { .. } => 8,
-            Call::ReadEntry { .. } => 9,
-            Call::Plan { .. } => 10,
-            Call::Price { .. } => 11,
-            Call::Build { .. } => 12,
+            Call::Load { .. } => 9,
+            Call::Sweep { .. } => 10,
+            Call::ReadEntry { .. } => 11,
+            Call::Plan { .. } => 12,
+            Call::Price { .. } => 13,
+            Call::Build { .. } => 14,
         }
     }
 
@@ -155,7 +161,7 @@ impl Call {
     // Whether the call's set is not that of every turn; for an accepted call, so that its kind and n are right.
     pub fn is_limited(&self) -> bool {
         let (kind, n, groups) = match self {
-            Call::Begin { kind, n, groups, .. } | Call::Build { kind, n, groups, .. } => (*kind, *n, *groups),
+            Call::Begin { fields } | Call::Build { fields, .. } => (fields.kind, fields.n, fields.groups),
             Call::Plan { kind, n, groups, .. } | Call::Price { kind, n, groups, .. } => (*kind, *n, *groups),
             _ => match self.job() {
                 Some(job) => (job.kind, job.n, job.groups),
@@ -168,18 +174,20 @@ impl Call {
     pub fn job(&self) -> Option<&Job> {
         match self {
             Call::Blank { job, .. } | Call::Expand { job, .. } | Call::Settle { job, .. } => Some(job),
-            Call::Look { job, .. } | Call::Close { job } => Some(job),
+            Call::Look { job, .. } | Call::Close { job, .. } => Some(job),
+            Call::Load { job, .. } | Call::Sweep { job, .. } => Some(job),
             _ => None,
         }
     }
 
-    // The segment (or Build's table), log area and turn list as lent.
+    // The segment (or Build's table), log area and turn or changed list as lent.
     pub fn lent(&self) -> (&[u8], &[u32], &[u8]) {
         match self {
             Call::Blank { segment, .. } => (segment, &[], &[]),
             Call::Expand { segment, logs, .. } | Call::Settle { segment, logs, .. } => (segment, logs, &[]),
             Call::Look { logs, .. } => (&[], logs, &[]),
-            Call::Build { table, logs, .. } => (table, logs, &[]),
+            Call::Load { segment, list, .. } | Call::Sweep { segment, list, .. } => (segment, &[], list),
+            Call::Build { table, logs, list, .. } => (table, logs, list),
             Call::Plan { list, .. } | Call::Price { list, .. } => (&[], &[], list),
             _ => (&[], &[], &[]),
         }
@@ -195,14 +203,14 @@ impl Call {
             Call::Index { kind, n, stack } => Answered::Indexed(system.index_of_stack(*kind, *n, *stack)),
             Call::StackAt { kind, n, index } => Answered::Stacked(system.stack_at_index(*kind, *n, *index)),
             Call::Turn { kind, n, stack, k } => Answered::Stacked(system.turn(*kind, *n, *stack, *k)),
-            Call::Begin { kind, n, wanted, groups, size, room } => {
-                Answered::Answer(system.begin(*kind, *n, *wanted, *groups, *size, *room))
-            }
+            Call::Begin { fields } => Answered::Answer(fields.begin(system)),
             Call::Blank { job, j, .. } => Answered::Answer(system.blank(job, *j, segment.slice())),
             Call::Expand { job, j, .. } => Answered::Expanded(system.expand(job, *j, segment.slice(), logs.slice())),
             Call::Settle { job, j, .. } => Answered::Answer(system.settle(job, *j, segment.slice(), logs.slice())),
             Call::Look { job, j, .. } => Answered::Looked(system.look(job, *j, logs.slice())),
-            Call::Close { job } => Answered::Answer(system.close(job)),
+            Call::Close { job, way } => Answered::Answer(system.close(job, *way)),
+            Call::Load { job, b, .. } => Answered::Answer(system.load(job, *b, segment.slice(), list.slice())),
+            Call::Sweep { job, j, .. } => Answered::Answer(system.sweep(job, *j, segment.slice(), list.slice())),
             Call::ReadEntry { kind, n, table, index } => {
                 Answered::Entry(reading(table, &mut kept_off, |table| system.read_entry(*kind, *n, table, *index)))
             }
@@ -218,21 +226,19 @@ impl Call {
                     system.price(*kind, *n, *wanted, *given, *groups, table, list, tariff)
                 }))
             }
-            Call::Build { kind, n, wanted, groups, size, room, .. } => {
-                let (table, logs) = (segment.slice(), logs.slice());
-                Answered::Answer(system.build_table(*kind, *n, *wanted, *groups, *size, *room, table, logs))
+            Call::Build { fields, .. } => {
+                Answered::Answer(fields.build_table(system, segment.slice(), logs.slice(), list.slice()))
             }
         };
         let segment = segment.contents(&mut kept_off);
-        let mut logs = logs.contents(&mut kept_off);
+        let logs = logs.contents(&mut kept_off);
         let list = list.contents(&mut kept_off);
-        if matches!(self, Call::Settle { .. } | Call::Look { .. }) {
-            kept_off &= logs == self.lent().1;
-        }
-        // What a whole build leaves in the log area goes by its order of calls, which is free.
-        if matches!(self, Call::Build { .. }) && answer.refusal() == 0 {
-            logs.fill(0);
-        }
+        kept_off &= match self {
+            Call::Settle { logs: lent, .. } | Call::Look { logs: lent, .. } => logs == *lent,
+            Call::Load { segment: lent, .. } => segment == *lent,
+            Call::Sweep { list: lent, .. } => list == *lent,
+            _ => true,
+        };
         Outcome { answer, segment, logs, list, kept_off }
     }
 }
@@ -275,9 +281,10 @@ struct Shown<'a>(&'a Job);
 
 impl fmt::Display for Shown<'_> {
     fn fmt(&self, f: &mut fmt::Formatter) -> fmt::Result {
-        let Job { kind, n, wanted, groups, size, room, phase, passed, waiting, counts } = self.0;
+        let Job { kind, n, wanted, groups, size, room, phase, way, loaded, passed, waiting, swept, counts } = self.0;
         write!(f, "kind {kind} n {n} wanted {wanted:?} groups {groups:#b} size {size} room {room} phase {phase:?}")?;
-        write!(f, "\n    passed  {}\n    waiting {}\n    counts  {}", Runs(passed), Runs(waiting), Runs(counts))
+        write!(f, " way {way} loaded {loaded}\n    passed  {}\n    waiting {}", Runs(passed), Runs(waiting))?;
+        write!(f, "\n    swept   {}\n    counts  {}", Runs(swept), Runs(counts))
     }
 }
 
@@ -300,15 +307,16 @@ impl fmt::Display for Call {
             Call::Index { kind, n, stack } => write!(f, " kind {kind} n {n} stack {stack:?}"),
             Call::StackAt { kind, n, index } => write!(f, " kind {kind} n {n} index {index}"),
             Call::Turn { kind, n, stack, k } => write!(f, " kind {kind} n {n} stack {stack:?} k {k}"),
-            Call::Begin { kind, n, wanted, groups, size, room } => {
-                write!(f, " kind {kind} n {n} wanted {wanted:?} groups {groups:#b} size {size} room {room}")
-            }
+            Call::Begin { fields } => write!(f, " {fields:?}"),
             Call::Blank { job, j, segment } => write!(f, " j {j}\n    {}\n    segment {}", Shown(job), Runs(segment)),
             Call::Expand { job, j, segment, logs } | Call::Settle { job, j, segment, logs } => {
                 write!(f, " j {j}\n    {}\n    segment {}\n    logs    {}", Shown(job), Runs(segment), Runs(logs))
             }
             Call::Look { job, j, logs } => write!(f, " j {j}\n    {}\n    logs    {}", Shown(job), Runs(logs)),
-            Call::Close { job } => write!(f, "\n    {}", Shown(job)),
+            Call::Close { job, way } => write!(f, " way {way}\n    {}", Shown(job)),
+            Call::Load { job, b: j, segment, list } | Call::Sweep { job, j, segment, list } => {
+                write!(f, " of {j}\n    {}\n    segment {}\n    list    {}", Shown(job), Runs(segment), Runs(list))
+            }
             Call::ReadEntry { kind, n, table, index } => {
                 write!(f, " kind {kind} n {n} index {index}\n    table   {}", Runs(table))
             }
@@ -321,9 +329,9 @@ impl fmt::Display for Call {
                     _ => Ok(()),
                 }
             }
-            Call::Build { kind, n, wanted, groups, size, room, table, logs } => {
-                write!(f, " kind {kind} n {n} wanted {wanted:?} groups {groups:#b} size {size} room {room}")?;
-                write!(f, "\n    table   {}\n    logs    {}", Runs(table), Runs(logs))
+            Call::Build { fields, table, logs, list } => {
+                write!(f, " {fields:?}\n    table   {}", Runs(table))?;
+                write!(f, "\n    logs    {}\n    list    {}", Runs(logs), Runs(list))
             }
         }
     }

@@ -57,7 +57,7 @@ pub fn limits() -> Caught {
     Ok(format!("{} limits tried from both sides, {wrong_limits} wrong limits caught", LIMITS.len()))
 }
 
-// Each two refusals at once, where there is a set: the one that comes first in the papers is given.
+// Each two refusals at once, where there is a set, a way or a changed list: the one that comes first in the papers is given.
 pub fn orders() -> Caught {
     let orders = deliberate::orders();
     for (call, right) in &orders {

@@ -1,10 +1,10 @@
-// What any one system is held to: the papers' examples, the numbering, whole builds against the plain search by every set and to the last level,
-// prices against a bill, published diameters. Each check says what it did, or what was wrong.
+// What any one system is held to: the papers' examples, the numbering, whole builds against the plain search by every set, by either way and to
+// the last level, prices against a bill, published diameters. Each check says what it did, or what was wrong.
 
 use crate::bill;
-use crate::build::{ordered, size_for, Build, Fields, Order};
-use crate::cases::{right_stack, right_tariff};
-use crate::paper::{self, COATED, PLAIN};
+use crate::build::{ordered, size_for, Build, Fields, Manner, Order, Refused, Ways, FORWARD_RISING};
+use crate::cases::{right_groups, right_stack, right_tariff};
+use crate::paper::{self, Measures, COATED, PLAIN};
 use crate::rng::Rng;
 use crate::search;
 use crate::system::*;
@@ -28,12 +28,14 @@ fn stack(panes: &[i8]) -> Stack {
     stack
 }
 
-fn finished(system: &dyn System, fields: &Fields, order: Order, rng: &mut Rng) -> Result<Build, String> {
+fn refused((refusal, call): Refused) -> String {
+    format!("{call} refused {refusal}")
+}
+
+fn finished(system: &dyn System, fields: &Fields, manner: Manner, rng: &mut Rng) -> Result<Build, String> {
     let mut build =
         Build::begin(system, fields, rng).map_err(|refusal| format!("Begin refused {refusal}: {fields:?}"))?;
-    build
-        .finish(system, order, rng)
-        .map_err(|(refusal, call)| format!("{call} refused {refusal}: {fields:?} {order:?}"))?;
+    build.finish(system, manner, rng).map_err(|wrong| format!("{}: {fields:?} {manner:?}", refused(wrong)))?;
     Ok(build)
 }
 
@@ -85,7 +87,7 @@ pub fn examples(system: &dyn System) -> Checked {
     ];
     for (kind, n, size, right) in tables {
         let fields = full(kind, n, ordered(n), size, 16);
-        let build = finished(system, &fields, Order::Rising, &mut rng)?;
+        let build = finished(system, &fields, FORWARD_RISING, &mut rng)?;
         check(equal(&format!("table of {fields:?}"), build.table(), right.to_vec()))?;
     }
     let counts: [(u8, u8, &[u64]); 4] = [
@@ -96,7 +98,7 @@ pub fn examples(system: &dyn System) -> Checked {
     ];
     for (kind, n, right) in counts {
         let fields = full(kind, n, ordered(n), 4, 16);
-        let build = finished(system, &fields, Order::Rising, &mut rng)?;
+        let build = finished(system, &fields, FORWARD_RISING, &mut rng)?;
         let levels = build.deepest().map_or(0, |deepest| deepest as usize + 1);
         check(equal(&format!("counts of {fields:?}"), build.job.counts[..levels].to_vec(), right.to_vec()))?;
         check(equal(&format!("later counts of {fields:?}"), build.job.counts[levels..].iter().sum(), 0))?;
@@ -128,7 +130,7 @@ pub fn examples(system: &dyn System) -> Checked {
 
     // The report's input: plain 3, wanted 1 2 3, S 4, C 16.
     let fields = full(PLAIN, 3, ordered(3), 4, 16);
-    let build = finished(system, &fields, Order::Rising, &mut rng)?;
+    let build = finished(system, &fields, FORWARD_RISING, &mut rng)?;
     check(equal("deepest of the report's build", build.deepest(), Some(3)))?;
     let table = build.table();
     let plan = |groups, table: &[u8], panes: &[i8]| {
@@ -166,7 +168,7 @@ pub fn examples(system: &dyn System) -> Checked {
     }
     // Plain 3 by turn 2 alone: two stacks have a road.
     let short = Fields { groups: 0b010, ..fields };
-    let build = finished(system, &short, Order::Rising, &mut rng)?;
+    let build = finished(system, &short, FORWARD_RISING, &mut rng)?;
     let table = build.table();
     check(equal("table by turn 2", &table[..], &[0xdc, 0xff]))?;
     check(equal("deepest by turn 2", (build.deepest(), build.job.counts[..3].to_vec()), (Some(1), vec![1, 1, 0])))?;
@@ -174,6 +176,29 @@ pub fn examples(system: &dyn System) -> Checked {
     check(equal("plan of 3 2 1 by turn 2", plan(0b010, &table, &[3, 2, 1]), (20, vec![], true)))?;
     // An entry of 3 is 20 for the wanted stack itself.
     check(equal("plan of 1 2 3 unseen", plan(0b010, &[0xff, 0xff], &[1, 2, 3]), (20, vec![], true)))?;
+
+    // Level 1 of plain 3, reverse. The wanted stack is the first of segment 0, and a child of the third there and of the second of segment 1.
+    let mut build = Build::begin(system, &fields, &mut rng).map_err(|refusal| refused((refusal, "Begin")))?;
+    build.blank_all(system, Manner { order: Order::Rising, ways: Ways::Reverse }, &mut rng).map_err(refused)?;
+    check(equal("a reverse level", (build.job.phase, build.job.way), (Phase::Level(1), REVERSE)))?;
+    for (b, right) in [(1, [0b00]), (0, [0b01])] {
+        build.load(system, b).map_err(refused)?;
+        check(equal(&format!("list of segment {b}"), (build.list_of(b), build.job.loaded), (&right[..], b as u8)))?;
+    }
+    for (j, right, count) in [(1, 0xf7, 1), (0, 0xdc, 2)] {
+        build.sweep(system, j).map_err(refused)?;
+        check(equal(
+            &format!("swept segment {j}"),
+            (&build.segments[j as usize], build.job.counts[1]),
+            (&vec![right], count),
+        ))?;
+    }
+    check(equal("pairs swept", build.job.swept[..3].to_vec(), vec![0b11, 0, 0]))?;
+    check(equal(
+        "Close before the pairs of segment 1",
+        build.close(system, Ways::Forward, &mut rng),
+        Err((13, "Close")),
+    ))?;
     Ok(format!("{examples} examples of documents 01 and 02"))
 }
 
@@ -226,7 +251,15 @@ pub fn numbering(system: &dyn System) -> Checked {
 
 // ---- Whole builds
 
-// Plain 1 to 7 and coated 1 to 5, several wanted stacks, S, C and orders: entry by entry and count by count against
+const ANY_MANNER: Manner = Manner { order: Order::Shuffled, ways: Ways::Mixed };
+const MANNERS: [Manner; 4] = [
+    FORWARD_RISING,
+    Manner { order: Order::Falling, ways: Ways::Forward },
+    Manner { order: Order::Falling, ways: Ways::Reverse },
+    ANY_MANNER,
+];
+
+// Plain 1 to 7 and coated 1 to 5, several wanted stacks, S, C, orders and ways: entry by entry and count by count against
 // the plain search, then the plan of every stack and its price; and Build the whole table, once for each S and C.
 pub fn builds(system: &dyn System, seed: u64) -> Checked {
     let mut rng = Rng::new(seed);
@@ -250,12 +283,19 @@ pub fn builds(system: &dyn System, seed: u64) -> Checked {
                     let whole = whole(system, &fields, &mut rng)?;
                     whole.agrees_with(&distances).map_err(|wrong| format!("{wrong}: {fields:?} as a whole"))?;
                     tables += 1;
-                    for order in [Order::Rising, Order::Falling, Order::Shuffled] {
-                        let build = finished(system, &fields, order, &mut rng)?;
-                        build.agrees_with(&distances).map_err(|wrong| format!("{wrong}: {fields:?} {order:?}"))?;
+                    // Reverse levels take long where many stacks are tried for many segments: one C must do there, and what `reverse` builds.
+                    let is_short = stacks * whole.measures.segments < 100_000;
+                    let is_tried = |manner: &Manner| match manner.ways {
+                        Ways::Forward => true,
+                        Ways::Mixed => is_short || room == 16,
+                        Ways::Reverse => is_short,
+                    };
+                    for manner in MANNERS.into_iter().filter(is_tried) {
+                        let build = finished(system, &fields, manner, &mut rng)?;
+                        build.agrees_with(&distances).map_err(|wrong| format!("{wrong}: {fields:?} {manner:?}"))?;
                         builds += 1;
                         entries += stacks;
-                        if order == Order::Shuffled && room == 16 {
+                        if manner == ANY_MANNER && room == 16 {
                             plans += plans_of(system, &build, &distances, 1, &mut rng)?;
                         }
                     }
@@ -271,10 +311,10 @@ pub fn builds(system: &dyn System, seed: u64) -> Checked {
 fn whole(system: &dyn System, fields: &Fields, rng: &mut Rng) -> Result<Build, String> {
     let measures = fields.measures().map_err(|refusal| format!("refused {refusal}: {fields:?}"))?;
     let (mut table, mut logs) = (rng.bytes(paper::bytes_of(measures.stacks)), rng.words(measures.log_numbers()));
-    let Fields { kind, n, wanted, groups, size, room } = *fields;
-    let answer = system.build_table(kind, n, wanted, groups, size, room, &mut table, &mut logs);
+    let mut list = rng.bytes(measures.list_bytes_of(0));
+    let answer = fields.build_table(system, &mut table, &mut logs, &mut list);
     equal(&format!("refusal of {fields:?}"), answer.refusal, 0)?;
-    Ok(Build { job: answer.job, measures, segments: vec![table], logs })
+    Ok(Build { job: answer.job, measures, segments: vec![table], logs, list })
 }
 
 // The plan of every stack, or of one in so many.
@@ -348,7 +388,7 @@ pub fn limited(system: &dyn System, seed: u64) -> Checked {
                     let distances = fields.distances();
                     let whole = whole(system, &fields, &mut rng)?;
                     whole.agrees_with(&distances).map_err(|wrong| format!("{wrong}: {fields:?} as a whole"))?;
-                    let build = finished(system, &fields, Order::Shuffled, &mut rng)?;
+                    let build = finished(system, &fields, ANY_MANNER, &mut rng)?;
                     build.agrees_with(&distances).map_err(|wrong| format!("{wrong}: {fields:?}"))?;
                     builds += 2;
                     plans += plans_of(system, &build, &distances, 1, &mut rng)?;
@@ -387,6 +427,54 @@ pub fn deep(system: &dyn System, frames: &[Frame]) -> Checked {
     Ok(format!("whole builds to levels {}, {plans} plans", levels.join(", ")))
 }
 
+// ---- Reverse levels
+
+// Builds with every level reverse, from one segment to 64, also with last bytes that are not full, by every turn and by a limited set.
+pub fn reverse(system: &dyn System, seed: u64) -> Checked {
+    let mut rng = Rng::new(seed);
+    let (mut builds, mut pairs) = (0, 0);
+    for (kind, n, size) in [
+        (PLAIN, 1, 4),
+        (COATED, 1, 4),
+        (PLAIN, 2, 4),
+        (PLAIN, 3, 4),
+        (PLAIN, 4, 24),
+        (PLAIN, 4, 20),
+        (COATED, 3, 20),
+        (PLAIN, 5, 4),
+        (COATED, 5, 60),
+    ] {
+        for groups in [paper::full_set(kind, n), right_groups(&mut rng, kind, n)] {
+            let fields = Fields { groups, ..full(kind, n, right_stack(&mut rng, kind, n), size, 16) };
+            pairs += reverse_build(system, &fields, &mut rng).map_err(|wrong| format!("{wrong}: {fields:?}"))?;
+            builds += 1;
+        }
+    }
+    Ok(format!("{builds} builds with every level reverse against the plain search, {pairs} pairs swept, each once"))
+}
+
+// How many pairs it sweeps: in each level the first after a Load, each once, and none of them too few for Close.
+fn reverse_build(system: &dyn System, fields: &Fields, rng: &mut Rng) -> Result<u64, String> {
+    let manner = Manner { order: Order::Shuffled, ways: Ways::Reverse };
+    let mut build = Build::begin(system, fields, rng).map_err(|refusal| refused((refusal, "Begin")))?;
+    build.blank_all(system, manner, rng).map_err(refused)?;
+    let mut pairs = 0;
+    while build.deepest().is_none() {
+        equal("Sweep with nothing loaded", build.sweep(system, 0), Err((22, "Sweep")))?;
+        for (b, j) in build.pairs(manner.order, rng) {
+            equal("Close before the last pair", build.close(system, manner.ways, rng), Err((13, "Close")))?;
+            build.load_once(system, b).map_err(refused)?;
+            build.sweep(system, j).map_err(refused)?;
+            equal("Sweep of a swept pair", build.sweep(system, j), Err((11, "Sweep")))?;
+            pairs += 1;
+        }
+        build.close(system, manner.ways, rng).map_err(refused)?;
+        equal("way", build.job.way, REVERSE)?;
+    }
+    build.agrees_with(&fields.distances())?;
+    Ok(pairs)
+}
+
 // ---- The last level
 
 // Builds whose levels all come later: Level 1 of a blanked build becomes a level that leaves the same remainder by 3. Counts and entries are then
@@ -413,13 +501,12 @@ pub fn late(system: &dyn System) -> Checked {
 
 // Whether it is refused 14.
 fn late_build(system: &dyn System, fields: &Fields, first: u8, rng: &mut Rng) -> Result<bool, String> {
-    let refused = |(refusal, call)| format!("{call} refused {refusal}");
     let mut build = Build::begin(system, fields, rng).map_err(|refusal| refused((refusal, "Begin")))?;
-    build.blank_all(system, Order::Shuffled, rng).map_err(refused)?;
+    build.blank_all(system, ANY_MANNER, rng).map_err(refused)?;
     equal("phase", build.job.phase, Phase::Level(1))?;
     build.job.phase = Phase::Level(first);
     let ended = loop {
-        match build.level(system, Order::Shuffled, rng) {
+        match build.level(system, ANY_MANNER, rng) {
             Ok(()) if build.deepest().is_some() => break false,
             Ok(()) => {}
             Err((14, "Close")) => break true,
@@ -447,18 +534,25 @@ fn late_build(system: &dyn System, fields: &Fields, first: u8, rng: &mut Rng) ->
         return Ok(false);
     }
     equal("phase", build.job.phase, Phase::Level(255))?;
-    let measures = build.measures;
-    for j in 0..measures.segments as u32 {
+    let Measures { segments, .. } = build.measures;
+    let reverse = build.job.way == REVERSE;
+    for j in 0..segments as u32 {
         let (mut segment, mut logs) = (build.segments[j as usize].clone(), build.logs.clone());
         let refusals = [
             system.blank(&build.job, j, &mut segment).refusal,
             system.expand(&build.job, j, &mut segment, &mut logs).refusal,
-            system.close(&build.job).refusal,
+            system.close(&build.job, FORWARD).refusal,
+            system.close(&build.job, REVERSE).refusal,
         ];
-        equal("refusals of Blank, Expand and Close", refusals, [8, 11, 14])?;
+        equal("refusals of Blank, Expand and Close", refusals, [8, if reverse { 8 } else { 11 }, 14, 14])?;
+        // Forward there is nothing to settle, reverse no pair to sweep, whatever is loaded.
         let settled = system.settle(&build.job, j, &mut segment, &logs);
-        equal("settled", settled, Answer { refusal: 0, job: build.job })?;
+        equal("settled", settled, Answer { refusal: if reverse { 8 } else { 0 }, job: build.job })?;
         equal("segment", &segment, &build.segments[j as usize])?;
+        let loaded = build.load(system, j);
+        equal("loaded", loaded, if reverse { Ok(()) } else { Err((8, "Load")) })?;
+        let swept = build.sweep(system, j);
+        equal("swept", swept, Err((if reverse { 11 } else { 8 }, "Sweep")))?;
     }
     Ok(true)
 }
@@ -476,7 +570,7 @@ pub fn diameters(system: &dyn System, plain_to: u8, coated_to: u8) -> Checked {
         for n in 1..=most {
             let stacks = paper::count_of_stacks(kind, n);
             let fields = full(kind, n, ordered(n), size_for(stacks, 12), 4096);
-            let build = finished(system, &fields, Order::Rising, &mut rng)?;
+            let build = finished(system, &fields, FORWARD_RISING, &mut rng)?;
             equal(&format!("diameter of {fields:?}"), build.deepest(), Some(PUBLISHED[kind as usize][n as usize - 1]))?;
             equal(&format!("sum of counts of {fields:?}"), build.job.counts.iter().sum(), stacks)?;
         }

@@ -19,6 +19,12 @@ pub struct Tally {
     pub waiting_at_once: u64,
     pub finished: u64,
     pub finished_late: u64,
+    // Of reverse levels: closed, finished, refused 13; of Sweeps: with stacks marked, with spare bits set in the list.
+    pub reverse: u64,
+    pub finished_reverse: u64,
+    pub unswept: u64,
+    pub marking: u64,
+    pub spare_bits: u64,
     pub limited: [u64; OPERATIONS.len()],
     pub plans_by_turns: BTreeMap<u32, u64>,
     pub prices_by_turns: BTreeMap<u32, u64>,
@@ -26,7 +32,7 @@ pub struct Tally {
     pub twelve_lines: u64,
 }
 
-const LAST_REFUSAL: usize = 21;
+const LAST_REFUSAL: usize = 22;
 
 // The turns of the longest plan.
 const MOST_TURNS: u32 = 254;
@@ -49,6 +55,8 @@ pub const LISTED: [&[u8]; OPERATIONS.len()] = [
     &[7, 8, 9, 10, 12],
     &[7, 9, 10],
     &[7, 8, 13, 14],
+    &[7, 8, 9, 10],
+    &[7, 8, 9, 22, 10, 11],
     &[1, 2, 10, 4],
     &[1, 2, 3, 21, 10, 20, 15],
     &[1, 2, 3, 21, 10, 20, 15, 17, 18, 19],
@@ -67,9 +75,18 @@ impl Tally {
                 self.waiting += 1;
                 self.waiting_at_once += u64::from(answer.job.passed[*j as usize] == job.passed[*j as usize]);
             }
-            (Answered::Answer(answer), Call::Close { .. }) if refusal == 0 => {
-                self.finished += u64::from(matches!(answer.job.phase, Phase::Finished(_)));
+            (Answered::Answer(answer), Call::Close { job, .. }) if matches!(refusal, 0 | 13) => {
+                let finished = refusal == 0 && matches!(answer.job.phase, Phase::Finished(_));
+                let reverse = job.way == REVERSE && matches!(job.phase, Phase::Level(_));
+                self.finished += u64::from(finished);
                 self.finished_late += u64::from(matches!(answer.job.phase, Phase::Finished(31..)));
+                self.reverse += u64::from(reverse && refusal == 0);
+                self.finished_reverse += u64::from(reverse && finished);
+                self.unswept += u64::from(reverse && refusal == 13);
+            }
+            (Answered::Answer(_), Call::Sweep { job, segment, list, .. }) if refusal == 0 => {
+                self.marking += u64::from(outcome.segment != *segment);
+                self.spare_bits += u64::from(has_spare_bits(list, stacks_of(job, u32::from(job.loaded))));
             }
             (Answered::Planned(planned), _) if refusal == 0 => {
                 *self.plans_by_turns.entry(planned.turns).or_default() += 1;
@@ -111,6 +128,11 @@ impl Tally {
             (self.waiting_at_once > 0, "Waiting with nothing passed"),
             (self.finished > 0, "a finishing Close"),
             (self.finished_late > 0, "a Close that finishes past level 31"),
+            (self.reverse > self.finished_reverse, "a Close of a reverse level that makes way"),
+            (self.finished_reverse > 0, "a Close of a reverse level that finishes"),
+            (self.unswept > 0, "a Close of a reverse level that is refused 13"),
+            (self.marking > 0, "a Sweep that marks"),
+            (self.spare_bits > 0, "a Sweep by a list with spare bits set"),
             (self.plans_by_turns.contains_key(&0), "a plan of no turn"),
             (self.plans_by_turns.contains_key(&MOST_TURNS), "a plan of 254 turns"),
             (self.prices_by_turns.contains_key(&0), "a price of no turn"),
@@ -149,6 +171,11 @@ impl fmt::Display for Tally {
             f,
             "  Waiting {} (at once {}), builds finished {} (past level 31 {})",
             self.waiting, self.waiting_at_once, self.finished, self.finished_late
+        )?;
+        writeln!(
+            f,
+            "  reverse levels closed {} (finished {}), refused 13 {}; Sweeps that mark {}, with spare bits set {}",
+            self.reverse, self.finished_reverse, self.unswept, self.marking, self.spare_bits
         )?;
         let limited = OPERATIONS.iter().zip(&self.limited).filter(|(_, times)| **times > 0);
         let limited: Vec<String> = limited.map(|(operation, times)| format!("{operation} {times}")).collect();
@@ -248,9 +275,30 @@ fn laws(call: &Call, outcome: &Outcome) -> Result<(), String> {
             let sum = bill::sum(tariff, &outcome.list[..answer.turns as usize]);
             law(bill::is_rounded(answer.pennies, sum), "pennies that are not the sum, rounded once")
         }
-        (Call::Build { kind, n, .. }, Answered::Answer(answer)) => {
+        (Call::Close { .. }, Answered::Answer(Answer { job: after, .. })) => {
+            law(after.way <= REVERSE, "a way that is none")?;
+            law((after.loaded, after.swept) == (NO_SEGMENT, [0; 64]), "a Close that leaves a loaded segment or pairs")
+        }
+        (Call::Load { job, b, .. }, Answered::Answer(Answer { job: after, .. })) => {
+            law(*after == Job { loaded: *b as u8, ..*job }, "a Load that changes more than the loaded segment")?;
+            law(!has_spare_bits(&outcome.list, stacks_of(job, *b)), "a Load that sets spare bits")
+        }
+        (Call::Sweep { job, j, segment, .. }, Answered::Answer(Answer { job: after, .. })) => {
+            let (_, d) = job.phase.numbers();
+            let mut right = *job;
+            right.counts[d as usize] = after.counts[d as usize];
+            right.swept[job.loaded as usize] |= 1 << j;
+            law(*after == right, "a Sweep that changes more than its count and its pair")?;
+            let change = |i| (paper::entry_at(segment, i), paper::entry_at(&outcome.segment, i));
+            let changes = (0..4 * segment.len() as u64).map(change).filter(|(was, is)| was != is);
+            let marked: Vec<(u8, u8)> = changes.collect();
+            law(marked.iter().all(|mark| *mark == (paper::UNSEEN, d % 3)), "a Sweep that marks otherwise")?;
+            let counted = after.counts[d as usize] - job.counts[d as usize];
+            law(counted == marked.len() as u64, "a Sweep that does not count what it marks")
+        }
+        (Call::Build { fields, .. }, Answered::Answer(answer)) => {
             law(has_ended(&answer.job), "a whole build that has not ended")?;
-            let stacks = paper::count_of_stacks(*kind, *n);
+            let stacks = paper::count_of_stacks(fields.kind, fields.n);
             let seen = (0..stacks).filter(|&i| paper::entry_at(&outcome.segment, i) != paper::UNSEEN).count() as u64;
             let counted = answer.job.counts.iter().sum::<u64>();
             law(counted == seen, "counts of a whole build that do not add to the stacks seen")?;
@@ -258,6 +306,16 @@ fn laws(call: &Call, outcome: &Outcome) -> Result<(), String> {
         }
         _ => Ok(()),
     }
+}
+
+// m of a segment of a coherent job.
+fn stacks_of(job: &Job, j: u32) -> u64 {
+    paper::stacks_of_segment(paper::count_of_stacks(job.kind, job.n), job.size, u64::from(j))
+}
+
+// Whether a changed list for so many stacks has bits past the last one.
+fn has_spare_bits(list: &[u8], stacks: u64) -> bool {
+    (stacks..8 * list.len() as u64).any(|i| paper::bit_at(list, i))
 }
 
 // What Begin was given.

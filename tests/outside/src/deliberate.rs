@@ -1,5 +1,6 @@
 // Calls made on purpose, none by the chance of a seed: each limit of the papers from both sides, each refusal of each operation, any two
-// refusals at once where there is a set, answers in which no two numbers can be mistaken for each other, and bytes past the first mebibyte.
+// refusals at once where there is a set, a way or a changed list, answers in which no two numbers can be mistaken for each other, and bytes past
+// the first mebibyte.
 
 use std::rc::Rc;
 
@@ -115,6 +116,44 @@ pub const LIMITS: &[Limit] = &[
             |limits| limits.most_deepest = 30,
             |limits| limits.most_deepest = 253,
             |limits| limits.most_deepest = 255,
+        ],
+    },
+    Limit {
+        name: "ways",
+        calls: || calls_on((0..=255).map(|way| Job { way, ..small_job(Phase::Level(1)) })),
+        moved: &[|limits| limits.ways = 1, |limits| limits.ways = 3],
+    },
+    Limit {
+        name: "the loaded segment",
+        calls: || calls_on([0, 1, 2, 3, 63, 64, 65, 128, 255].map(|loaded| Job { loaded, ..reverse(1) })),
+        moved: &[
+            |limits| limits.loaded_past_g = -1,
+            |limits| limits.loaded_past_g = 1,
+            |limits| limits.last_no_segment = 63,
+            |limits| limits.last_no_segment = 65,
+        ],
+    },
+    Limit {
+        name: "swept pairs",
+        calls: || {
+            let pairs = [(0, 0), (0, 1), (1, 0), (1, 1), (0, 2), (1, 2), (0, 63), (2, 0), (2, 2), (63, 0), (63, 63)];
+            calls_on(pairs.map(|(b, j)| with_pair(reverse(1), b, j)))
+        },
+        moved: &[
+            |limits| limits.swept_past_g[0] = -1,
+            |limits| limits.swept_past_g[0] = 1,
+            |limits| limits.swept_past_g[1] = -1,
+            |limits| limits.swept_past_g[1] = 1,
+        ],
+    },
+    Limit {
+        name: "pairs that a reverse level asks for",
+        calls: pairs_asked,
+        moved: &[
+            |limits| limits.asked_past_g[0] = -1,
+            |limits| limits.asked_past_g[0] = 1,
+            |limits| limits.asked_past_g[1] = -1,
+            |limits| limits.asked_past_g[1] = 1,
         ],
     },
     Limit {
@@ -269,6 +308,9 @@ const SMALL: Fields =
     Fields { kind: PLAIN, n: 3, wanted: [1, 2, 3, 0, 0, 0, 0, 0, 0, 0, 0, 0], groups: BOTH, size: 4, room: 16 };
 const SMALL_LOGS: usize = 32;
 
+// Two segments, of 20 and of 4 stacks, whose changed lists have three bytes and one.
+const UNEVEN: Fields = Fields { n: 4, wanted: [1, 2, 3, 4, 0, 0, 0, 0, 0, 0, 0, 0], groups: 0b1110, size: 20, ..SMALL };
+
 // Two full segments, and no two fields alike.
 const TELLING: Fields =
     Fields { kind: COATED, n: 2, wanted: [2, -1, 0, 0, 0, 0, 0, 0, 0, 0, 0, 0], groups: 0b11, size: 4, room: 20 };
@@ -319,34 +361,56 @@ fn ready(mut job: Job) -> Job {
     job
 }
 
+// A small job in a reverse level, with segment 0 loaded.
+fn reverse(d: u8) -> Job {
+    Job { way: REVERSE, loaded: 0, ..small_job(Phase::Level(d)) }
+}
+
+// One pair more or less swept.
+fn with_pair(mut job: Job, b: usize, j: u32) -> Job {
+    job.swept[b] ^= 1 << j;
+    job
+}
+
+// All pairs swept.
+fn swept(mut job: Job, segments: usize) -> Job {
+    job.swept[..segments].fill(paper::segments_below(segments as u64));
+    job
+}
+
+// 64 segments, as many as there can be.
+fn many() -> Fields {
+    Fields { size: 632, ..whole(PLAIN, 8) }
+}
+
 fn look(job: Job, j: u32) -> Call {
     let measures = PAPER.measures(job.kind, job.n, &job.wanted, job.groups, job.size, job.room);
     Call::Look { job, j, logs: vec![0; measures.map_or(SMALL_LOGS, |measures| measures.log_numbers())] }
 }
 
-// The five calls on each of some small jobs. Look comes first: it needs nothing of a phase, so it shows a wrong limit before anything else.
+// The seven calls on each of some small jobs. Look comes first: it needs nothing of a phase, so it shows a wrong limit before anything else.
 fn calls_on(jobs: impl IntoIterator<Item = Job>) -> Vec<Call> {
     let jobs: Vec<Job> = jobs.into_iter().collect();
     let others = jobs.iter().flat_map(|&job| {
-        let (segment, logs) = (vec![0xff], vec![0; SMALL_LOGS]);
+        let (segment, logs, list) = (vec![0xff], vec![0; SMALL_LOGS], vec![0xff]);
         [
             Call::Blank { job, j: 0, segment: segment.clone() },
             Call::Expand { job, j: 0, segment: segment.clone(), logs: logs.clone() },
-            Call::Settle { job, j: 0, segment, logs },
-            Call::Close { job },
+            Call::Settle { job, j: 0, segment: segment.clone(), logs },
+            Call::Close { job, way: FORWARD },
+            Call::Load { job, b: 0, segment: segment.clone(), list: list.clone() },
+            Call::Sweep { job, j: 0, segment, list },
         ]
     });
     jobs.iter().map(|&job| look(job, 0)).chain(others).collect()
 }
 
 fn begin(fields: &Fields) -> Call {
-    let Fields { kind, n, wanted, groups, size, room } = *fields;
-    Call::Begin { kind, n, wanted, groups, size, room }
+    Call::Begin { fields: *fields }
 }
 
-fn build(fields: &Fields, bytes: usize, words: usize) -> Call {
-    let Fields { kind, n, wanted, groups, size, room } = *fields;
-    Call::Build { kind, n, wanted, groups, size, room, table: vec![0x5a; bytes], logs: vec![7; words] }
+fn build(fields: &Fields, bytes: usize, words: usize, list_bytes: usize) -> Call {
+    Call::Build { fields: *fields, table: vec![0x5a; bytes], logs: vec![7; words], list: vec![0xa7; list_bytes] }
 }
 
 fn plan3(table: &[u8], given: [i8; 3], list: usize) -> Call {
@@ -406,7 +470,7 @@ fn panes(kind: u8, most: u8) -> Vec<Call> {
         let plan = Call::Plan { kind, n, wanted: stack, given: stack, groups, table, list: vec![0xee; LIST] };
         calls.push(plan.priced(Tariff::of(&[(1, n, 1)])));
         calls.push(plan);
-        calls.push(build(&fields, 0, 0));
+        calls.push(build(&fields, 0, 0, 0));
     }
     calls
 }
@@ -451,7 +515,8 @@ fn sets() -> Vec<Call> {
         let bytes = if bytes > 1 << 20 { 0 } else { bytes };
         let table = Rc::new(vec![0xfc; bytes]);
         let plan = Call::Plan { kind, n, wanted, given: wanted, groups, table, list: vec![0xee; LIST] };
-        [plan.clone(), plan.priced(Tariff::of(&[(1, n, 1)])), build(fields, bytes, fields.room as usize)]
+        let built = build(fields, bytes, fields.room as usize, bytes.div_ceil(2));
+        [plan.clone(), plan.priced(Tariff::of(&[(1, n, 1)])), built]
     });
     begun.chain(looked).chain(calls_on(jobs)).chain(others).collect()
 }
@@ -472,7 +537,7 @@ fn sizes() -> Vec<Call> {
     let large = [67_108_860, 67_108_864, 67_108_868].map(|size| Fields { size, ..whole(PLAIN, 12) });
     let begun = small.iter().chain(&large).map(begin);
     let looked = small.iter().chain(&large).map(|fields| look(fields.job(Phase::Blanking), 0));
-    let built = small.iter().map(|fields| build(fields, 2, fields.measures().map_or(16, |m| m.log_numbers())));
+    let built = small.iter().map(|fields| build(fields, 2, fields.measures().map_or(16, |m| m.log_numbers()), 1));
     begun.chain(looked).chain(built).collect()
 }
 
@@ -480,13 +545,13 @@ fn sizes() -> Vec<Call> {
 fn segment_counts() -> Vec<Call> {
     let fields = [632, 628].map(|size| Fields { size, ..whole(PLAIN, 8) });
     let looked = fields.iter().map(|fields| look(fields.job(Phase::Blanking), 63));
-    fields.iter().map(begin).chain(looked).chain(fields.iter().map(|fields| build(fields, 0, 0))).collect()
+    fields.iter().map(begin).chain(looked).chain(fields.iter().map(|fields| build(fields, 0, 0, 0))).collect()
 }
 
 fn rooms() -> Vec<Call> {
     let fields = [15, 16, 17, 1_048_575, 1_048_576, 1_048_577].map(|room| Fields { size: 8, room, ..SMALL });
     let looked = fields.iter().map(|fields| look(fields.job(Phase::Blanking), 0));
-    let built = fields.iter().map(|fields| build(fields, 2, fields.room as usize));
+    let built = fields.iter().map(|fields| build(fields, 2, fields.room as usize, 1));
     fields.iter().map(begin).chain(looked).chain(built).collect()
 }
 
@@ -505,8 +570,9 @@ fn levels() -> Vec<Call> {
 
 // Close with and without new stacks; a count that is not that of the level plays no part.
 fn last_levels() -> Vec<Call> {
-    let brought = |d: u8, count| Call::Close { job: ready(with_count(d as usize, count, Phase::Level(d))) };
-    let beside = |d: u8, level: usize| Call::Close { job: ready(with_count(level, 1, Phase::Level(d))) };
+    let way = FORWARD;
+    let brought = |d: u8, count| Call::Close { job: ready(with_count(d as usize, count, Phase::Level(d))), way };
+    let beside = |d: u8, level: usize| Call::Close { job: ready(with_count(level, 1, Phase::Level(d))), way };
     let levels = [1, 29, 30, 31, 32, 127, 128, 253, 254, 255];
     let counts = levels.iter().flat_map(|&d| [0, 1, 1 << 60].map(|count| brought(d, count)));
     let beside = [beside(31, 32), beside(254, 255), beside(255, 254), beside(255, 31), beside(255, 0)];
@@ -523,19 +589,33 @@ fn counts() -> Vec<Call> {
 
 // The last segment and the one past it, of two segments and of 64, for each call that names one.
 fn segment_numbers() -> Vec<Call> {
-    let many = Fields { size: 632, ..whole(PLAIN, 8) };
     let (level, blanking) = (small_job(Phase::Level(1)), small_job(Phase::Blanking));
     let looked = [1, 2, 3, 257, 65_537, u32::MAX].map(|j| look(level, j));
-    let of_many = [63, 64, 65].map(|j| look(many.job(Phase::Level(1)), j));
+    let of_many = [63, 64, 65].map(|j| look(many().job(Phase::Level(1)), j));
     let others = [1, 2, 257, u32::MAX].into_iter().flat_map(|j| {
-        let (segment, logs) = (vec![0xff], vec![0; SMALL_LOGS]);
+        let (segment, logs, list) = (vec![0xff], vec![0; SMALL_LOGS], vec![0xff]);
         [
             Call::Blank { job: blanking, j, segment: segment.clone() },
             Call::Expand { job: level, j, segment: segment.clone(), logs: logs.clone() },
-            Call::Settle { job: level, j, segment, logs },
+            Call::Settle { job: level, j, segment: segment.clone(), logs },
+            Call::Load { job: reverse(1), b: j, segment: segment.clone(), list: list.clone() },
+            Call::Sweep { job: reverse(1), j, segment, list },
         ]
     });
     looked.into_iter().chain(of_many).chain(others).collect()
+}
+
+// Close of a reverse level with all pairs swept, and with one of them missing, of one, two and 64 segments; passed and waiting are not asked.
+fn pairs_asked() -> Vec<Call> {
+    let of = |job: Job, segments: usize, last: u32| {
+        let all = swept(job, segments);
+        let waits = Job { passed: with_passed(0, 1).passed, waiting: with_waiting(1, 3).waiting, ..all };
+        let short = [(0, 0), (0, last), (last, 0), (last, last)].map(|(b, j)| with_pair(all, b as usize, j));
+        [all, waits].into_iter().chain(short)
+    };
+    let [one, of_many] = [whole(PLAIN, 3), many()].map(|fields| Job { way: REVERSE, ..fields.job(Phase::Level(1)) });
+    let jobs = of(reverse(1), 2, 1).chain(of(of_many, 64, 63)).chain([one, swept(one, 1)]);
+    jobs.map(|job| Call::Close { job, way: REVERSE }).collect()
 }
 
 // One offset waits for the segment of two stacks.
@@ -621,6 +701,8 @@ pub fn operations() -> Vec<Call> {
         settle_calls(),
         look_calls(),
         close_calls(),
+        load_calls(),
+        sweep_calls(),
         read_calls(),
         plan_calls(),
         price_calls(),
@@ -658,12 +740,27 @@ fn begin_and_build() -> Vec<Call> {
         Fields { room: 15, ..TELLING },
     ];
     let sets = [0b01, 0b10].map(|groups| Fields { groups, ..TELLING });
-    // Right lengths, and one too few or too many of each.
-    let lengths = [(2, 40), (1, 40), (3, 40), (2, 39), (2, 41), (40, 2), (0, 0)];
+    // Right lengths, and one too few or too many of each, or exchanged.
+    let lengths = [
+        (2, 40, 1),
+        (1, 40, 1),
+        (3, 40, 1),
+        (2, 39, 1),
+        (2, 41, 1),
+        (2, 40, 0),
+        (2, 40, 2),
+        (40, 2, 1),
+        (1, 40, 2),
+        (2, 1, 40),
+        (0, 0, 0),
+    ];
     let begun = wrong.iter().chain([&TELLING, &SMALL]).chain(&sets).map(begin);
-    let built = lengths.iter().map(|(bytes, words)| build(&TELLING, *bytes, *words));
-    let by_sets = wrong.iter().chain(&sets).map(|fields| build(fields, 2, TELLING_LOGS));
-    begun.chain(by_sets).chain(built).collect()
+    let built = lengths.iter().map(|(bytes, words, listed)| build(&TELLING, *bytes, *words, *listed));
+    let by_sets = wrong.iter().chain(&sets).map(|fields| build(fields, 2, TELLING_LOGS, 1));
+    // The list is that of the largest segment; plain 1 has no turn, and its last level brings nothing.
+    let uneven = [1, 3, 4].map(|listed| build(&UNEVEN, 6, SMALL_LOGS, listed));
+    let one = [PLAIN, COATED].map(|kind| build(&whole(kind, 1), 1, 16, 1));
+    begun.chain(by_sets).chain(built).chain(uneven).chain(one).collect()
 }
 
 fn blank_calls() -> Vec<Call> {
@@ -676,6 +773,8 @@ fn blank_calls() -> Vec<Call> {
         Call::Blank { job: NO_JOB, j: 0, segment: segment.clone() },
         Call::Blank { job: small_job(Phase::Level(1)), j: 0, segment: segment.clone() },
         Call::Blank { job, j: 2, segment },
+        // The way plays no part in Blanking, nor what is loaded or swept.
+        Call::Blank { job: with_pair(Job { way: REVERSE, loaded: 1, ..job }, 0, 1), j: 0, segment: vec![0x5a] },
         Call::Blank { job, j: 0, segment: vec![] },
         Call::Blank { job, j: 0, segment: vec![1, 2] },
         Call::Blank { job: ready(blanking), j: 0, segment: vec![0x5a] },
@@ -685,10 +784,17 @@ fn blank_calls() -> Vec<Call> {
 // A job of Level 4 with something in every field.
 fn telling_job() -> Job {
     let mut job = TELLING.job(Phase::Level(4));
+    job.loaded = 1;
     job.passed[..2].copy_from_slice(&[1, 2]);
     job.waiting[..2].copy_from_slice(&[3, 18]);
+    job.swept[..2].copy_from_slice(&[0b10, 0b01]);
     job.counts[..5].copy_from_slice(&[1, 2, 3, 4, 5]);
     job
+}
+
+// The same, reverse: pairs 0, 0 and 1, 1 are left.
+fn telling_reverse(loaded: u8) -> Job {
+    Job { way: REVERSE, loaded, ..telling_job() }
 }
 
 // The first three offsets of each log are of the segment.
@@ -724,6 +830,8 @@ fn expand_calls() -> Vec<Call> {
         expand(small_job(Phase::Level(255)), 0, &[0xfe], SMALL_LOGS),
         expand(NO_JOB, 0, &[0xfc], SMALL_LOGS),
         expand(small_job(Phase::Blanking), 0, &[0xfc], SMALL_LOGS),
+        expand(reverse(1), 0, &[0xfc], SMALL_LOGS),
+        expand(Job { way: REVERSE, ..job }, 0, &[0xc3], TELLING_LOGS),
         expand(small, 2, &[0xfc], SMALL_LOGS),
         expand(small, 0, &[0xfc, 0xff], SMALL_LOGS),
         expand(small, 0, &[], SMALL_LOGS),
@@ -745,6 +853,8 @@ fn settle_calls() -> Vec<Call> {
         settle(small, 0, &[0xfc], vec![0; SMALL_LOGS]),
         settle(NO_JOB, 0, &[0xfc], vec![0; SMALL_LOGS]),
         settle(small_job(Phase::Blanking), 0, &[0xfc], vec![0; SMALL_LOGS]),
+        settle(reverse(1), 0, &[0xfc], vec![0; SMALL_LOGS]),
+        settle(Job { way: REVERSE, ..job }, 0, &[0xff], telling_logs()),
         settle(small, 2, &[0xfc], vec![0; SMALL_LOGS]),
         settle(small, 0, &[0xfc, 0xff], vec![0; SMALL_LOGS]),
         settle(small, 0, &[], vec![0; SMALL_LOGS]),
@@ -758,26 +868,135 @@ fn look_calls() -> Vec<Call> {
     let phases = [Phase::Blanking, Phase::Finished(7)].map(|phase| look(Job { phase, ..job }, 1));
     let short = Call::Look { job, j: 0, logs: vec![0; TELLING_LOGS - 1] };
     let long = Call::Look { job, j: 0, logs: vec![0; TELLING_LOGS + 1] };
-    phases.into_iter().chain([look(job, 0), look(job, 1), look(NO_JOB, 0), look(job, 2), short, long]).collect()
+    let others = [look(telling_reverse(0), 1), look(job, 0), look(job, 1), look(NO_JOB, 0), look(job, 2), short, long];
+    phases.into_iter().chain(others).collect()
 }
 
 fn close_calls() -> Vec<Call> {
-    let close = |job| Call::Close { job };
     let level = |d, count| ready(with_count(d as usize, count, Phase::Level(d)));
     let one_waits = |phase| Job { waiting: with_waiting(1, 1).waiting, ..ready(small_job(phase)) };
-    vec![
-        close(ready(small_job(Phase::Blanking))),
-        close(level(3, 5)),
-        close(level(3, 0)),
-        close(NO_JOB),
-        close(ready(small_job(Phase::Finished(3)))),
-        close(with_passed(0, 4)),
-        close(with_passed(1, 2)),
-        close(one_waits(Phase::Level(2))),
-        close(one_waits(Phase::Blanking)),
-        close(Job { groups: TURN_3, ..level(3, 5) }),
-        close(level(255, 1)),
-    ]
+    // All pairs swept, with stacks not passed and entries waiting, which only a forward level or Blanking asks.
+    let reversed = |job: Job| Job { way: REVERSE, loaded: 1, ..swept(job, 2) };
+    let unready = |phase| Job { phase, counts: level(3, 5).counts, ..with_waiting(1, 1) };
+    let jobs = [
+        ready(small_job(Phase::Blanking)),
+        level(3, 5),
+        level(3, 0),
+        NO_JOB,
+        ready(small_job(Phase::Finished(3))),
+        with_passed(0, 4),
+        with_passed(1, 2),
+        one_waits(Phase::Level(2)),
+        one_waits(Phase::Blanking),
+        Job { groups: TURN_3, ..level(3, 5) },
+        level(255, 1),
+        // Of a reverse level, with pairs left and without.
+        reversed(unready(Phase::Level(3))),
+        reversed(unready(Phase::Level(2))),
+        reversed(level(255, 1)),
+        with_pair(reversed(level(3, 5)), 1, 0),
+        with_pair(reversed(level(3, 5)), 0, 1),
+        // Blanking or Finished with a way, a loaded segment and pairs; a forward level that was swept.
+        reversed(ready(small_job(Phase::Blanking))),
+        reversed(unready(Phase::Blanking)),
+        Job { swept: [0; 64], ..reversed(ready(small_job(Phase::Blanking))) },
+        reversed(ready(small_job(Phase::Finished(3)))),
+        Job { way: FORWARD, ..reversed(unready(Phase::Level(3))) },
+        Job { way: FORWARD, ..reversed(level(3, 5)) },
+        Job { way: FORWARD, swept: [0; 64], ..reversed(level(3, 0)) },
+    ];
+    jobs.iter().flat_map(|&job| [FORWARD, REVERSE, 2, 64, 255].map(|way| Call::Close { job, way })).collect()
+}
+
+// Segments of several lengths at several levels; the list holds other bits before.
+fn load_calls() -> Vec<Call> {
+    let load = |job, b, bytes: &[u8], list: &[u8]| Call::Load { job, b, segment: bytes.to_vec(), list: list.to_vec() };
+    let in_reverse = |fields: Fields, d| Job { way: REVERSE, ..fields.job(Phase::Level(d)) };
+    let twelve = Fields { size: 12, ..UNEVEN };
+    // Entries 3, 2, 1, 0.
+    let levels = [1, 2, 3, 4, 31, 32, 253, 254, 255];
+    let by_level = levels.into_iter().flat_map(|d| [0x00, 0xff].map(|was| load(reverse(d), 0, &[0x1b], &[was])));
+    let others = [
+        load(telling_reverse(0), 1, &[0xc3], &[0x5a]),
+        load(telling_reverse(1), 1, &[0x3c], &[0x5a]),
+        load(telling_reverse(NO_SEGMENT), 0, &[0x03], &[0x5a]),
+        load(swept(telling_reverse(1), 2), 0, &[0x30], &[0x5a]),
+        // Spare entries of the level, whose bits stay 0.
+        load(reverse(1), 1, &[0x00], &[0xff]),
+        load(in_reverse(twelve, 1), 1, &[0x00; 3], &[0xff; 2]),
+        load(in_reverse(UNEVEN, 1), 0, &[0x00; 5], &[0xff; 3]),
+        load(in_reverse(UNEVEN, 1), 1, &[0x00], &[0xff]),
+        load(in_reverse(whole(PLAIN, 1), 1), 0, &[0x00], &[0xff]),
+        load(in_reverse(whole(PLAIN, 4), 2), 0, &[0x24, 0xe4, 0x55, 0xaa, 0x00, 0xff], &[0x5a; 3]),
+        load(in_reverse(many(), 1), 63, &[0x24; 126], &[0x5a; 63]),
+        load(NO_JOB, 0, &[0x1b], &[0x5a]),
+        load(Job { way: FORWARD, ..reverse(1) }, 0, &[0x1b], &[0x5a]),
+        load(Job { phase: Phase::Blanking, ..reverse(1) }, 0, &[0x1b], &[0x5a]),
+        load(Job { phase: Phase::Finished(3), ..reverse(1) }, 0, &[0x1b], &[0x5a]),
+        load(reverse(1), 2, &[0x1b], &[0x5a]),
+        load(reverse(1), 0, &[], &[0x5a]),
+        load(reverse(1), 0, &[0x1b, 0xff], &[0x5a]),
+        load(reverse(1), 0, &[0x1b], &[]),
+        load(reverse(1), 0, &[0x1b], &[0x5a, 0x5a]),
+        // The list of the other segment, and one as long as the segment.
+        load(in_reverse(UNEVEN, 1), 0, &[0x00; 5], &[0xff]),
+        load(in_reverse(UNEVEN, 1), 1, &[0x00], &[0xff; 3]),
+        load(in_reverse(UNEVEN, 1), 0, &[0x00; 5], &[0xff; 5]),
+    ];
+    by_level.chain(others).collect()
+}
+
+fn sweep_calls() -> Vec<Call> {
+    let sweep =
+        |job, j, bytes: &[u8], list: &[u8]| Call::Sweep { job, j, segment: bytes.to_vec(), list: list.to_vec() };
+    let unswept = |loaded| Job { swept: [0; 64], ..telling_reverse(loaded) };
+    let in_reverse = |fields: Fields, loaded| Job { way: REVERSE, loaded, ..fields.job(Phase::Level(1)) };
+    // Each bit alone, the spare ones too: a stack of coated 2 has a child in its own segment and one in the other.
+    let pairs = [(0, 0), (0, 1), (1, 0), (1, 1)];
+    let bits = pairs.into_iter().flat_map(|(loaded, j)| (0..8).map(move |bit| (loaded, j, 1 << bit)));
+    let by_bit = bits.map(|(loaded, j, list)| sweep(unswept(loaded), j, &[0xff], &[list]));
+    // Labels and counts of the levels; seen stacks stay.
+    let levels = [1, 2, 3, 31, 32, 253, 254, 255];
+    let by_level = levels.into_iter().flat_map(|d| [0xff, 0x1b, 0x00].map(|was| sweep(reverse(d), 0, &[was], &[0xff])));
+    let by = |groups, job| Job { groups, ..job };
+    let others = [
+        sweep(telling_reverse(0), 0, &[0xf3], &[0x05]),
+        sweep(telling_reverse(1), 1, &[0x3f], &[0x0a]),
+        sweep(telling_reverse(1), 0, &[0xff], &[0xff]),
+        sweep(telling_reverse(0), 1, &[0xff], &[0xff]),
+        sweep(by(0b01, unswept(0)), 0, &[0xff], &[0x06]),
+        sweep(by(0b10, unswept(0)), 0, &[0xff], &[0x06]),
+        sweep(by(0b01, unswept(0)), 1, &[0xff], &[0x06]),
+        sweep(by(0b10, unswept(0)), 1, &[0xff], &[0x06]),
+        // Spare entries stay 3, whatever bits are set; plain 1 has no turn.
+        sweep(reverse(1), 1, &[0xff], &[0xff]),
+        sweep(Job { loaded: 1, ..reverse(1) }, 1, &[0xff], &[0xff]),
+        sweep(Job { loaded: 1, ..reverse(1) }, 0, &[0xff], &[0xfc]),
+        sweep(in_reverse(whole(PLAIN, 1), 0), 0, &[0xff], &[0xff]),
+        sweep(in_reverse(whole(COATED, 1), 0), 0, &[0xfc], &[0x01]),
+        sweep(in_reverse(whole(PLAIN, 4), 0), 0, &[0xff; 6], &[0x01, 0x00, 0x81]),
+        // Stacks of the last segment against the first, and the other way round, by lists of the loaded one's length; and of the other's.
+        sweep(in_reverse(UNEVEN, 0), 1, &[0xff], &[0x01, 0x80, 0x10]),
+        sweep(in_reverse(UNEVEN, 1), 0, &[0xff; 5], &[0x06]),
+        sweep(in_reverse(UNEVEN, 0), 1, &[0xff], &[0x06]),
+        sweep(in_reverse(UNEVEN, 1), 0, &[0xff; 5], &[0x01, 0x80, 0x10]),
+        sweep(in_reverse(many(), 63), 63, &[0xff; 126], &[0x24; 63]),
+        sweep(in_reverse(many(), 63), 0, &[0xff; 158], &[0x42; 63]),
+        sweep(in_reverse(many(), 0), 63, &[0xff; 126], &[0x18; 79]),
+        sweep(with_pair(in_reverse(many(), 63), 63, 63), 63, &[0xff; 126], &[0x24; 63]),
+        sweep(NO_JOB, 0, &[0xff], &[0xff]),
+        sweep(Job { way: FORWARD, ..reverse(1) }, 0, &[0xff], &[0xff]),
+        sweep(Job { phase: Phase::Blanking, ..reverse(1) }, 0, &[0xff], &[0xff]),
+        sweep(Job { phase: Phase::Finished(3), ..reverse(1) }, 0, &[0xff], &[0xff]),
+        sweep(reverse(1), 2, &[0xff], &[0xff]),
+        sweep(Job { loaded: NO_SEGMENT, ..reverse(1) }, 0, &[0xff], &[0xff]),
+        sweep(reverse(1), 0, &[], &[0xff]),
+        sweep(reverse(1), 0, &[0xff, 0xff], &[0xff]),
+        sweep(reverse(1), 0, &[0xff], &[]),
+        sweep(reverse(1), 0, &[0xff], &[0xff, 0xff]),
+        sweep(with_pair(reverse(1), 0, 0), 0, &[0xff], &[0xff]),
+    ];
+    by_bit.chain(by_level).chain(others).collect()
 }
 
 fn read_calls() -> Vec<Call> {
@@ -890,16 +1109,17 @@ fn in_order<A: Clone>(right: &A, causes: &[Cause<A>], call: fn(&A) -> Call) -> V
     calls
 }
 
-// Begin's fields, and the lengths of the table and the log area beside them.
-const BUILDING: [Cause<(Fields, usize, usize)>; 8] = [
+// Begin's fields, and the lengths of the table, the log area and the changed list beside them.
+const BUILDING: [Cause<(Fields, usize, usize, usize)>; 9] = [
     (1, |(fields, ..)| fields.kind = 2),
     (2, |(fields, ..)| fields.n = 11),
     (3, |(fields, ..)| fields.wanted[1] = 2),
     (21, |(fields, ..)| fields.groups = 0b110),
     (5, |(fields, ..)| fields.size = 6),
     (6, |(fields, ..)| fields.room = 15),
-    (10, |(_, bytes, _)| *bytes = 1),
-    (10, |(_, _, words)| *words = 41),
+    (10, |(_, bytes, ..)| *bytes = 1),
+    (10, |(_, _, words, _)| *words = 41),
+    (10, |(.., listed)| *listed = 2),
 ];
 
 // Plan's arguments and Price's.
@@ -960,9 +1180,61 @@ const CLOSING: [Cause<Job>; 4] = [
     (14, |job| job.counts[255] = 1),
 ];
 
+// The same, reverse.
+const CLOSING_REVERSE: [Cause<Job>; 4] = [CLOSING[0], CLOSING[1], (13, |job| job.swept[1] = 0b01), CLOSING[3]];
+
+// Arguments of Load and Sweep, where j stands for Load's b too.
+#[derive(Clone)]
+struct Sweeping {
+    job: Job,
+    j: u32,
+    segment: Vec<u8>,
+    list: Vec<u8>,
+}
+
+impl Sweeping {
+    fn load(&self) -> Call {
+        let Sweeping { job, j: b, segment, list } = self.clone();
+        Call::Load { job, b, segment, list }
+    }
+
+    fn sweep(&self) -> Call {
+        let Sweeping { job, j, segment, list } = self.clone();
+        Call::Sweep { job, j, segment, list }
+    }
+}
+
+// Segment 1 is loaded, and segment 0 named.
+const SWEEPING: [Cause<Sweeping>; 7] = [
+    (7, |of| of.job.way = 2),
+    (8, |of| of.job.phase = Phase::Finished(3)),
+    (9, |of| of.j = 2),
+    (22, |of| of.job.loaded = NO_SEGMENT),
+    (10, |of| of.segment.push(0xff)),
+    (10, |of| of.list.push(0)),
+    (11, |of| of.job.swept[1] = 0b01),
+];
+
+// Other causes of the same refusals.
+const OTHER_SWEEPING: [Cause<Sweeping>; 7] = [
+    (7, |of| of.job.swept[2] = 1),
+    (8, |of| of.job.way = FORWARD),
+    (9, |of| of.j = u32::MAX),
+    (22, |of| of.job.loaded = NO_SEGMENT),
+    (10, |of| of.segment.clear()),
+    (10, |of| of.list.clear()),
+    (11, |of| of.job.swept[1] = 0b11),
+];
+
+// Those that Load has.
+fn of_load([incoherent, phase, segment, _, length, list_length, _]: [Cause<Sweeping>; 7]) -> [Cause<Sweeping>; 5] {
+    [incoherent, phase, segment, length, list_length]
+}
+
 // Each call with the refusal that the papers' order gives.
 pub fn orders() -> Vec<(Call, u8)> {
-    let right = (TELLING, 2, TELLING_LOGS);
+    let right = (TELLING, 2, TELLING_LOGS, 1);
+    let sweeping = Sweeping { job: Job { loaded: 1, ..reverse(1) }, j: 0, segment: vec![0xff], list: vec![0xff] };
     let planning = Planning {
         kind: PLAIN,
         n: 3,
@@ -975,12 +1247,17 @@ pub fn orders() -> Vec<(Call, u8)> {
     };
     [
         in_order(&right, &BUILDING[..6], |(fields, ..)| begin(fields)),
-        in_order(&right, &BUILDING, |(fields, bytes, words)| build(fields, *bytes, *words)),
+        in_order(&right, &BUILDING, |(fields, bytes, words, listed)| build(fields, *bytes, *words, *listed)),
         in_order(&planning, &PLANNING[..9], Planning::plan),
         in_order(&planning, &PLANNING, Planning::price),
         in_order(&planning, &OTHER_PLANNING, Planning::plan),
         in_order(&planning, &OTHER_PLANNING, Planning::price),
-        in_order(&ready(small_job(Phase::Level(255))), &CLOSING, |&job| Call::Close { job }),
+        in_order(&ready(small_job(Phase::Level(255))), &CLOSING, |&job| Call::Close { job, way: REVERSE }),
+        in_order(&swept(reverse(255), 2), &CLOSING_REVERSE, |&job| Call::Close { job, way: REVERSE }),
+        in_order(&sweeping, &of_load(SWEEPING), Sweeping::load),
+        in_order(&sweeping, &of_load(OTHER_SWEEPING), Sweeping::load),
+        in_order(&sweeping, &SWEEPING, Sweeping::sweep),
+        in_order(&sweeping, &OTHER_SWEEPING, Sweeping::sweep),
     ]
     .concat()
 }
@@ -1020,9 +1297,18 @@ pub fn beyond_a_mebibyte() -> Vec<Call> {
     });
     let prices = plans.each_ref().map(|plan| plan.priced(Tariff::of(&[(1, 5, 1_100), (6, 11, 4_300)])));
     let job = fields.job(Phase::Blanking);
+    // In the reverse level the last forty stacks are loaded, or swept by a list whose far bits are set.
+    let reverse = Job { way: REVERSE, loaded: 0, ..level(0, 0) };
+    let list_bytes = paper::list_bytes_of(u64::from(size));
+    let mut unseen = vec![0x55; bytes];
+    unseen[bytes - 10..].fill(0xff);
+    let mut far_bits = vec![0; list_bytes];
+    far_bits[1 << 20..].fill(0xff);
     [
         Call::Blank { job, j: 0, segment: vec![0x24; bytes] },
         Call::Settle { job: level(0, 6), j: 0, segment: vec![0xff; bytes], logs: offsets.clone() },
+        Call::Load { job: reverse, b: 0, segment: segment.clone(), list: vec![0x5a; list_bytes] },
+        Call::Sweep { job: reverse, j: 0, segment: unseen, list: far_bits },
         Call::Expand { job: level(size - 40, 0), j: 0, segment, logs: offsets },
     ]
     .into_iter()

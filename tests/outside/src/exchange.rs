@@ -23,7 +23,7 @@ struct Struct {
 }
 
 const REFUSAL: Field = ("refusal", 1, 1);
-const JOB_FIELD: Field = ("job", 2592, 8);
+const JOB_FIELD: Field = ("job", 3104, 8);
 
 const JOB: Struct = Struct {
     name: "HokrundJob",
@@ -32,12 +32,15 @@ const JOB: Struct = Struct {
         ("n", 1, 1),
         ("phase", 1, 1),
         ("level", 1, 1),
+        ("way", 1, 1),
+        ("loaded", 1, 1),
         ("wanted", 12, 1),
         ("groups", 4, 4),
         ("size", 4, 4),
         ("room", 4, 4),
         ("passed", 256, 4),
         ("waiting", 256, 4),
+        ("swept", 512, 8),
         ("counts", 2048, 8),
     ],
 };
@@ -59,7 +62,7 @@ const STRUCTS: [&Struct; 11] =
 
 // The parameters of each operation's export, in the sets within which two can stand in each other's place: numbers of any width, stacks,
 // buffers with their lengths, and lengths alone. Operations with one parameter of each set have no line.
-const PARAMETERS: [(&str, &[&str]); 20] = [
+const PARAMETERS: [(&str, &[&str]); 24] = [
     ("Index", &["kind", "n"]),
     ("Stack at", &["kind", "n", "index"]),
     ("Turn", &["kind", "n", "k"]),
@@ -68,6 +71,10 @@ const PARAMETERS: [(&str, &[&str]); 20] = [
     ("Expand", &["length", "words"]),
     ("Settle", &["segment", "log"]),
     ("Settle", &["length", "words"]),
+    ("Load", &["segment", "list"]),
+    ("Load", &["length", "bytes"]),
+    ("Sweep", &["segment", "list"]),
+    ("Sweep", &["length", "bytes"]),
     ("Read", &["kind", "n", "index"]),
     ("Plan", &["kind", "n", "groups"]),
     ("Plan", &["wanted", "given"]),
@@ -78,8 +85,8 @@ const PARAMETERS: [(&str, &[&str]); 20] = [
     ("Price", &["table", "list"]),
     ("Price", &["length", "slots"]),
     ("Build", &["kind", "n", "groups", "size", "room"]),
-    ("Build", &["table", "log"]),
-    ("Build", &["length", "words"]),
+    ("Build", &["table", "log", "list"]),
+    ("Build", &["length", "words", "bytes"]),
 ];
 
 // Where each field of each struct stands, in C's own order.
@@ -183,18 +190,22 @@ fn bytes_of_stack(stack: &Stack) -> Vec<u8> {
 fn fields_of_job(job: &Job) -> Vec<Vec<u8>> {
     let (phase, level) = job.phase.numbers();
     let words = |numbers: &[u32]| numbers.iter().flat_map(|number| number.to_le_bytes()).collect();
+    let long_words = |numbers: &[u64]| numbers.iter().flat_map(|number| number.to_le_bytes()).collect();
     vec![
         vec![job.kind],
         vec![job.n],
         vec![phase],
         vec![level],
+        vec![job.way],
+        vec![job.loaded],
         bytes_of_stack(&job.wanted),
         words(&[job.groups]),
         words(&[job.size]),
         words(&[job.room]),
         words(&job.passed),
         words(&job.waiting),
-        job.counts.iter().flat_map(|number| number.to_le_bytes()).collect(),
+        long_words(&job.swept),
+        long_words(&job.counts),
     ]
 }
 
@@ -204,13 +215,16 @@ fn job_of_fields(fields: &[Vec<u8>]) -> Job {
         kind: fields[0][0],
         n: fields[1][0],
         phase: Phase::of_numbers(fields[2][0], fields[3][0]),
-        wanted: stack_of(&fields[4]),
-        groups: number(&fields[5]) as u32,
-        size: number(&fields[6]) as u32,
-        room: number(&fields[7]) as u32,
-        passed: words(8),
-        waiting: words(9),
-        counts: std::array::from_fn(|level| number(&fields[10][8 * level..][..8])),
+        way: fields[4][0],
+        loaded: fields[5][0],
+        wanted: stack_of(&fields[6]),
+        groups: number(&fields[7]) as u32,
+        size: number(&fields[8]) as u32,
+        room: number(&fields[9]) as u32,
+        passed: words(10),
+        waiting: words(11),
+        swept: std::array::from_fn(|b| number(&fields[12][8 * b..][..8])),
+        counts: std::array::from_fn(|level| number(&fields[13][8 * level..][..8])),
     }
 }
 
@@ -341,12 +355,12 @@ fn number_of<'a>(call: &'a mut Call, name: &str) -> Option<Number<'a>> {
         Call::Turn { kind, n, k, .. } => {
             vec![("kind", Number::Byte(kind)), ("n", Number::Byte(n)), ("k", Number::Byte(k))]
         }
-        Call::Begin { kind, n, groups, size, room, .. } | Call::Build { kind, n, groups, size, room, .. } => vec![
-            ("kind", Number::Byte(kind)),
-            ("n", Number::Byte(n)),
-            ("groups", Number::Word(groups)),
-            ("size", Number::Word(size)),
-            ("room", Number::Word(room)),
+        Call::Begin { fields } | Call::Build { fields, .. } => vec![
+            ("kind", Number::Byte(&mut fields.kind)),
+            ("n", Number::Byte(&mut fields.n)),
+            ("groups", Number::Word(&mut fields.groups)),
+            ("size", Number::Word(&mut fields.size)),
+            ("room", Number::Word(&mut fields.room)),
         ],
         _ => Vec::new(),
     }
@@ -368,34 +382,43 @@ impl Exchange {
         let mut taken = call.clone();
         match &mut taken {
             Call::Blank { job, .. } | Call::Expand { job, .. } | Call::Settle { job, .. } => *job = self.job_in(job),
-            Call::Look { job, .. } | Call::Close { job } => *job = self.job_in(job),
+            Call::Look { job, .. } | Call::Close { job, .. } => *job = self.job_in(job),
+            Call::Load { job, .. } | Call::Sweep { job, .. } => *job = self.job_in(job),
             Call::Price { tariff, .. } => *tariff = self.tariff_in(tariff),
             _ => {}
         }
         if self.of != OPERATIONS[call.operation()] {
             return taken;
         }
-        match (self.one, &mut taken) {
-            ("wanted", Call::Plan { wanted, given, .. } | Call::Price { wanted, given, .. }) => {
+        match (self.one, self.other, &mut taken) {
+            ("wanted", _, Call::Plan { wanted, given, .. } | Call::Price { wanted, given, .. }) => {
                 std::mem::swap(wanted, given)
             }
-            ("table", Call::Plan { table, list, .. } | Call::Price { table, list, .. }) => {
+            ("table", _, Call::Plan { table, list, .. } | Call::Price { table, list, .. }) => {
                 let contents = table.to_vec();
                 *table = Rc::new(std::mem::replace(list, contents));
             }
-            ("length", Call::Plan { table, list, .. } | Call::Price { table, list, .. }) => {
+            ("length", _, Call::Plan { table, list, .. } | Call::Price { table, list, .. }) => {
                 let (length, slots) = (table.len(), list.len());
                 *table = Rc::new(resized(table, slots));
                 list.resize(length, 0);
             }
-            // Numbers of another width are read there: what they are is anyone's guess, how many there are is not.
-            ("segment" | "table", Call::Expand { segment, logs, .. } | Call::Settle { segment, logs, .. })
-            | ("segment" | "table", Call::Build { table: segment, logs, .. }) => {
-                (*segment, *logs) = (vec![0; logs.len()], vec![0; segment.len()]);
+            (_, "list", Call::Load { segment, list, .. } | Call::Sweep { segment, list, .. })
+            | ("table", "list", Call::Build { table: segment, list, .. }) => std::mem::swap(segment, list),
+            (_, "bytes", Call::Load { segment, list, .. } | Call::Sweep { segment, list, .. })
+            | ("length", "bytes", Call::Build { table: segment, list, .. }) => {
+                (*segment, *list) = (resized(segment, list.len()), resized(list, segment.len()));
             }
-            ("length", Call::Expand { segment, logs, .. } | Call::Settle { segment, logs, .. })
-            | ("length", Call::Build { table: segment, logs, .. }) => {
-                (*segment, *logs) = (resized(segment, logs.len()), resized(logs, segment.len()));
+            // Numbers of another width are read there: what they are is anyone's guess, how many there are is not.
+            (_, "log", Call::Expand { segment: bytes, logs, .. } | Call::Settle { segment: bytes, logs, .. })
+            | (_, "log", Call::Build { table: bytes, logs, .. })
+            | ("log", _, Call::Build { list: bytes, logs, .. }) => {
+                (*bytes, *logs) = (vec![0; logs.len()], vec![0; bytes.len()]);
+            }
+            (_, "words", Call::Expand { segment: bytes, logs, .. } | Call::Settle { segment: bytes, logs, .. })
+            | (_, "words", Call::Build { table: bytes, logs, .. })
+            | ("words", _, Call::Build { list: bytes, logs, .. }) => {
+                (*bytes, *logs) = (resized(bytes, logs.len()), resized(logs, bytes.len()));
             }
             _ => {
                 let mut value = |name| number_of(&mut taken, name).map(Number::get);
@@ -415,10 +438,10 @@ impl Exchange {
             return;
         }
         match self.one {
-            "segment" | "table" => {
+            "segment" | "table" | "log" => {
                 (outcome.segment, outcome.logs, outcome.list) = (segment.to_vec(), logs.to_vec(), list.to_vec());
             }
-            "length" => {
+            "length" | "words" => {
                 restore(&mut outcome.segment, segment);
                 restore(&mut outcome.logs, logs);
                 restore(&mut outcome.list, list);

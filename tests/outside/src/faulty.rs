@@ -1,6 +1,6 @@
 // The paper with one fault each: the comparison must catch every one, or its cases are too tame.
 
-use crate::build::{ordered, Fields};
+use crate::build::{self, ordered, Build, Fields};
 use crate::paper::{self, Child, Measures, Paper, COATED, PAPER, PLAIN};
 use crate::system::*;
 
@@ -23,23 +23,41 @@ FAULTS {
     IndexSkipsUnusedPlaces, CoatsFromTheBottom, TurnOnePlain, TurnKeepsCoats, TurnOrderOf3And4,
     BeginTakesRoom15, BeginTakes65Segments, BeginTakesOddSize, BeginOrderOf5And6, BeginTakesTurn1OfPlain, BeginTakesSizeAboveN,
     BeginTakesHighBits, BeginTakesEmptySet, BeginRefusesSetOfPlain1, BeginOrderOf3And21, BeginOrderOf21And5, BeginForgetsSet,
-    BeginGivesFullSet,
+    BeginGivesFullSet, BeginGivesReverse, BeginLoads0, BeginRefusedLoads0,
     // Coherence.
     LoosePhase, LooseCounts, LooseLateCounts, LooseLevel, LooseDeepest, LoosePassed, LooseWaiting, LooseBeyondG, LooseWanted, LooseRoom,
-    LooseSet, StrictCounts, StrictLevel, StrictDeepest, StrictSet,
+    LooseSet, LooseWay, LooseLoaded, LooseNoSegment, LooseSweptB, LooseSweptJ, StrictCounts, StrictLevel, StrictDeepest, StrictSet, StrictWay,
+    StrictLoaded, StrictSwept, StrictSweptUnloaded,
     // Blank.
-    BlankSparesZero, BlankForgetsWanted, BlankTwice, BlankRefusesPartly, BlankPassesSize, BlankDropsSet,
+    BlankSparesZero, BlankForgetsWanted, BlankTwice, BlankRefusesPartly, BlankPassesSize, BlankDropsSet, BlankNotReverse,
     // Expand.
     ExpandWaitsEarly, ExpandWaitsLate, ExpandCountsOwnChildren, ExpandNamesHighest, ExpandLogsHalf, ExpandPassesWaiting,
     ExpandFromTheFirst, ExpandFallingTurns, ExpandOfLevelD, ExpandCountsLogged, ExpandMarksSeen, ExpandSpares,
     ExpandTakesPassed, ExpandByEveryTurn, ExpandSkipsLargest, ExpandByNextSizes, ExpandLabelsTo31, ExpandCountsTo31, ExpandDropsSet,
+    ExpandTakesReverse,
     OrderOf7And8, OrderOf8And9, OrderOf10And11,
     // Settle and Look.
     SettleMarksSeen, SettleCountsNothing, SettleMarksNothing, SettleKeepsWaiting, SettleTakesSpares, SettleLooksPastWaiting,
-    SettleMarksThenRefuses, SettleLabelsTo31, SettleCountsTo31, SettleDropsSet, LookNotWhileBlanking, LookFromWaiting,
+    SettleMarksThenRefuses, SettleLabelsTo31, SettleCountsTo31, SettleDropsSet, SettleTakesReverse, LookNotWhileBlanking, LookNotReverse,
+    LookFromWaiting,
     // Close.
     CloseWithLogWaiting, CloseUnpassed, CloseKeepsPassed, CloseDeepestD, CloseAddsCount0, CloseByZero, CloseTakesLevel255,
     CloseStopsAtLevel31, CloseStopsAtLevel254, CloseFinishesAtLevel255, CloseOrderOf13And14, CloseDropsSet,
+    // Its ways: what a reverse level asks for, the way that is told, and what each Close clears.
+    CloseUnswept, CloseAsksLoadedOnly, CloseAsksEitherOrder, CloseAsksPassedReverse, CloseAsksWaitingReverse, CloseAsksPairsForward,
+    CloseAsksPairsBlanking, CloseRefusesWay2, CloseTakesWay1Only, CloseGivesWay2, CloseKeepsWay, CloseKeepsWayAtEnd, CloseForwardAtEnd,
+    CloseKeepsLoaded, CloseKeepsSwept, CloseClearsReverseOnly, CloseKeepsPassedReverse, CloseClearsWaitingReverse,
+    // Load.
+    LoadTakesForward, LoadTakesBlanking, LoadTakesFinished, LoadRefusesAgain, LoadRefusesSwept, LoadOrderOf8And10, LoadTakesLongList,
+    LoadTakesListOf0, LoadWritesRefused, LoadOfLevelD, LoadOfLevelBefore, LoadOfLevelsTo31, LoadSetsSpares, LoadTakesSpares, LoadKeepsBits,
+    LoadHighBitFirst, LoadForgetsSegment, LoadClearsPairs, LoadNotesPair, LoadDropsSet,
+    // Sweep.
+    SweepTakesForward, SweepTakesBlanking, SweepTakesFinished, SweepTakesUnloaded, SweepTakesSwept, SweepAsksOtherOrder, SweepOrderOf8And22,
+    SweepOrderOf9And22, SweepOrderOf22And10, SweepOrderOf10And11, SweepTakesLongList, SweepTakesListOfJ, SweepRefusesSpareBits,
+    SweepMarksRefused, SweepMarksSeen, SweepMarksSpares, SweepMarksUnlessSet, SweepMarksByTwo, SweepMarksFirstOnly, SweepMarksOnFresh,
+    SweepLooksInJ, SweepLooksInAll, SweepLooksInNext, SweepLooksAtBitBefore, SweepHighBitFirst, SweepLabelsBefore, SweepLabelsTo31,
+    SweepCountsTo31, SweepCountsTwice, SweepCountsBits, SweepCountsNothing, SweepByEveryTurn, SweepSkipsLargest, SweepByNextSizes,
+    SweepNotesNothing, SweepNotesOtherOrder, SweepNotesBothOrders, SweepNotesAll, SweepUnloads, SweepDropsSet,
     // Read and Plan.
     ReadBitsReversed, ReadOrderOf10And4, ReadTakesLongTable, PlanTakesSmallest, PlanTakesLargestOfSet, PlanEndsAtZero, PlanTakes30Only,
     PlanTakes253Only, PlanTakes255, PlanWritesRefused, PlanClearsRest, PlanSkipsWantedEntry, PlanOrderOf3And10, PlanTakesShortList,
@@ -67,10 +85,13 @@ FAULTS {
     BuildWritesRefused, BuildDeepestD, BuildTakesTurn1OfPlain, BuildTakesSizeAboveN, BuildTakesHighBits, BuildTakesEmptySet,
     BuildRefusesSetOfPlain1, BuildOrderOf3And21, BuildOrderOf21And5, BuildByEveryTurn, BuildSkipsLargest, BuildByNextSizes, BuildForgetsSet,
     BuildGivesFullSet,
+    // Its list and its ways.
+    BuildTakesLongList, BuildTakesListOfLast, BuildKeepsList, BuildClearsList, BuildRefusedLoads0, BuildForwardOnly, BuildReverseOnly,
+    BuildReverseWhereFewer, BuildForgetsSegments,
 }
 FAR_FAULTS {
-    BlankStopsAtMebibyte, ExpandWrapsAtMebibyte, SettleWrapsAtMebibyte, ReadWrapsAtMebibyte, PlanStopsAtMebibyte,
-    PriceStopsAtMebibyte,
+    BlankStopsAtMebibyte, ExpandWrapsAtMebibyte, SettleWrapsAtMebibyte, LoadStopsAtMebibyte, SweepStopsAtMebibyte, SweepWrapsAtMebibyte,
+    ReadWrapsAtMebibyte, PlanStopsAtMebibyte, PriceStopsAtMebibyte,
 }
 }
 
@@ -263,6 +284,14 @@ impl Faulty {
                 }
             }
             (Fault::LooseSet, Err(21)) => job.groups = paper::full_set(job.kind, job.n),
+            (Fault::LooseWay, _) => job.way = job.way.min(REVERSE),
+            (Fault::LooseNoSegment, _) => job.loaded = job.loaded.min(NO_SEGMENT),
+            (Fault::LooseLoaded, Ok(measures)) if u64::from(job.loaded) >= measures.segments => job.loaded = NO_SEGMENT,
+            (Fault::LooseSweptB, Ok(measures)) => job.swept[measures.segments as usize..].fill(0),
+            (Fault::LooseSweptJ, Ok(measures)) => {
+                let below = paper::segments_below(measures.segments);
+                job.swept.iter_mut().for_each(|swept| *swept &= below);
+            }
             (Fault::LooseWanted, _) if (1..=10).contains(&job.n) => job.wanted = ordered(job.n),
             (Fault::LooseRoom, _) => job.room = job.room.max(16),
             (Fault::LoosePassed, Ok(measures)) => clip(&mut job.passed, measures, |j| measures.stacks_of(j)),
@@ -283,6 +312,10 @@ impl Faulty {
             Fault::StrictLevel => matches!(job.phase, Phase::Level(32..)),
             Fault::StrictDeepest => matches!(job.phase, Phase::Finished(31..)),
             Fault::StrictSet => refusal != 7 && job.groups != paper::full_set(job.kind, job.n),
+            Fault::StrictWay => job.way == REVERSE && !matches!(job.phase, Phase::Level(_)),
+            Fault::StrictLoaded => job.loaded != NO_SEGMENT && !goes(job, REVERSE),
+            Fault::StrictSwept => job.swept != [0; 64] && !goes(job, REVERSE),
+            Fault::StrictSweptUnloaded => job.swept != [0; 64] && job.loaded == NO_SEGMENT,
             _ => false,
         };
         match refusal {
@@ -353,6 +386,138 @@ impl Faulty {
             after.passed[j as usize] = (i + 1).min(stacks) as u32;
         }
         (after, None)
+    }
+
+    // A job in another phase or way, as one of these faults takes it for a reverse level.
+    fn taken_for_reverse(&self, job: &Job, [forward, blanking, finished]: [Fault; 3]) -> Job {
+        match job.phase {
+            Phase::Level(_) if self.is(forward) => Job { way: REVERSE, ..*job },
+            Phase::Blanking if self.is(blanking) => Job { phase: Phase::Level(1), ..*job },
+            Phase::Finished(deepest) if self.is(finished) => Job { phase: Phase::Level(deepest.max(1)), ..*job },
+            _ => *job,
+        }
+    }
+
+    // A changed list for a segment as the fault takes it, where it is longer, or by the length of another segment's.
+    fn list_taken(&self, [long, of_other]: [Fault; 2], list: &[u8], right: usize, other: usize) -> Vec<u8> {
+        let mut taken = list.to_vec();
+        if self.is(long) && list.len() > right || self.is(of_other) && list.len() == other {
+            taken.resize(right, 0);
+        } else if self.is(of_other) {
+            taken.resize(right + 1, 0);
+        }
+        taken
+    }
+
+    // What an accepted Load leaves in the list, and its job.
+    fn load_wrongly(&self, job: &Job, b: u32, segment: &[u8], list: &mut [u8]) -> Job {
+        let measures = PAPER.coherent(job).expect("only accepted calls come here");
+        let Phase::Level(d) = job.phase else { unreachable!() };
+        let stacks = measures.stacks_of(u64::from(b));
+        let label = match self.0 {
+            Fault::LoadOfLevelD => d % 3,
+            Fault::LoadOfLevelBefore => paper::before(d - 1),
+            Fault::LoadOfLevelsTo31 => paper::before(d.min(31)),
+            _ => paper::before(d),
+        };
+        let last = match self.0 {
+            Fault::LoadTakesSpares => 4 * segment.len() as u64,
+            Fault::LoadStopsAtMebibyte => stacks.min(4 << 20),
+            _ => stacks,
+        };
+        if !self.is(Fault::LoadKeepsBits) {
+            list.fill(0);
+        }
+        (0..last).filter(|&i| paper::entry_at(segment, i) == label).for_each(|i| paper::set_bit(list, i));
+        match self.0 {
+            Fault::LoadSetsSpares => (stacks..8 * list.len() as u64).for_each(|i| paper::set_bit(list, i)),
+            Fault::LoadHighBitFirst => list.iter_mut().for_each(|byte| *byte = byte.reverse_bits()),
+            _ => {}
+        }
+        let mut after = Job { loaded: b as u8, ..*job };
+        match self.0 {
+            Fault::LoadForgetsSegment => after.loaded = job.loaded,
+            Fault::LoadClearsPairs => after.swept[b as usize] = 0,
+            Fault::LoadNotesPair => after.swept[b as usize] |= 1 << b,
+            Fault::LoadDropsSet => after.groups = paper::full_set(job.kind, job.n),
+            _ => {}
+        }
+        after
+    }
+
+    // What an accepted Sweep leaves in the segment, and its job.
+    fn sweep_wrongly(&self, job: &Job, j: u32, segment: &mut [u8], list: &[u8]) -> Job {
+        let measures = PAPER.coherent(job).expect("only accepted calls come here");
+        let Phase::Level(d) = job.phase else { unreachable!() };
+        let (here, b) = (u64::from(j), u64::from(job.loaded));
+        let (mut label, counted) = self.marks(Fault::SweepLabelsTo31, Fault::SweepCountsTo31, d);
+        if self.is(Fault::SweepLabelsBefore) {
+            label = paper::before(d);
+        }
+        let last = match self.0 {
+            Fault::SweepMarksSpares => 4 * segment.len() as u64,
+            Fault::SweepStopsAtMebibyte => measures.stacks_of(here).min(4 << 20),
+            _ => measures.stacks_of(here),
+        };
+        let turns = [Fault::SweepByEveryTurn, Fault::SweepSkipsLargest, Fault::SweepByNextSizes];
+        let by = Job { groups: self.turns_taken(turns, job.kind, job.n, job.groups), ..*job };
+        let were = segment.to_vec();
+        let mut after = *job;
+        for i in 0..last {
+            if paper::entry_at(segment, i) != 3 && !self.is(Fault::SweepMarksSeen) {
+                continue;
+            }
+            let is_changed = |child: &&Child| {
+                let looks = match self.0 {
+                    Fault::SweepLooksInJ => child.segment == here,
+                    Fault::SweepLooksInAll => true,
+                    Fault::SweepLooksInNext => child.segment == (b + 1) % measures.segments,
+                    _ => child.segment == b,
+                };
+                let bit = match self.0 {
+                    Fault::SweepLooksAtBitBefore => child.offset.saturating_sub(1),
+                    Fault::SweepHighBitFirst => child.offset ^ 7,
+                    Fault::SweepWrapsAtMebibyte => child.offset % (8 * MEBIBYTE as u64),
+                    _ => child.offset,
+                };
+                let set = bit < 8 * list.len() as u64 && paper::bit_at(list, bit);
+                let entry = |segment: &[u8]| paper::entry_at(segment, child.offset);
+                let is_fresh = || child.segment == here && entry(&were) == 3 && entry(segment) != 3;
+                match self.0 {
+                    Fault::SweepMarksUnlessSet => looks && !set,
+                    Fault::SweepMarksOnFresh => looks && (set || is_fresh()),
+                    _ => looks && set,
+                }
+            };
+            let children = paper::children(&by, (here * u64::from(job.size) + i) % measures.stacks);
+            let changed = children.iter().filter(is_changed).count() as u64;
+            if changed > u64::from(self.is(Fault::SweepMarksByTwo)) {
+                paper::set_entry(segment, i, label);
+                after.counts[counted] += match self.0 {
+                    Fault::SweepCountsTwice => 2,
+                    Fault::SweepCountsBits => changed,
+                    Fault::SweepCountsNothing => 0,
+                    _ => 1,
+                };
+                if self.is(Fault::SweepMarksFirstOnly) {
+                    break;
+                }
+            }
+        }
+        let (row, column) = (b as usize, here as usize);
+        match self.0 {
+            Fault::SweepNotesNothing => {}
+            Fault::SweepNotesOtherOrder => after.swept[column] |= 1 << b,
+            Fault::SweepNotesAll => after.swept[row] = paper::segments_below(measures.segments),
+            _ => after.swept[row] |= 1 << here,
+        }
+        match self.0 {
+            Fault::SweepNotesBothOrders => after.swept[column] |= 1 << b,
+            Fault::SweepUnloads => after.loaded = NO_SEGMENT,
+            Fault::SweepDropsSet => after.groups = paper::full_set(job.kind, job.n),
+            _ => {}
+        }
+        after
     }
 
     // The label of level d and the place of its count, as five bits would hold the level by one of these faults.
@@ -538,6 +703,21 @@ fn mark(segment: &mut [u8], i: u64, label: u8, count: &mut u64) {
     }
 }
 
+// Whether a job is in a level of this way.
+fn goes(job: &Job, way: u8) -> bool {
+    matches!(job.phase, Phase::Level(_)) && job.way == way
+}
+
+// The bytes of a segment's changed list, or 0 where there is no such segment.
+fn list_bytes(job: &Job, b: u32) -> usize {
+    PAPER.coherent(job).map_or(0, |of| if u64::from(b) < of.segments { of.list_bytes_of(u64::from(b)) } else { 0 })
+}
+
+// Whether a segment that there is has a wrong length.
+fn has_wrong_segment(job: &Job, j: u32, segment: &[u8]) -> bool {
+    PAPER.coherent(job).is_ok_and(|of| u64::from(j) < of.segments && segment.len() != of.bytes_of(u64::from(j)))
+}
+
 // A table of which nothing past the first mebibyte is seen.
 fn seen_to_mebibyte(table: &[u8]) -> Vec<u8> {
     let mut near = table.to_vec();
@@ -600,13 +780,16 @@ impl System for Faulty {
             return Answer { refusal: 0, job: Job { kind, n, wanted, groups, size, room, ..NO_JOB } };
         }
         if answer.refusal != 0 {
-            answer.job = NO_JOB;
+            answer.job = Job { loaded: if self.is(Fault::BeginRefusedLoads0) { 0 } else { NO_SEGMENT }, ..NO_JOB };
         } else {
-            answer.job.groups = match self.0 {
-                Fault::BeginForgetsSet => 0,
-                Fault::BeginGivesFullSet => paper::full_set(kind, n),
-                _ => groups,
-            };
+            answer.job.groups = groups;
+            match self.0 {
+                Fault::BeginForgetsSet => answer.job.groups = 0,
+                Fault::BeginGivesFullSet => answer.job.groups = paper::full_set(kind, n),
+                Fault::BeginGivesReverse => answer.job.way = REVERSE,
+                Fault::BeginLoads0 => answer.job.loaded = 0,
+                _ => {}
+            }
         }
         if self.is(Fault::BeginOrderOf5And6) && answer.refusal == 5 && !(16..=1_048_576).contains(&room) {
             answer.refusal = 6;
@@ -624,7 +807,11 @@ impl System for Faulty {
         let before = segment.to_vec();
         let mut answer = PAPER.blank(&given, j, segment);
         let refusal = self.otherwise(answer.refusal, job, j, job.phase == Phase::Blanking);
-        let refusal = if partly && answer.refusal == 0 { 11 } else { refusal };
+        let refusal = match (self.0, refusal) {
+            (_, 0) if partly => 11,
+            (Fault::BlankNotReverse, 0) if job.way == REVERSE => 8,
+            _ => refusal,
+        };
         if refusal != 0 {
             segment.copy_from_slice(&before);
             return Answer { refusal, job: *job };
@@ -648,13 +835,16 @@ impl System for Faulty {
 
     fn expand(&self, job: &Job, j: u32, segment: &mut [u8], logs: &mut [u32]) -> Expanded {
         let mut given = self.mended(job);
+        if self.is(Fault::ExpandTakesReverse) && given.way == REVERSE {
+            given.way = FORWARD;
+        }
         let (before, logs_before) = (segment.to_vec(), logs.to_vec());
         let mut answer = PAPER.expand(&given, j, segment, logs);
         if self.is(Fault::ExpandTakesPassed) && answer.refusal == 11 {
             given.passed[j as usize] = 0;
             answer = Expanded { refusal: 0, waits: false, on: 0, job: given };
         }
-        let refusal = self.otherwise(answer.refusal, job, j, matches!(job.phase, Phase::Level(_)));
+        let refusal = self.otherwise(answer.refusal, job, j, goes(job, FORWARD));
         segment.copy_from_slice(&before);
         logs.copy_from_slice(&logs_before);
         if refusal != 0 {
@@ -665,12 +855,15 @@ impl System for Faulty {
     }
 
     fn settle(&self, job: &Job, j: u32, segment: &mut [u8], logs: &[u32]) -> Answer {
-        let given = self.mended(job);
+        let mut given = self.mended(job);
+        if self.is(Fault::SettleTakesReverse) && given.way == REVERSE {
+            given.way = FORWARD;
+        }
         let before = segment.to_vec();
         let near: Vec<u32> = logs.iter().map(|&offset| wrapped(u64::from(offset)) as u32).collect();
         let logs = if self.is(Fault::SettleWrapsAtMebibyte) { &near } else { logs };
         let mut answer = PAPER.settle(&given, j, segment, logs);
-        let mut refusal = self.otherwise(answer.refusal, job, j, matches!(job.phase, Phase::Level(_)));
+        let mut refusal = self.otherwise(answer.refusal, job, j, goes(job, FORWARD));
         if refusal != 0 && refusal != 12 {
             segment.copy_from_slice(&before);
             return Answer { refusal, job: *job };
@@ -723,7 +916,9 @@ impl System for Faulty {
 
     fn look(&self, job: &Job, j: u32, logs: &[u32]) -> Looked {
         let mut answer = PAPER.look(&self.mended(job), j, logs);
-        if self.is(Fault::LookNotWhileBlanking) && answer.number == 0 && job.phase == Phase::Blanking {
+        let not_now = self.is(Fault::LookNotWhileBlanking) && job.phase == Phase::Blanking
+            || self.is(Fault::LookNotReverse) && goes(job, REVERSE);
+        if not_now && answer.number == 0 {
             answer = Looked { start: 0, len: 0, number: 8 };
         }
         if self.is(Fault::LookFromWaiting) && answer.number == 0 {
@@ -733,25 +928,46 @@ impl System for Faulty {
         answer
     }
 
-    fn close(&self, job: &Job) -> Answer {
+    fn close(&self, job: &Job, way: u8) -> Answer {
         let mut given = self.mended(job);
-        if let (Ok(measures), true) = (PAPER.coherent(&given), job.phase != Phase::Blanking) {
+        let measures = PAPER.coherent(&given);
+        let (all_passed, all_swept) = measures.map_or(([0; 64], [0; 64]), |measures| {
+            let stacks = |j| if j < measures.segments { measures.stacks_of(j) as u32 } else { 0 };
+            let row = |b| if b < measures.segments { paper::segments_below(measures.segments) } else { 0 };
+            (std::array::from_fn(|j| stacks(j as u64)), std::array::from_fn(|b| row(b as u64)))
+        });
+        if measures.is_ok() && job.phase != Phase::Blanking {
             match self.0 {
                 Fault::CloseWithLogWaiting => given.waiting = [0; 64],
-                Fault::CloseUnpassed => {
-                    (0..measures.segments).for_each(|j| given.passed[j as usize] = measures.stacks_of(j) as u32)
+                Fault::CloseUnpassed => given.passed = all_passed,
+                Fault::CloseUnswept => given.swept = all_swept,
+                Fault::CloseAsksLoadedOnly => {
+                    given.swept = all_swept;
+                    if let Some(swept) = given.swept.get_mut(job.loaded as usize) {
+                        *swept = job.swept[job.loaded as usize];
+                    }
+                }
+                Fault::CloseAsksEitherOrder => {
+                    let other = |b: usize| (0..64).filter(|&j| job.swept[j] >> b & 1 == 1).map(|j| 1 << j).sum::<u64>();
+                    given.swept = std::array::from_fn(|b| job.swept[b] | other(b));
                 }
                 _ => {}
             }
         }
-        let mut answer = PAPER.close(&given);
+        let mut answer = PAPER.close(&given, way);
         let ended = matches!(job.phase, Phase::Finished(_));
         answer.refusal = self.otherwise(answer.refusal, job, 0, !ended);
         let brought = |d: u8| job.phase == Phase::Level(d) && job.counts[d as usize] != 0;
+        let (reverse, blanks_reverse) = (goes(job, REVERSE), job.phase == Phase::Blanking && job.way == REVERSE);
         answer.refusal = match (self.0, answer.refusal) {
             (Fault::CloseOrderOf13And14, 13) if brought(255) => 14,
             (Fault::CloseStopsAtLevel31, 0) if brought(31) => 14,
             (Fault::CloseStopsAtLevel254, 0) if brought(254) => 14,
+            (Fault::CloseAsksPassedReverse, 0) if reverse && job.passed != all_passed => 13,
+            (Fault::CloseAsksWaitingReverse, 0) if reverse && job.waiting != [0; 64] => 13,
+            (Fault::CloseAsksPairsForward, 0) if goes(job, FORWARD) && job.swept != all_swept => 13,
+            (Fault::CloseAsksPairsBlanking, 0) if blanks_reverse && job.swept != all_swept => 13,
+            (Fault::CloseRefusesWay2, 0) if way > REVERSE => 8,
             (_, other) => other,
         };
         if self.is(Fault::CloseTakesLevel255) && answer.refusal == 14 {
@@ -769,12 +985,88 @@ impl System for Faulty {
                 after.phase = Phase::Finished(254)
             }
             (Fault::CloseDropsSet, _, _) => after.groups = paper::full_set(job.kind, job.n),
+            (Fault::CloseTakesWay1Only, _, _) => after.way = u8::from(way == REVERSE),
+            (Fault::CloseGivesWay2, _, _) => after.way = way,
+            (Fault::CloseKeepsWay, _, _) | (Fault::CloseKeepsWayAtEnd, _, Phase::Finished(_)) => after.way = job.way,
+            (Fault::CloseForwardAtEnd, _, Phase::Finished(_)) => after.way = FORWARD,
+            (Fault::CloseKeepsLoaded, _, _) => after.loaded = job.loaded,
+            (Fault::CloseKeepsSwept, _, _) => after.swept = job.swept,
+            (Fault::CloseClearsReverseOnly, _, _) if !reverse => (after.loaded, after.swept) = (job.loaded, job.swept),
+            (Fault::CloseKeepsPassedReverse, _, _) if reverse => after.passed = job.passed,
+            (Fault::CloseClearsWaitingReverse, _, _) if reverse => after.waiting = [0; 64],
             (Fault::CloseByZero, Phase::Level(d), Phase::Level(_)) if job.counts[d as usize] < 3 => {
                 after.phase = Phase::Finished(d - 1)
             }
             _ => {}
         }
         answer
+    }
+
+    fn load(&self, job: &Job, b: u32, segment: &[u8], list: &mut [u8]) -> Answer {
+        let phases = [Fault::LoadTakesForward, Fault::LoadTakesBlanking, Fault::LoadTakesFinished];
+        let given = self.taken_for_reverse(&self.mended(job), phases);
+        let lengths = [Fault::LoadTakesLongList, Fault::LoadTakesListOf0];
+        let mut taken = self.list_taken(lengths, list, list_bytes(&given, b), list_bytes(&given, 0));
+        let refusal = PAPER.load(&given, b, segment, &mut taken).refusal;
+        let all = PAPER.coherent(&given).map_or(0, |measures| paper::segments_below(measures.segments));
+        let refusal = match (self.0, self.otherwise(refusal, job, b, goes(job, REVERSE))) {
+            (Fault::LoadRefusesAgain, 0) if u32::from(job.loaded) == b => 11,
+            (Fault::LoadRefusesSwept, 0) if job.swept[b as usize] == all => 11,
+            (Fault::LoadOrderOf8And10, 8) if has_wrong_segment(job, b, segment) => 10,
+            (_, refusal) => refusal,
+        };
+        if refusal != 0 {
+            if self.is(Fault::LoadWritesRefused) && refusal == 10 {
+                list.fill(0);
+            }
+            return Answer { refusal, job: *job };
+        }
+        let written = list.len().min(taken.len());
+        taken[..written].copy_from_slice(&list[..written]);
+        let job = self.load_wrongly(&given, b, segment, &mut taken);
+        list[..written].copy_from_slice(&taken[..written]);
+        Answer { refusal: 0, job }
+    }
+
+    fn sweep(&self, job: &Job, j: u32, segment: &mut [u8], list: &[u8]) -> Answer {
+        let phases = [Fault::SweepTakesForward, Fault::SweepTakesBlanking, Fault::SweepTakesFinished];
+        let mut given = self.taken_for_reverse(&self.mended(job), phases);
+        if self.is(Fault::SweepTakesUnloaded) && given.loaded == NO_SEGMENT {
+            given.loaded = 0;
+        }
+        let (row, column) = (given.loaded as usize, j as usize);
+        let is_pair = row < 64 && column < 64;
+        let swept = |b: usize, j: usize| is_pair && job.swept[b] >> j & 1 == 1;
+        match self.0 {
+            Fault::SweepTakesSwept if swept(row, column) => given.swept[row] ^= 1 << column,
+            Fault::SweepAsksOtherOrder if swept(row, column) != swept(column, row) => given.swept[row] ^= 1 << column,
+            _ => {}
+        }
+        let lengths = [Fault::SweepTakesLongList, Fault::SweepTakesListOfJ];
+        let right = list_bytes(&given, u32::from(given.loaded));
+        let taken = self.list_taken(lengths, list, right, list_bytes(&given, j));
+        let before = segment.to_vec();
+        let refusal = PAPER.sweep(&given, j, segment, &taken).refusal;
+        segment.copy_from_slice(&before);
+        let unloaded = job.loaded == NO_SEGMENT;
+        let has_spare_bits = || {
+            let stacks = PAPER.coherent(&given).map_or(0, |measures| measures.stacks_of(u64::from(given.loaded)));
+            (stacks..8 * taken.len() as u64).any(|i| paper::bit_at(&taken, i))
+        };
+        let refusal = match (self.0, self.otherwise(refusal, job, j, goes(job, REVERSE))) {
+            (Fault::SweepOrderOf8And22, 8) | (Fault::SweepOrderOf9And22, 9) if unloaded => 22,
+            (Fault::SweepOrderOf22And10, 22) if has_wrong_segment(job, j, segment) => 10,
+            (Fault::SweepOrderOf10And11, 10) if swept(row, column) => 11,
+            (Fault::SweepRefusesSpareBits, 0) if has_spare_bits() => 10,
+            (_, refusal) => refusal,
+        };
+        if refusal == 11 && self.is(Fault::SweepMarksRefused) {
+            self.sweep_wrongly(&given, j, segment, &taken);
+        }
+        if refusal != 0 {
+            return Answer { refusal, job: *job };
+        }
+        Answer { refusal: 0, job: self.sweep_wrongly(&given, j, segment, &taken) }
     }
 
     fn read_entry(&self, kind: u8, n: u8, table: &[u8], index: u32) -> Entry {
@@ -925,18 +1217,34 @@ impl System for Faulty {
         room: u32,
         table: &mut [u8],
         logs: &mut [u32],
+        list: &mut [u8],
     ) -> Answer {
         let taken = self.set_taken(&BUILD, kind, n, groups);
         let fields = Fields { kind, n, wanted, groups: taken, size, room };
-        let fitting = fields.measures().map(|measures| (paper::bytes_of(measures.stacks), measures.log_numbers()));
-        let (mut bytes, mut words) = (table.len(), logs.len());
-        match (self.0, fitting) {
-            (Fault::BuildTakesLongTable, Ok(right)) => bytes = bytes.min(right.0),
-            (Fault::BuildTakesLongLog, Ok(right)) => words = words.min(right.1),
-            _ => {}
+        let (mut bytes, mut words, mut lent_list) = (table.len(), logs.len(), list.to_vec());
+        if let Ok(measures) = fields.measures() {
+            match self.0 {
+                Fault::BuildTakesLongTable => bytes = bytes.min(paper::bytes_of(measures.stacks)),
+                Fault::BuildTakesLongLog => words = words.min(measures.log_numbers()),
+                _ => {}
+            }
+            let lengths = [Fault::BuildTakesLongList, Fault::BuildTakesListOfLast];
+            let [first, last] = [0, measures.segments - 1].map(|b| measures.list_bytes_of(b));
+            lent_list = self.list_taken(lengths, list, first, last);
         }
         let before = table.to_vec();
-        let mut answer = PAPER.build_table(kind, n, wanted, taken, size, room, &mut table[..bytes], &mut logs[..words]);
+        let way = |build: &Build| {
+            let (unseen, closing) = build.unseen_and_closing();
+            match self.0 {
+                Fault::BuildForwardOnly => FORWARD,
+                Fault::BuildReverseOnly => REVERSE,
+                Fault::BuildReverseWhereFewer => u8::from(unseen * build.measures.segments < closing),
+                Fault::BuildForgetsSegments => u8::from(unseen <= closing),
+                _ => build::chosen_way(build),
+            }
+        };
+        let (lent, lent_logs) = (&mut table[..bytes], &mut logs[..words]);
+        let mut answer = build::whole_table(&PAPER, &fields, way, lent, lent_logs, &mut lent_list);
         let refusal = self.set_otherwise(&BUILD, answer.refusal, kind, n, groups);
         if refusal != answer.refusal {
             table.copy_from_slice(&before);
@@ -956,6 +1264,8 @@ impl System for Faulty {
                 answer.job = PAPER.begin(kind, n, wanted, groups, size, room).job
             }
             (Fault::BuildKeepsTable, 0) => table.copy_from_slice(&before),
+            (Fault::BuildClearsList, 0) => lent_list.fill(0),
+            (Fault::BuildRefusedLoads0, 1..) => answer.job.loaded = 0,
             (Fault::BuildWritesRefused, 1..) => table.iter_mut().for_each(|byte| *byte ^= 1),
             (Fault::BuildDeepestD, 0) => {
                 if let Phase::Finished(deepest) = answer.job.phase {
@@ -963,6 +1273,10 @@ impl System for Faulty {
                 }
             }
             _ => {}
+        }
+        if !self.is(Fault::BuildKeepsList) {
+            let written = list.len().min(lent_list.len());
+            list[..written].copy_from_slice(&lent_list[..written]);
         }
         answer
     }

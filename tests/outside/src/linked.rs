@@ -18,12 +18,15 @@ struct CJob {
     n: u8,
     phase: u8,
     level: u8,
+    way: u8,
+    loaded: u8,
     wanted: CStack,
     groups: u32,
     size: u32,
     room: u32,
     passed: [u32; 64],
     waiting: [u32; 64],
+    swept: [u64; 64],
     counts: [u64; 256],
 }
 
@@ -99,12 +102,14 @@ pub const JOB_BYTES: usize = size_of::<CJob>();
 
 // The layout that include/hokrund.h asserts on its side.
 const _: () = {
-    assert!(JOB_BYTES == 2592 && offset_of!(CJob, wanted) == 4 && offset_of!(CJob, groups) == 16);
-    assert!(offset_of!(CJob, size) == 20 && offset_of!(CJob, room) == 24);
-    assert!(offset_of!(CJob, passed) == 28 && offset_of!(CJob, waiting) == 284 && offset_of!(CJob, counts) == 544);
+    assert!(JOB_BYTES == 3104 && offset_of!(CJob, way) == 4 && offset_of!(CJob, loaded) == 5);
+    assert!(offset_of!(CJob, wanted) == 6 && offset_of!(CJob, groups) == 20);
+    assert!(offset_of!(CJob, size) == 24 && offset_of!(CJob, room) == 28);
+    assert!(offset_of!(CJob, passed) == 32 && offset_of!(CJob, waiting) == 288);
+    assert!(offset_of!(CJob, swept) == 544 && offset_of!(CJob, counts) == 1056);
     assert!(size_of::<CIndexed>() == 8 && size_of::<CStacked>() == 13);
-    assert!(size_of::<CAnswer>() == 2600 && offset_of!(CAnswer, job) == 8);
-    assert!(size_of::<CExpanded>() == 2600 && offset_of!(CExpanded, on) == 4 && offset_of!(CExpanded, job) == 8);
+    assert!(size_of::<CAnswer>() == 3112 && offset_of!(CAnswer, job) == 8);
+    assert!(size_of::<CExpanded>() == 3112 && offset_of!(CExpanded, on) == 4 && offset_of!(CExpanded, job) == 8);
     assert!(size_of::<CLook>() == 24 && size_of::<CEntry>() == 2 && size_of::<CPlanned>() == 8);
     assert!(size_of::<CLine>() == 8 && offset_of!(CLine, last) == 1 && offset_of!(CLine, price) == 4);
     assert!(size_of::<CTariff>() == 100 && offset_of!(CTariff, lines) == 4);
@@ -117,7 +122,10 @@ pub fn places() -> [(&'static str, Vec<usize>); 11] {
         ($of:ty: $($field:ident)*) => { vec![$(offset_of!($of, $field)),*] };
     }
     [
-        ("HokrundJob", places!(CJob: kind n phase level wanted groups size room passed waiting counts)),
+        (
+            "HokrundJob",
+            places!(CJob: kind n phase level way loaded wanted groups size room passed waiting swept counts),
+        ),
         ("HokrundIndexed", places!(CIndexed: refusal index)),
         ("HokrundStacked", places!(CStacked: refusal stack)),
         ("HokrundAnswer", places!(CAnswer: refusal job)),
@@ -140,7 +148,9 @@ extern "C" {
     fn hokrund_expand(job: CJob, j: u32, segment: *mut u8, length: usize, log: *mut u32, words: usize) -> CExpanded;
     fn hokrund_settle(job: CJob, j: u32, segment: *mut u8, length: usize, log: *const u32, words: usize) -> CAnswer;
     fn hokrund_look(job: CJob, j: u32, log: *const u32, words: usize) -> CLook;
-    fn hokrund_close(job: CJob) -> CAnswer;
+    fn hokrund_close(job: CJob, way: u8) -> CAnswer;
+    fn hokrund_load(job: CJob, b: u32, segment: *const u8, length: usize, list: *mut u8, bytes: usize) -> CAnswer;
+    fn hokrund_sweep(job: CJob, j: u32, segment: *mut u8, length: usize, list: *const u8, bytes: usize) -> CAnswer;
     fn hokrund_read_entry(kind: u8, n: u8, table: *const u8, length: usize, index: u32) -> CEntry;
     #[allow(clippy::too_many_arguments)]
     fn hokrund_plan(
@@ -179,6 +189,8 @@ extern "C" {
         length: usize,
         log: *mut u32,
         words: usize,
+        list: *mut u8,
+        bytes: usize,
     ) -> CAnswer;
 }
 
@@ -189,12 +201,15 @@ fn mirror(job: &Job) -> CJob {
         n: job.n,
         phase,
         level,
+        way: job.way,
+        loaded: job.loaded,
         wanted: CStack { places: job.wanted },
         groups: job.groups,
         size: job.size,
         room: job.room,
         passed: job.passed,
         waiting: job.waiting,
+        swept: job.swept,
         counts: job.counts,
     }
 }
@@ -208,8 +223,11 @@ fn job(mirror: CJob) -> Job {
         size: mirror.size,
         room: mirror.room,
         phase: Phase::of_numbers(mirror.phase, mirror.level),
+        way: mirror.way,
+        loaded: mirror.loaded,
         passed: mirror.passed,
         waiting: mirror.waiting,
+        swept: mirror.swept,
         counts: mirror.counts,
     }
 }
@@ -272,8 +290,16 @@ impl System for Library {
         Looked { start: r.start, len: r.length, number: r.refusal }
     }
 
-    fn close(&self, job: &Job) -> Answer {
-        answer(unsafe { hokrund_close(mirror(job)) })
+    fn close(&self, job: &Job, way: u8) -> Answer {
+        answer(unsafe { hokrund_close(mirror(job), way) })
+    }
+
+    fn load(&self, job: &Job, b: u32, segment: &[u8], list: &mut [u8]) -> Answer {
+        answer(unsafe { hokrund_load(mirror(job), b, segment.as_ptr(), segment.len(), list.as_mut_ptr(), list.len()) })
+    }
+
+    fn sweep(&self, job: &Job, j: u32, segment: &mut [u8], list: &[u8]) -> Answer {
+        answer(unsafe { hokrund_sweep(mirror(job), j, segment.as_mut_ptr(), segment.len(), list.as_ptr(), list.len()) })
     }
 
     fn read_entry(&self, kind: u8, n: u8, table: &[u8], index: u32) -> Entry {
@@ -326,10 +352,13 @@ impl System for Library {
         room: u32,
         table: &mut [u8],
         logs: &mut [u32],
+        list: &mut [u8],
     ) -> Answer {
         let wanted = CStack { places: wanted };
-        let (length, words) = (table.len(), logs.len());
-        let (table, logs) = (table.as_mut_ptr(), logs.as_mut_ptr());
-        answer(unsafe { hokrund_build_table(kind, n, wanted, groups, size, room, table, length, logs, words) })
+        let (length, words, bytes) = (table.len(), logs.len(), list.len());
+        let (table, logs, list) = (table.as_mut_ptr(), logs.as_mut_ptr(), list.as_mut_ptr());
+        answer(unsafe {
+            hokrund_build_table(kind, n, wanted, groups, size, room, table, length, logs, words, list, bytes)
+        })
     }
 }

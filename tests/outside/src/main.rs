@@ -131,6 +131,7 @@ fn main() -> ExitCode {
             fine &= report(&format!("{name}, numbering"), || checks::numbering(system));
             fine &= report(&format!("{name}, builds"), || checks::builds(system, options.seed));
             fine &= report(&format!("{name}, limited sets"), || checks::limited(system, options.seed));
+            fine &= report(&format!("{name}, reverse levels"), || checks::reverse(system, options.seed));
             fine &= report(&format!("{name}, deep builds"), || checks::deep(system, frames));
             fine &= report(&format!("{name}, last level"), || checks::late(system));
             fine &= report(&format!("{name}, diameters"), || checks::diameters(system, plain_to, coated_to));

@@ -31,6 +31,13 @@ pub struct Limits {
     pub first_level: u8,
     pub last_level: u8,
     pub most_deepest: u8,
+    pub ways: u8,
+    // A loaded segment, and the numbers from NO_SEGMENT on that mean none.
+    pub loaded_past_g: i64,
+    pub last_no_segment: u8,
+    // Of the pairs: those that may be swept, and those that 13 asks for in a reverse level, by b and by j.
+    pub swept_past_g: [i64; 2],
+    pub asked_past_g: [i64; 2],
     // The level that 14 is about.
     pub level_of_14: u8,
     pub counts: usize,
@@ -78,6 +85,11 @@ const LIMITS: Limits = Limits {
     first_level: 1,
     last_level: 255,
     most_deepest: 254,
+    ways: 2,
+    loaded_past_g: 0,
+    last_no_segment: NO_SEGMENT,
+    swept_past_g: [0, 0],
+    asked_past_g: [0, 0],
     level_of_14: 255,
     counts: 256,
     most_count: 1 << 60,
@@ -245,7 +257,37 @@ pub fn mark(segment: &mut [u8], i: u64, d: u8, counts: &mut [u64; 256]) {
     }
 }
 
+// ---- The changed list
+
+// The bytes that hold so many bits.
+pub fn list_bytes_of(stacks: u64) -> usize {
+    stacks.div_ceil(8) as usize
+}
+
+pub fn bit_at(list: &[u8], i: u64) -> bool {
+    list[(i / 8) as usize] >> (i % 8) & 1 == 1
+}
+
+pub fn set_bit(list: &mut [u8], i: u64) {
+    list[(i / 8) as usize] |= 1 << (i % 8);
+}
+
 // ---- The job
+
+// The entry of the stacks that a level starts from, (d - 1) mod 3, also where a moved limit lets d be 0.
+pub fn before(d: u8) -> u8 {
+    ((u16::from(d) + 2) % 3) as u8
+}
+
+// All segments below so many, each as its bit.
+pub fn segments_below(segments: u64) -> u64 {
+    (0..segments.min(64)).map(|j| 1 << j).sum()
+}
+
+// Whether segment j has been swept against segment b.
+pub fn is_swept(job: &Job, b: u64, j: u64) -> bool {
+    job.swept[b as usize] >> j & 1 == 1
+}
 
 // The measures of a job that Begin would accept.
 #[derive(Clone, Copy)]
@@ -263,6 +305,10 @@ impl Measures {
 
     pub fn bytes_of(&self, j: u64) -> usize {
         bytes_of(self.stacks_of(j))
+    }
+
+    pub fn list_bytes_of(&self, b: u64) -> usize {
+        list_bytes_of(self.stacks_of(b))
     }
 
     pub fn log_numbers(&self) -> usize {
@@ -326,7 +372,12 @@ impl Paper {
     pub fn coherent(&self, job: &Job) -> Result<Measures, u8> {
         let limits = &self.limits;
         let measures = self.measures(job.kind, job.n, &job.wanted, job.groups, job.size, job.room).map_err(|_| 7)?;
-        refuse(7, !self.right_phase(job.phase))?;
+        refuse(7, !self.right_phase(job.phase) || job.way >= limits.ways)?;
+        let none = (NO_SEGMENT..=limits.last_no_segment).contains(&job.loaded);
+        refuse(7, !none && u64::from(job.loaded) >= past(measures.segments, limits.loaded_past_g))?;
+        let [ends_b, ends_j] = limits.swept_past_g.map(|far| past(measures.segments, far));
+        let below = segments_below(ends_j);
+        refuse(7, (0..).zip(&job.swept).any(|(b, swept)| swept & !(if b < ends_b { below } else { 0 }) != 0))?;
         for (j, (&passed, &waiting)) in (0..).zip(job.passed.iter().zip(&job.waiting)) {
             let (most_passed, most_waiting) = if j < measures.segments {
                 (past(measures.stacks_of(j), limits.passed_past_m), past(measures.room, limits.waiting_past_c))
@@ -355,9 +406,10 @@ fn past(number: u64, far: i64) -> u64 {
     number.saturating_add_signed(far)
 }
 
-fn level_of(job: &Job) -> Result<u8, u8> {
+// The level of a job that goes this way; 8 for any other.
+fn level_of(job: &Job, way: u8) -> Result<u8, u8> {
     match job.phase {
-        Phase::Level(d) => Ok(d),
+        Phase::Level(d) if job.way == way => Ok(d),
         _ => Err(8),
     }
 }
@@ -454,7 +506,7 @@ impl Paper {
     // The job after the call, and the segment waited on.
     fn try_expand(&self, job: &Job, j: u32, segment: &mut [u8], logs: &mut [u32]) -> Result<(Job, Option<u32>), u8> {
         let measures = self.coherent(job)?;
-        let d = level_of(job)?;
+        let d = level_of(job, FORWARD)?;
         let here = u64::from(j);
         self.right_segment(j, &measures)?;
         refuse(10, segment.len() != measures.bytes_of(here))?;
@@ -464,8 +516,7 @@ impl Paper {
 
         let mut after = *job;
         for i in u64::from(job.passed[j as usize])..stacks {
-            // (d - 1) mod 3, also where a moved limit lets d be 0.
-            if u16::from(entry_at(segment, i)) == (u16::from(d) + 2) % 3 {
+            if entry_at(segment, i) == before(d) {
                 let children = children(job, here * u64::from(job.size) + i);
                 let full = (0..measures.segments).find(|&t| {
                     let falling = children.iter().filter(|child| child.segment == t).count() as u64;
@@ -492,7 +543,7 @@ impl Paper {
 
     fn try_settle(&self, job: &Job, j: u32, segment: &mut [u8], logs: &[u32]) -> Result<Job, u8> {
         let measures = self.coherent(job)?;
-        let d = level_of(job)?;
+        let d = level_of(job, FORWARD)?;
         let here = u64::from(j);
         self.right_segment(j, &measures)?;
         refuse(10, segment.len() != measures.bytes_of(here))?;
@@ -517,18 +568,22 @@ impl Paper {
         Ok((measures.log_start(u64::from(j)), job.waiting[j as usize] as usize))
     }
 
-    fn try_close(&self, job: &Job) -> Result<Job, u8> {
+    fn try_close(&self, job: &Job, way: u8) -> Result<Job, u8> {
         let measures = self.coherent(job)?;
         refuse(8, matches!(job.phase, Phase::Finished(_)))?;
-        for j in 0..measures.segments {
-            let all_passed = u64::from(job.passed[j as usize]) == measures.stacks_of(j);
-            refuse(13, !all_passed || job.waiting[j as usize] != 0)?;
+        if level_of(job, REVERSE).is_ok() {
+            let [ends_b, ends_j] = self.limits.asked_past_g.map(|far| past(measures.segments, far));
+            let below = segments_below(ends_j);
+            refuse(13, (0..ends_b).any(|b| below & !job.swept[b as usize] != 0))?;
+        } else {
+            let all_passed = |j: u64| u64::from(job.passed[j as usize]) == measures.stacks_of(j);
+            refuse(13, (0..measures.segments).any(|j| !all_passed(j) || job.waiting[j as usize] != 0))?;
         }
         let last = self.limits.level_of_14;
         refuse(14, job.phase == Phase::Level(last) && job.counts[last as usize] != 0)?;
 
-        let mut after = *job;
-        after.passed = [0; 64];
+        let way = if way == FORWARD { FORWARD } else { REVERSE };
+        let mut after = Job { way, loaded: NO_SEGMENT, passed: [0; 64], swept: [0; 64], ..*job };
         after.phase = match job.phase {
             Phase::Level(d) if job.counts[d as usize] == 0 => Phase::Finished(d - 1),
             Phase::Level(d) => Phase::Level(d + 1),
@@ -537,6 +592,42 @@ impl Paper {
                 Phase::Level(1)
             }
         };
+        Ok(after)
+    }
+
+    fn try_load(&self, job: &Job, b: u32, segment: &[u8], list: &mut [u8]) -> Result<Job, u8> {
+        let measures = self.coherent(job)?;
+        let d = level_of(job, REVERSE)?;
+        let here = u64::from(b);
+        self.right_segment(b, &measures)?;
+        refuse(10, segment.len() != measures.bytes_of(here))?;
+        refuse(10, list.len() != measures.list_bytes_of(here))?;
+
+        list.fill(0);
+        (0..measures.stacks_of(here)).filter(|&i| entry_at(segment, i) == before(d)).for_each(|i| set_bit(list, i));
+        Ok(Job { loaded: b as u8, ..*job })
+    }
+
+    fn try_sweep(&self, job: &Job, j: u32, segment: &mut [u8], list: &[u8]) -> Result<Job, u8> {
+        let measures = self.coherent(job)?;
+        let d = level_of(job, REVERSE)?;
+        let here = u64::from(j);
+        self.right_segment(j, &measures)?;
+        refuse(22, job.loaded == NO_SEGMENT)?;
+        let b = u64::from(job.loaded);
+        refuse(10, segment.len() != measures.bytes_of(here))?;
+        refuse(10, list.len() != measures.list_bytes_of(b))?;
+        refuse(11, is_swept(job, b, here))?;
+
+        let mut after = *job;
+        for i in 0..measures.stacks_of(here) {
+            let is_changed = |child: &Child| child.segment == b && bit_at(list, child.offset);
+            let has_changed_child = || children(job, here * u64::from(job.size) + i).iter().any(is_changed);
+            if entry_at(segment, i) == UNSEEN && has_changed_child() {
+                mark(segment, i, d, &mut after.counts);
+            }
+        }
+        after.swept[b as usize] |= 1 << j;
         Ok(after)
     }
 
@@ -688,8 +779,16 @@ impl System for Paper {
         }
     }
 
-    fn close(&self, job: &Job) -> Answer {
-        answer(self.try_close(job), job)
+    fn close(&self, job: &Job, way: u8) -> Answer {
+        answer(self.try_close(job, way), job)
+    }
+
+    fn load(&self, job: &Job, b: u32, segment: &[u8], list: &mut [u8]) -> Answer {
+        answer(self.try_load(job, b, segment, list), job)
+    }
+
+    fn sweep(&self, job: &Job, j: u32, segment: &mut [u8], list: &[u8]) -> Answer {
+        answer(self.try_sweep(job, j, segment, list), job)
     }
 
     fn read_entry(&self, kind: u8, n: u8, table: &[u8], index: u32) -> Entry {

@@ -11,6 +11,11 @@ pub const NO_STACK: Stack = [0; 12];
 // A set of group sizes: size k is the bit of weight 2^(k-1), and any bits may come.
 pub type Groups = u32;
 
+// The ways of a level, and the number for no loaded segment. Close takes any other way than forward for reverse.
+pub const FORWARD: u8 = 0;
+pub const REVERSE: u8 = 1;
+pub const NO_SEGMENT: u8 = 64;
+
 #[derive(Clone, Copy, PartialEq, Eq, Debug)]
 pub enum Phase {
     Blanking,
@@ -41,7 +46,8 @@ impl Phase {
     }
 }
 
-// A build: groups are the sizes that the frame lifts, size is document 01's S, room its C.
+// A build: groups are the sizes that the frame lifts, size is document 01's S, room its C. In swept[b] each segment j that is swept against b is
+// the bit of weight 2^j.
 #[derive(Clone, Copy, PartialEq, Eq, Debug)]
 pub struct Job {
     pub kind: u8,
@@ -51,8 +57,12 @@ pub struct Job {
     pub size: u32,
     pub room: u32,
     pub phase: Phase,
+    // As C's mirror holds it: any number may come.
+    pub way: u8,
+    pub loaded: u8,
     pub passed: [u32; 64],
     pub waiting: [u32; 64],
+    pub swept: [u64; 64],
     pub counts: [u64; 256],
 }
 
@@ -65,8 +75,11 @@ pub const NO_JOB: Job = Job {
     size: 0,
     room: 0,
     phase: Phase::Blanking,
+    way: FORWARD,
+    loaded: NO_SEGMENT,
     passed: [0; 64],
     waiting: [0; 64],
+    swept: [0; 64],
     counts: [0; 256],
 };
 
@@ -164,7 +177,9 @@ pub trait System {
     fn expand(&self, job: &Job, j: u32, segment: &mut [u8], logs: &mut [u32]) -> Expanded;
     fn settle(&self, job: &Job, j: u32, segment: &mut [u8], logs: &[u32]) -> Answer;
     fn look(&self, job: &Job, j: u32, logs: &[u32]) -> Looked;
-    fn close(&self, job: &Job) -> Answer;
+    fn close(&self, job: &Job, way: u8) -> Answer;
+    fn load(&self, job: &Job, b: u32, segment: &[u8], list: &mut [u8]) -> Answer;
+    fn sweep(&self, job: &Job, j: u32, segment: &mut [u8], list: &[u8]) -> Answer;
     fn read_entry(&self, kind: u8, n: u8, table: &[u8], index: u32) -> Entry;
     #[allow(clippy::too_many_arguments)]
     fn plan(
@@ -194,7 +209,7 @@ pub trait System {
         PAPER.price_by(self, kind, n, wanted, given, groups, table, list, tariff)
     }
 
-    // Build the whole table. Unless a system has a call for it, it makes its own calls, in rising order; the order shows in the log area alone.
+    // Build the whole table. Unless a system has a call for it, it makes its own calls, in the order that Build::drive has.
     #[allow(clippy::too_many_arguments)]
     fn build_table(
         &self,
@@ -206,7 +221,9 @@ pub trait System {
         room: u32,
         table: &mut [u8],
         logs: &mut [u32],
+        list: &mut [u8],
     ) -> Answer {
-        build::whole_table(self, &Fields { kind, n, wanted, groups, size, room }, table, logs)
+        let fields = Fields { kind, n, wanted, groups, size, room };
+        build::whole_table(self, &fields, build::chosen_way, table, logs, list)
     }
 }

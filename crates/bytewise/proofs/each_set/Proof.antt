@@ -5,10 +5,10 @@ use Rattle.bytewise.proofs.each_set.Statement.{statement}
 use Rattle.bytewise.proofs.each_set.Tie as tie
 
 abbrev Inv-loop : tie.InvT-loop
-Inv-loop kind n groups₀ groups = groups ≤ 16
+Inv-loop kind n ways groups₀ groups = groups ≤ 16
 
 abbrev μ-loop : tie.MeasureT-loop
-μ-loop kind n groups₀ groups = 16 - groups
+μ-loop kind n ways groups₀ groups = 16 - groups
 
 loop-holds : tie.Need-loop-holds Inv-loop μ-loop
 loop-holds c = search needs

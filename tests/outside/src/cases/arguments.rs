@@ -1,4 +1,4 @@
-// Single arguments, right and wrong: kinds and n, stacks, sets, sizes, rooms, segment numbers, lengths.
+// Single arguments, right and wrong: kinds and n, stacks, sets, sizes, rooms, segment numbers, changed lists, lengths.
 
 use crate::build::{ordered, size_for, Fields};
 use crate::paper::{self, COATED, PLAIN};
@@ -129,12 +129,14 @@ const MOST_SIZE: u32 = 67_108_864;
 
 pub fn right_size(rng: &mut Rng, stacks: u64) -> u32 {
     let least = size_for(stacks, 64);
-    let size = match rng.below(8) {
+    let size = match rng.below(9) {
         0..=2 => least,
         3 => size_for(stacks, 2),
         4 => size_for(stacks, 1),
         5 => MOST_SIZE,
-        _ => size_for(stacks, rng.between(1, 64)),
+        6 => size_for(stacks, rng.between(1, 64)),
+        // The last segment is often shorter than the others.
+        _ => 4 * rng.between(u64::from(least / 4), stacks.div_ceil(4)) as u32,
     };
     size.clamp(least, MOST_SIZE)
 }
@@ -174,6 +176,19 @@ pub fn any_j(rng: &mut Rng, segments: u64) -> u32 {
         return right;
     }
     rng.pick(&[segments as u32, segments as u32 + 1, 63, 64, 65, right + 256, right + 65_536, 1 << 31, u32::MAX])
+}
+
+// A changed list of so many bytes, which need not be that of any segment: spare bits may be set.
+pub fn any_list(rng: &mut Rng, len: usize) -> Vec<u8> {
+    let style = rng.below(6);
+    let byte = |rng: &mut Rng| match style {
+        0 => 0,
+        1 => 0xff,
+        2 => 1 << rng.below(8),
+        3 => (rng.word() & rng.word() & rng.word()) as u8,
+        _ => rng.word() as u8,
+    };
+    (0..len).map(|_| byte(rng)).collect()
 }
 
 // The length changed.

@@ -3,9 +3,9 @@
 use super::arguments::*;
 use super::lists::{take, useful_call};
 use super::Check;
-use crate::build::Build;
+use crate::build::{any_way, Build};
 use crate::call::Call;
-use crate::paper::PAPER;
+use crate::paper::{self, PAPER};
 use crate::rng::Rng;
 use crate::system::*;
 
@@ -44,6 +44,18 @@ fn forged(rng: &mut Rng) -> Build {
         _ => Phase::Level(rng.between(1, 255) as u8),
     };
     let (room, mut job) = (fields.room, fields.job(phase));
+    job.way = rng.pick(&[FORWARD, REVERSE]);
+    job.loaded = if rng.chance(80) { rng.below(measures.segments) as u8 } else { NO_SEGMENT };
+    let all = paper::segments_below(measures.segments);
+    let swept_style = rng.below(4);
+    for swept in &mut job.swept[..measures.segments as usize] {
+        *swept = match swept_style {
+            0 => 0,
+            1 => all,
+            2 => all & rng.word(),
+            _ => all & rng.word() & rng.word(),
+        };
+    }
 
     let passed_style = rng.below(4);
     let waiting_style = rng.below(4);
@@ -67,11 +79,15 @@ fn forged(rng: &mut Rng) -> Build {
         if rng.chance(60) {
             job.phase = Phase::Level(rng.pick(&[1, 30, 31, 31, 32, 253, 254, 254, 255, 255]));
         }
-        let short = rng.below(4);
+        let short = rng.below(5);
         let one = rng.below(measures.segments);
         for j in 0..measures.segments {
             job.passed[j as usize] = measures.stacks_of(j) as u32 - u32::from(short == 0 && j == one);
             job.waiting[j as usize] = u32::from(short == 1 && j == one);
+            job.swept[j as usize] = all;
+        }
+        if short == 2 {
+            job.swept[one as usize] ^= 1 << rng.below(measures.segments);
         }
     }
     let counts_style = rng.below(4);
@@ -101,7 +117,8 @@ fn forged(rng: &mut Rng) -> Build {
             stretch[rng.below(waiting as u64) as usize] = wrong;
         }
     }
-    Build { job, measures, segments, logs }
+    let list = any_list(rng, measures.list_bytes_of(0));
+    Build { job, measures, segments, logs, list }
 }
 
 // Entry bytes: random, mostly unseen, or all to be expanded.
@@ -120,7 +137,7 @@ fn entries(rng: &mut Rng, len: usize, nearer: u8) -> Vec<u8> {
 // A call on a build's job, with each argument hostile now and then.
 fn call_on(rng: &mut Rng, build: &Build) -> Call {
     let mut job = build.job;
-    if rng.chance(18) {
+    if rng.chance(22) {
         damage(rng, &mut job, build);
     } else if rng.chance(3) {
         job = wild(rng);
@@ -134,17 +151,29 @@ fn call_on(rng: &mut Rng, build: &Build) -> Call {
     if rng.chance(6) {
         wrong_length(rng, &mut logs);
     }
-    let fitting = match build.job.phase {
-        Phase::Blanking => [0, 0, 3, 4],
-        Phase::Level(_) => [1, 1, 2, 4],
-        Phase::Finished(_) | Phase::NoPhase(..) => [0, 1, 3, 4],
+    let fitting = match (build.job.phase, build.job.way) {
+        (Phase::Blanking, _) => [0, 0, 3, 4],
+        (Phase::Level(_), FORWARD) => [1, 1, 2, 4],
+        (Phase::Level(_), _) => [4, 5, 6, 6],
+        (Phase::Finished(_) | Phase::NoPhase(..), _) => [0, 1, 3, 4],
     };
-    match if rng.chance(65) { rng.pick(&fitting) } else { rng.below(5) } {
+    let operation = if rng.chance(65) { rng.pick(&fitting) } else { rng.below(7) };
+    let whose = if operation == 5 { j } else { u32::from(job.loaded) };
+    let mut list = build.list_of(if rng.chance(8) { any_j(rng, build.measures.segments) } else { whose }).to_vec();
+    if rng.chance(50) {
+        list = any_list(rng, list.len());
+    }
+    if rng.chance(6) {
+        wrong_length(rng, &mut list);
+    }
+    match operation {
         0 => Call::Blank { job, j, segment },
         1 => Call::Expand { job, j, segment, logs },
         2 => Call::Settle { job, j, segment, logs },
         3 => Call::Look { job, j, logs },
-        _ => Call::Close { job },
+        4 => Call::Close { job, way: any_way(rng, 50) },
+        5 => Call::Load { job, b: j, segment, list },
+        _ => Call::Sweep { job, j, segment, list },
     }
 }
 
@@ -153,7 +182,7 @@ fn damage(rng: &mut Rng, job: &mut Job, build: &Build) {
     let segments = build.measures.segments;
     let here = rng.below(segments) as usize;
     let beyond = rng.between(segments.min(63), 63) as usize;
-    match rng.below(19) {
+    match rng.below(24) {
         0 => job.kind = rng.pick(&[0, 1, 2, 255]),
         1 => job.n = rng.pick(&[0, job.n.wrapping_sub(1), job.n + 1, 11, 13, 255]),
         2 => job.wanted = damaged_stack(rng, job.kind, job.n),
@@ -172,6 +201,11 @@ fn damage(rng: &mut Rng, job: &mut Job, build: &Build) {
         15 => job.phase = no_phase(rng),
         16 => job.groups = damaged_groups(rng, job.kind, job.n),
         17 => job.groups = right_groups(rng, job.kind & 1, job.n.clamp(1, 12)),
+        18 => job.way = rng.pick(&[FORWARD, REVERSE, 2, 3, 64, 128, 255]),
+        19 => job.loaded = rng.pick(&[0, here as u8, segments as u8, segments as u8 + 1, 63, 64, 65, 128, 255]),
+        20 => job.swept[here] ^= 1 << here,
+        21 => job.swept[here] |= 1 << rng.between(segments.min(63), 63),
+        22 => job.swept[beyond] = rng.pick(&[0, 1, 1 << here, 1 << 63, u64::MAX]),
         _ => job.wanted = right_stack(rng, job.kind, job.n.clamp(1, 12)),
     }
 }
@@ -211,8 +245,11 @@ fn wild(rng: &mut Rng) -> Job {
             1 => Phase::Level(number(255) as u8),
             _ => Phase::Finished(number(255) as u8),
         },
+        way: number(2) as u8,
+        loaded: number(65) as u8,
         passed: std::array::from_fn(|_| number(4) as u32),
         waiting: std::array::from_fn(|_| number(4) as u32),
+        swept: std::array::from_fn(|_| number(4)),
         counts: std::array::from_fn(|_| number(1 << 60)),
     }
 }

@@ -5,7 +5,7 @@ use std::rc::Rc;
 use super::arguments::*;
 use super::tables::{road, table_calls};
 use super::Check;
-use crate::build::Fields;
+use crate::build::{any_way, Fields};
 use crate::call::Call;
 use crate::paper::{self, COATED, PLAIN};
 use crate::rng::Rng;
@@ -15,6 +15,9 @@ pub fn case(rng: &mut Rng, check: &mut Check) -> Result<(), String> {
     let (kind, n) =
         rng.pick(&[(PLAIN, 9), (PLAIN, 10), (PLAIN, 11), (PLAIN, 12), (COATED, 8), (COATED, 9), (COATED, 10)]);
     let stacks = paper::count_of_stacks(kind, n);
+    if rng.chance(30) {
+        return swept_end(rng, check, kind, n);
+    }
     let size = right_size(rng, stacks);
     let segments = paper::count_of_segments(stacks, size);
     let room = rng.pick(&[16, 17, 1000, if segments <= 2 { 1_048_576 } else { 4096 }]);
@@ -53,6 +56,25 @@ pub fn case(rng: &mut Rng, check: &mut Check) -> Result<(), String> {
             check(Call::Expand { job, j, segment, logs })?
         }
     };
-    check(Call::Close { job })?;
+    check(Call::Close { job, way: any_way(rng, 50) })?;
+    Ok(())
+}
+
+// Sweep walks a whole segment: here the last one, which has few stacks, against any, by a list with high offsets; and Load of the last one.
+fn swept_end(rng: &mut Rng, check: &mut Check, kind: u8, n: u8) -> Result<(), String> {
+    let stacks = paper::count_of_stacks(kind, n);
+    let before = rng.between(stacks / 67_108_864 + 1, 63);
+    let size = ((stacks - rng.between(1, 400)) / before / 4 * 4) as u32;
+    let fields =
+        Fields { kind, n, wanted: right_stack(rng, kind, n), groups: right_groups(rng, kind, n), size, room: 16 };
+    let measures = fields.measures().expect("right fields are accepted");
+    let mut job = fields.job(Phase::Level(rng.between(1, 255) as u8));
+    let (j, b) = (measures.segments - 1, rng.below(measures.segments));
+    (job.way, job.loaded) = (REVERSE, b as u8);
+    let segment: Vec<u8> = (0..measures.bytes_of(j)).map(|_| (rng.word() | rng.word()) as u8).collect();
+    let list = any_list(rng, measures.list_bytes_of(b));
+    check(Call::Sweep { job, j: j as u32, segment: segment.clone(), list })?;
+    let list = any_list(rng, measures.list_bytes_of(j));
+    check(Call::Load { job, b: j as u32, segment, list })?;
     Ok(())
 }

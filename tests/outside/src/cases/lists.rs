@@ -1,36 +1,65 @@
-// Whole random call lists to the end of a build, against the plain search, and plans and prices from the finished table.
+// Whole random call lists to the end of a build, by any mixture of ways, against the plain search, and plans and prices from the finished table.
 
 use std::rc::Rc;
 
 use super::arguments::*;
 use super::tables::plan_is_shortest;
 use super::Check;
-use crate::build::{Build, Fields};
+use crate::build::{any_way, Build};
 use crate::call::{Call, Outcome};
 use crate::paper::PAPER;
 use crate::rng::Rng;
 use crate::system::*;
 
-// A call that carries the build on, or would but for a full log; Finished, any call.
+// A call that carries the build on, or would but for a full log or a list that is not swept to its end; Finished, any call.
 pub fn useful_call(rng: &mut Rng, build: &Build) -> Call {
+    let work = match (build.job.phase, build.job.way) {
+        (Phase::Finished(_), _) => None,
+        (Phase::Level(_), REVERSE) => pair_call(rng, build),
+        _ => pass_call(rng, build),
+    };
+    work.unwrap_or_else(|| Call::Close { job: build.job, way: next_way(rng, build) })
+}
+
+// Passes stacks of a segment or settles one, as long as there is something to do.
+fn pass_call(rng: &mut Rng, build: &Build) -> Option<Call> {
     let job = build.job;
-    let unpassed = |j: &u64| u64::from(job.passed[*j as usize]) < build.measures.stacks_of(*j);
-    let waiting = |j: &u64| job.waiting[*j as usize] > 0;
-    let to_pass: Vec<u64> = (0..build.measures.segments).filter(unpassed).collect();
-    let to_settle: Vec<u64> = (0..build.measures.segments).filter(waiting).collect();
+    let (to_pass, to_settle): (Vec<u32>, Vec<u32>) = (build.open().collect(), build.pending().collect());
     let work = (to_pass.len() + to_settle.len()) as u64;
-    if work == 0 || build.deepest().is_some() {
-        return Call::Close { job };
+    if work == 0 {
+        return None;
     }
     let chosen = rng.below(work) as usize;
     let settles = chosen >= to_pass.len();
     let j = if settles { to_settle[chosen - to_pass.len()] } else { to_pass[chosen] };
-    let (j, segment) = (j as u32, build.segments[j as usize].clone());
-    match job.phase {
+    let segment = build.segments[j as usize].clone();
+    Some(match job.phase {
         Phase::Blanking => Call::Blank { job, j, segment },
         _ if settles => Call::Settle { job, j, segment, logs: build.logs.clone() },
         _ => Call::Expand { job, j, segment, logs: build.logs.clone() },
+    })
+}
+
+// Sweeps a pair of the loaded segment; with none left, and now and then before that, loads a segment with pairs left.
+fn pair_call(rng: &mut Rng, build: &Build) -> Option<Call> {
+    let job = build.job;
+    let (unswept, due): (Vec<u32>, Vec<u32>) = (build.unswept().collect(), build.due().collect());
+    if due.is_empty() {
+        return None;
     }
+    let loads = unswept.is_empty() || rng.chance(5);
+    let j = rng.pick(if loads { &due } else { &unswept });
+    let segment = build.segments[j as usize].clone();
+    Some(if loads {
+        Call::Load { job, b: j, segment, list: build.list_of(j).to_vec() }
+    } else {
+        Call::Sweep { job, j, segment, list: build.list_of(u32::from(job.loaded)).to_vec() }
+    })
+}
+
+// Either way; where there are many segments, and so many more pairs, seldom reverse.
+fn next_way(rng: &mut Rng, build: &Build) -> u8 {
+    any_way(rng, if build.measures.segments > 16 { 8 } else { 50 })
 }
 
 // Any call of the list, the job as it stands; j and lengths are wrong now and then.
@@ -45,16 +74,23 @@ fn any_call(rng: &mut Rng, build: &Build) -> Call {
     if rng.chance(5) {
         wrong_length(rng, &mut logs);
     }
-    match rng.below(5) {
+    let operation = rng.below(7);
+    let mut list = build.list_of(if operation == 5 { j } else { u32::from(job.loaded) }).to_vec();
+    if rng.chance(5) {
+        wrong_length(rng, &mut list);
+    }
+    match operation {
         0 => Call::Blank { job, j, segment },
         1 => Call::Expand { job, j, segment, logs },
         2 => Call::Settle { job, j, segment, logs },
         3 => Call::Look { job, j, logs },
-        _ => Call::Close { job },
+        4 => Call::Close { job, way: next_way(rng, build) },
+        5 => Call::Load { job, b: j, segment, list },
+        _ => Call::Sweep { job, j, segment, list },
     }
 }
 
-// Leaves job, segment and log area as the call left them. A refused call changes nothing.
+// Leaves job, segment, log area and changed list as the call left them. A refused call changes nothing.
 pub fn take(build: &mut Build, call: &Call, outcome: Outcome) {
     if outcome.answer.refusal() != 0 {
         return;
@@ -63,7 +99,10 @@ pub fn take(build: &mut Build, call: &Call, outcome: Outcome) {
         build.job = *job;
     }
     match call {
-        Call::Blank { j, .. } | Call::Settle { j, .. } => build.segments[*j as usize] = outcome.segment,
+        Call::Blank { j, .. } | Call::Settle { j, .. } | Call::Sweep { j, .. } => {
+            build.segments[*j as usize] = outcome.segment
+        }
+        Call::Load { .. } => build.list[..outcome.list.len()].copy_from_slice(&outcome.list),
         Call::Expand { j, .. } => {
             build.segments[*j as usize] = outcome.segment;
             build.logs = outcome.logs;
@@ -78,8 +117,7 @@ const MOST_CALLS: u64 = 1_000_000;
 pub fn case(rng: &mut Rng, check: &mut Check) -> Result<(), String> {
     let most = rng.pick(&[6, 48, 120, 120, 120, 384, 384, 720, 720, 5040]);
     let fields = right_fields(rng, most);
-    let Fields { kind, n, wanted, groups, size, room } = fields;
-    let begun = check(Call::Begin { kind, n, wanted, groups, size, room })?;
+    let begun = check(Call::Begin { fields })?;
     let mut build = Build::begin(&PAPER, &fields, rng).expect("right fields are accepted");
     build.job = *begun.answer.job().expect("Begin answers a job");
 
@@ -104,7 +142,7 @@ pub fn case(rng: &mut Rng, check: &mut Check) -> Result<(), String> {
     build.agrees_with(&distances).map_err(|wrong| format!("{wrong}: {fields:?}"))?;
     let table = Rc::new(build.table());
     for _ in 0..10 {
-        let given = right_stack(rng, kind, n);
+        let given = right_stack(rng, fields.kind, fields.n);
         plan_is_shortest(rng, check, &fields, given, &table, &distances)?;
     }
     Ok(())

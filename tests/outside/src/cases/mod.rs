@@ -12,7 +12,7 @@ mod tables;
 mod tariffs;
 mod whole;
 
-pub use arguments::right_stack;
+pub use arguments::{right_groups, right_stack};
 pub use tables::walked;
 pub use tariffs::right_tariff;
 

@@ -2,6 +2,7 @@
 
 use super::arguments::*;
 use super::Check;
+use crate::build::Fields;
 use crate::call::Call;
 use crate::paper;
 use crate::rng::Rng;
@@ -29,6 +30,6 @@ pub fn case(rng: &mut Rng, check: &mut Check) -> Result<(), String> {
     let size = if rng.chance(75) { right_size(rng, stacks) } else { wrong_size(rng, stacks) };
     let room = if rng.chance(75) { rng.pick(&[16, 17, 1000, 1_048_575, 1_048_576]) } else { wrong_room(rng) };
     let groups = any_groups(rng, kind, n);
-    check(Call::Begin { kind, n, wanted: stack, groups, size, room })?;
+    check(Call::Begin { fields: Fields { kind, n, wanted: stack, groups, size, room } })?;
     Ok(())
 }

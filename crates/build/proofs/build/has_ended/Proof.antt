@@ -30,7 +30,7 @@ close-refusal-requires c κs = search needs
 
 returns-3 : tie.Need-returns-3
 returns-3 c =
-    let e = c .before .before .before .before .before .before .before .before in
+    let e = c .before .before .before .before .before .before .before .before .before in
     let f = e .before .is-finished in
     ap (λ (r : ℕ). eqb r 14) (c .close-refusal .ensures)
     ∙ unfinished-ended (e .before .before .args .t1) (sym (f .ensures) ∙ e .if1 .left)

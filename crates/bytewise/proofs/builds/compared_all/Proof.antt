@@ -5,10 +5,10 @@ use Rattle.bytewise.proofs.builds.compared_all.Statement.{statement}
 use Rattle.bytewise.proofs.builds.compared_all.Tie as tie
 
 abbrev Inv-loop : tie.InvT-loop
-Inv-loop kind n groups stacks sum₀ goal₀ sum goal = goal ≤ stacks
+Inv-loop kind n groups ways stacks sum₀ goal₀ sum goal = goal ≤ stacks
 
 abbrev μ-loop : tie.MeasureT-loop
-μ-loop kind n groups stacks sum₀ goal₀ sum goal = stacks - goal
+μ-loop kind n groups ways stacks sum₀ goal₀ sum goal = stacks - goal
 
 total-requires : tie.Need-total-requires Inv-loop μ-loop
 total-requires c κs = search needs

@@ -28,23 +28,23 @@ standing-of-requires c κs = search needs
 
 blank-refusal-requires : tie.Need-blank-refusal-requires
 blank-refusal-requires c κs =
-    record { job = c .before .before .before .before .before .before .before .args .job; is = c .standing-of .ensures }
+    record { job = c .before .before .before .before .before .before .before .before .args .job; is = c .standing-of .ensures }
 
 -- what the row has answered
-answered : (c : tie.After-blank-refusal) → let a = c .before .before .before .before .before .before .before .before .args in
+answered : (c : tie.After-blank-refusal) → let a = c .before .before .before .before .before .before .before .before .before .args in
     c .blank-refusal .result ≡ blankRefusal (a .job) (a .j) (length (a .segment .now))
-answered c = c .blank-refusal .ensures (c .before .before .before .before .before .before .before .before .args .job) (c .before .standing-of .ensures)
+answered c = c .blank-refusal .ensures (c .before .before .before .before .before .before .before .before .before .args .job) (c .before .standing-of .ensures)
 
 returns : tie.Need-returns
 returns c =
     let f = c .before in
-    let a = f .before .before .before .before .before .before .before .before .args in
+    let a = f .before .before .before .before .before .before .before .before .before .args in
     refused (a .job) (a .j) (a .segment .now) (f .blank-refusal .result) (answered f) (c .if1 .taken)
 
 -- what was given where nothing is refused
-facts : (c : tie.Else1) → let a = c .before .before .before .before .before .before .before .before .before .args in BlankFacts (a .job) (a .j) (length (a .segment .now))
+facts : (c : tie.Else1) → let a = c .before .before .before .before .before .before .before .before .before .before .args in BlankFacts (a .job) (a .j) (length (a .segment .now))
 facts c =
-    let a = c .before .before .before .before .before .before .before .before .before .args in
+    let a = c .before .before .before .before .before .before .before .before .before .before .args in
     blank-facts (a .job) (a .j) (length (a .segment .now)) (sym (answered (c .before)) ∙ c .if1 .left)
 
 blank-entries-requires : tie.Need-blank-entries-requires
@@ -52,13 +52,13 @@ unfolding stackCountAt stackCountOf
 blank-entries-requires c κs =
     let e = c .before in
     let f = facts e in
-    let b = coherent-bounds (e .before .before .before .before .before .before .before .before .before .args .job) (f .called .coherent) in
+    let b = coherent-bounds (e .before .before .before .before .before .before .before .before .before .before .args .job) (f .called .coherent) in
     record { in-range = b .is-pane-count; goal = b .is-stack; some = b .some; long = f .long }
 
 stack-count-at-requires : tie.Need-stack-count-at-requires
 stack-count-at-requires c κs =
     let e = c .before .before .before .before in
-    coherent-bounds (e .before .before .before .before .before .before .before .before .before .args .job) (facts e .called .coherent) .is-pane-count
+    coherent-bounds (e .before .before .before .before .before .before .before .before .before .before .args .job) (facts e .called .coherent) .is-pane-count
 
 mul-next : tie.Need-mul-next
 mul-next c = search needs
@@ -66,7 +66,7 @@ mul-next c = search needs
 element-write-next : tie.Need-element-write-next
 element-write-next c =
     let e = c .before .before .before .before .before in
-    let a = e .before .before .before .before .before .before .before .before .before .args in
+    let a = e .before .before .before .before .before .before .before .before .before .before .args in
     let f = facts e .called in
     segment-below (a .job) (f .coherent) (a .j) (f .inside)
 
@@ -79,7 +79,7 @@ returns-2 c =
     let n = c .before .before .before in
     let e = n .before .before in
     let f = e .before in
-    let a = f .before .before .before .before .before .before .before .before .args in
+    let a = f .before .before .before .before .before .before .before .before .before .args in
     let job = a .job in
     accepted job (a .j) (a .segment .now) (f .blank-refusal .result) (answered f) (n .blank-entries .last .1 .1 .1 .1 .1 .0)
     (progressed job (job .phase) (set (job .passed) (a .j) (c .stack-count-at .result)) (job .waiting) (job .counts))

@@ -1,139 +1,40 @@
--- `calls::close::is_ready` meets its contract: what is left to test from segment j on says it for all.
-use mathlib.Core.Path.{_≡_, refl, sym, ap, _∙_}
-use mathlib.Core.Bool.{Bool, _&&_}
-use mathlib.Core.List.{List}
-use Prim.Native.Nat.{ℕ, _-_, _≤_}
-use native.Mathlib.Omega.{arith}
-use borrow.Author.Needs.{needs}
-use borrow.Author.Tests.{not-true, not-false}
-use lib.Dec.{eqb}
-use lib.ListN.{getD, drop}
-use Rattle.base.specs.Words.{all, from}
+-- `calls::close::is_ready` meets its contract: in a reverse level the pairs, else what is passed and waiting.
+use mathlib.Core.Path.{_≡_, sym, ap, _∙_}
+use mathlib.Core.Bool.{Bool}
+use Prim.Native.Nat.{ℕ}
 use Rattle.stacks.specs.Stack.{stackCount}
-use Rattle.search.specs.Segments.{segmentLimit, segmentCount, stackCountIn}
-use Rattle.search.proofs.SegmentLaws.{segment-size-facts}
-use Rattle.calls.specs.Lent.{readyBy}
-use Rattle.job.proofs.Scans.{upto-on, upto-fails, upto-end}
+use Rattle.calls.specs.Lent.{sweptBy, readyBy}
 use Rattle.calls.proofs.close.is_ready.Statement.{statement}
 use Rattle.calls.proofs.close.is_ready.Tie as tie
 
--- the test of segment j, by N, S and the two arrays
-abbrev done : ℕ → ℕ → List ℕ → List ℕ → ℕ → Bool
-done N S passed waiting j = eqb (getD passed j 0) (stackCountIn N S j) && eqb (getD waiting j 0) 0
+segment-count-of-requires : tie.Need-segment-count-of-requires
+segment-count-of-requires c κs = c .before .pre
 
-ready-is : (kind n S : ℕ) (passed waiting : List ℕ) (N G : ℕ) → N ≡ stackCount kind n → G ≡ segmentCount N S
-    → all (done N S passed waiting) (from 0 G) ≡ readyBy (stackCount kind n) S passed waiting
-ready-is kind n S passed waiting N G e g =
-    ap (λ (m : ℕ). all (done N S passed waiting) (from 0 m)) g ∙ ap (λ (m : ℕ). readyBy m S passed waiting) e
+are-swept-requires : tie.Need-are-swept-requires
+are-swept-requires c κs = c .segment-count-of .ensures .1
 
-abbrev Inv-loop : tie.InvT-loop
-Inv-loop kind n size passed waiting count segments j₀ j =
-    (segments ≤ segmentLimit)
-    × (j ≤ segments)
-    × (all (done count size passed waiting) (from 0 segments) ≡ all (done count size passed waiting) (drop j (from 0 segments)))
+-- what either branch answers is what the definition says
+ready : (s : tie.Start) {t r : Bool} → let a = s .args in
+    a .reverse ≡ t → r ≡ readyBy t (stackCount (a .kind) (a .n)) (a .size) (a .passed .now) (a .waiting .now) (a .swept .now)
+    → r ≡ readyBy (a .reverse) (stackCount (a .kind) (a .n)) (a .size) (a .passed .now) (a .waiting .now) (a .swept .now)
+ready s e h =
+    let a = s .args in
+    h ∙ ap (λ (t : Bool). readyBy t (stackCount (a .kind) (a .n)) (a .size) (a .passed .now) (a .waiting .now) (a .swept .now)) (sym e)
 
-abbrev μ-loop : tie.MeasureT-loop
-μ-loop kind n size passed waiting count segments j₀ j = segments - j
-
-stack-count-requires : tie.Need-stack-count-requires Inv-loop μ-loop
-stack-count-requires c κs = c .pre .0
-
-segment-count-requires : tie.Need-segment-count-requires Inv-loop μ-loop
-segment-count-requires c κs =
-    let s = c .before in
-    omega (arith, segment-size-facts (stackCount (s .args .kind) (s .args .n)) (s .args .size) (s .pre .1) .least)
-
-loop-holds : tie.Need-loop-holds Inv-loop μ-loop
-loop-holds c =
-    let s = c .before .before in
-    let N : ℕ = stackCount (s .args .kind) (s .args .n) in
-    let e : c .segment-count .result ≡ segmentCount N (s .args .size) =
-    c .segment-count .ensures ∙ ap (λ (m : ℕ). segmentCount m (s .args .size)) (c .before .stack-count .ensures) in
-    (omega (arith, e, segment-size-facts N (s .args .size) (s .pre .1) .few), search needs, refl)
-
-cast-is-done : tie.Need-cast-is-done Inv-loop μ-loop
-cast-is-done c = omega arith
-
-mul-is-done : tie.Need-mul-is-done Inv-loop μ-loop
-mul-is-done c = omega arith
-
-element-copy-out-is-done : tie.Need-element-copy-out-is-done Inv-loop μ-loop
-element-copy-out-is-done c = omega arith
-
-cast-is-done-2 : tie.Need-cast-is-done-2 Inv-loop μ-loop
-cast-is-done-2 c = omega arith
-
-mul-is-done-2 : tie.Need-mul-is-done-2 Inv-loop μ-loop
-mul-is-done-2 c = omega arith
-
-element-copy-out-is-done-2 : tie.Need-element-copy-out-is-done-2 Inv-loop μ-loop
-element-copy-out-is-done-2 c = omega arith
-
-is-done-requires : tie.Need-is-done-requires Inv-loop μ-loop
-is-done-requires c κs = search needs
-
-returns : tie.Need-returns Inv-loop μ-loop
+returns : tie.Need-returns
 returns c =
-    let l = c .before .before .before .before .before in
-    let g = l .before in
-    let a = g .before .before .args in
-    let N = g .before .stack-count in
-    let G = g .segment-count in
-    let t = done (N .result) (a .size) (a .passed .now) (a .waiting .now) in
-    let f = c .before .is-done in
-    upto-fails t (G .result) (l .loop .j) (all t (from 0 (G .result))) (omega arith) (l .loop .inv .2)
-    (sym (f .ensures) ∙ not-true (f .result) (c .if1 .taken))
-    ∙ ready-is (a .kind) (a .n) (a .size) (a .passed .now) (a .waiting .now) (N .result) (G .result) (N .ensures) (G .ensures)
+    let g = c .before in
+    let t = g .before in
+    ready (t .before) (t .if1 .taken)
+    (c .are-swept .ensures ∙ ap (λ (G : ℕ). sweptBy G (t .before .args .swept .now)) (g .segment-count-of .ensures .0))
 
-add-j : tie.Need-add-j Inv-loop μ-loop
-add-j c = omega arith
+are-done-requires : tie.Need-are-done-requires
+are-done-requires c κs = c .before .pre
 
-loop-less : tie.Need-loop-less Inv-loop μ-loop
-loop-less c = omega arith
-
-loop-again : tie.Need-loop-again Inv-loop μ-loop
-loop-again c =
-    let l = c .before .before .before .before .before in
-    let g = l .before in
-    let a = g .before .before .args in
-    let t = done (g .before .stack-count .result) (a .size) (a .passed .now) (a .waiting .now) in
-    let G = g .segment-count .result in
-    let f = c .before .is-done in (
-      l .loop .inv .0,
-      omega arith,
-      upto-on t G (l .loop .j) (all t (from 0 G)) (omega arith) (l .loop .inv .2)
-          (sym (f .ensures) ∙ not-false (f .result) (c .if1 .left)),
-    )
-
-returns-2 : tie.Need-returns-2 Inv-loop μ-loop
-returns-2 c =
-    let l = c .before in
-    let g = l .before in
-    let a = g .before .before .args in
-    let N = g .before .stack-count in
-    let G = g .segment-count in
-    let t = done (N .result) (a .size) (a .passed .now) (a .waiting .now) in
-    upto-end t (G .result) (l .loop .j) (all t (from 0 (G .result))) (omega arith) (l .loop .inv .2)
-    ∙ ready-is (a .kind) (a .n) (a .size) (a .passed .now) (a .waiting .now) (N .result) (G .result) (N .ensures) (G .ensures)
+returns-2 : tie.Need-returns-2
+returns-2 c = ready (c .before .before) (c .before .if1 .left) (c .are-done .ensures)
 
 pub is-ready-spec : {M : Type 1} → statement M
 is-ready-spec =
     tie.close
-    (tie.spec
-    Inv-loop
-    μ-loop
-    stack-count-requires
-    segment-count-requires
-    loop-holds
-    cast-is-done
-    mul-is-done
-    element-copy-out-is-done
-    cast-is-done-2
-    mul-is-done-2
-    element-copy-out-is-done-2
-    is-done-requires
-    returns
-    add-j
-    loop-less
-    loop-again
-    returns-2)
+    (tie.spec segment-count-of-requires are-swept-requires returns are-done-requires returns-2)

@@ -1,11 +1,11 @@
 -- `calls::close::with_phase` meets its contract.
 use mathlib.Core.Path.{refl}
-use Rattle.search.specs.JobState.{progressed}
+use Rattle.search.specs.JobState.{progressed, directed}
 use Rattle.calls.proofs.close.with_phase.Statement.{statement}
 use Rattle.calls.proofs.close.with_phase.Tie as tie
 
 returns : tie.Need-returns
-unfolding progressed
+unfolding progressed directed
 returns c = refl
 
 pub with-phase-spec : {M : Type 1} → statement M

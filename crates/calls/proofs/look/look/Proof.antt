@@ -31,11 +31,11 @@ standing-of-requires c κs = search needs
 
 look-refusal-requires : tie.Need-look-refusal-requires
 look-refusal-requires c κs =
-    record { job = c .before .before .before .before .before .before .before .args .t1; is = c .standing-of .ensures }
+    record { job = c .before .before .before .before .before .before .before .before .args .t1; is = c .standing-of .ensures }
 
 -- what the row has answered
-answered : (c : tie.After-look-refusal) → let a = c .before .before .before .before .before .before .before .before .args in c .look-refusal .result ≡ lookRefusal (a .t1) (a .j) (length (a .log .now))
-answered c = c .look-refusal .ensures (c .before .before .before .before .before .before .before .before .args .t1) (c .before .standing-of .ensures)
+answered : (c : tie.After-look-refusal) → let a = c .before .before .before .before .before .before .before .before .before .args in c .look-refusal .result ≡ lookRefusal (a .t1) (a .j) (length (a .log .now))
+answered c = c .look-refusal .ensures (c .before .before .before .before .before .before .before .before .before .args .t1) (c .before .standing-of .ensures)
 
 slice-aggregate-result : tie.Need-slice-aggregate-result
 slice-aggregate-result c = search needs
@@ -43,19 +43,19 @@ slice-aggregate-result c = search needs
 returns : tie.Need-returns
 returns c =
     let f = c .before .before in
-    let a = f .before .before .before .before .before .before .before .before .args in
+    let a = f .before .before .before .before .before .before .before .before .before .args in
     refused (a .t1) (a .j) (a .log .now) (f .look-refusal .result) (answered f) (c .before .if1 .taken)
 
 -- what was given where nothing is refused
-facts : (c : tie.Else1) → let a = c .before .before .before .before .before .before .before .before .before .args in CallFacts true (a .t1) (a .j) × (length (a .log .now) ≡ logLength (a .t1))
+facts : (c : tie.Else1) → let a = c .before .before .before .before .before .before .before .before .before .before .args in CallFacts true (a .t1) (a .j) × (length (a .log .now) ≡ logLength (a .t1))
 facts c =
-    let a = c .before .before .before .before .before .before .before .before .before .args in
+    let a = c .before .before .before .before .before .before .before .before .before .before .args in
     look-facts (a .t1) (a .j) (length (a .log .now)) (sym (answered (c .before)) ∙ c .if1 .left)
 
 waiting-part-requires : tie.Need-waiting-part-requires
 unfolding standingOf
 waiting-part-requires c κs =
-    let a = c .before .before .before .before .before .before .before .before .before .args in
+    let a = c .before .before .before .before .before .before .before .before .before .before .args in
     let f = facts c in (
       rw (c .before .before .standing-of .ensures, f .1) (part-within (a .t1) (f .0 .coherent) (a .j) (f .0 .inside)),
       rw (f .1) (area-small (a .t1) (f .0 .coherent)),
@@ -66,7 +66,7 @@ returns-2 c =
     let e = c .before in
     let f = e .before in
     let s = f .before .standing-of in
-    let a = f .before .before .before .before .before .before .before .before .args in
+    let a = f .before .before .before .before .before .before .before .before .before .args in
     accepted (a .t1) (a .j) (a .log .now) (f .look-refusal .result) (answered f) (c .waiting-part .result .now) (e .if1 .left)
     (c .waiting-part .ensures ∙ part-is (s .result) (a .j) (a .t1) (s .ensures) (a .log .now))
 

@@ -30,32 +30,32 @@ standing-of-requires c κs = search needs
 
 settle-refusal-requires : tie.Need-settle-refusal-requires
 settle-refusal-requires c κs =
-    record { job = c .before .before .before .before .before .before .before .before .args .job; is = c .standing-of .ensures }
+    record { job = c .before .before .before .before .before .before .before .before .before .args .job; is = c .standing-of .ensures }
 
 -- what the row has answered
-answered : (c : tie.After-settle-refusal) → let a = c .before .before .before .before .before .before .before .before .before .args in
+answered : (c : tie.After-settle-refusal) → let a = c .before .before .before .before .before .before .before .before .before .before .args in
     c .settle-refusal .result ≡ settleRefusal (a .job) (a .j) (length (a .segment .now)) (a .log .now)
-answered c = c .settle-refusal .ensures (c .before .before .before .before .before .before .before .before .before .args .job) (c .before .standing-of .ensures)
+answered c = c .settle-refusal .ensures (c .before .before .before .before .before .before .before .before .before .before .args .job) (c .before .standing-of .ensures)
 
 returns : tie.Need-returns
 returns c =
     let f = c .before in
-    let a = f .before .before .before .before .before .before .before .before .before .args in
+    let a = f .before .before .before .before .before .before .before .before .before .before .args in
     refused (a .job) (a .j) (a .segment .now) (a .log .now) (f .settle-refusal .result) (answered f) (c .if1 .taken)
 
 level-of-requires : tie.Need-level-of-requires
 level-of-requires c κs = search needs
 
 -- nothing is refused
-accepted : (c : tie.Else1) → let a = c .before .before .before .before .before .before .before .before .before .before .args in settleRefusal (a .job) (a .j) (length (a .segment .now)) (a .log .now) ≡ 0
+accepted : (c : tie.Else1) → let a = c .before .before .before .before .before .before .before .before .before .before .before .args in settleRefusal (a .job) (a .j) (length (a .segment .now)) (a .log .now) ≡ 0
 accepted c = sym (answered (c .before)) ∙ c .if1 .left
 
-given : (c : tie.Else1) → let a = c .before .before .before .before .before .before .before .before .before .before .args in LevelFacts (a .job) (a .j) (length (a .segment .now)) (length (a .log .now))
-given c = let a = c .before .before .before .before .before .before .before .before .before .before .args in settle-given (a .job) (a .j) (a .segment .now) (a .log .now) (accepted c)
+given : (c : tie.Else1) → let a = c .before .before .before .before .before .before .before .before .before .before .before .args in LevelFacts (a .job) (a .j) (length (a .segment .now)) (length (a .log .now))
+given c = let a = c .before .before .before .before .before .before .before .before .before .before .before .args in settle-given (a .job) (a .j) (a .segment .now) (a .log .now) (accepted c)
 
 sub-next-entry : tie.Need-sub-next-entry
 sub-next-entry c =
-    let a = c .before .before .before .before .before .before .before .before .before .before .before .args in
+    let a = c .before .before .before .before .before .before .before .before .before .before .before .before .args in
     level-some (a .job) (a .j) (a .segment .now) (a .log .now) (accepted (c .before)) (c .level-of .result) (c .level-of .ensures)
 
 next-entry-requires : tie.Need-next-entry-requires
@@ -65,7 +65,7 @@ waiting-part-requires : tie.Need-waiting-part-requires
 unfolding standingOf
 waiting-part-requires c κs =
     let e = c .before .before in
-    let a = e .before .before .before .before .before .before .before .before .before .before .args in
+    let a = e .before .before .before .before .before .before .before .before .before .before .before .args in
     let f = given e in (
       rw (e .before .before .standing-of .ensures, f .wide) (part-within (a .job) (f .called .coherent) (a .j) (f .called .inside)),
       rw (f .wide) (area-small (a .job) (f .called .coherent)),
@@ -81,11 +81,11 @@ element-copy-out-count : tie.Need-element-copy-out-count
 element-copy-out-count c = search needs
 
 -- what waits, as the definition has it
-waits : (c : tie.After-waiting-part) → let a = c .before .before .before .before .before .before .before .before .before .before .before .before .before .args in c .waiting-part .result .now ≡ pending (a .job) (a .j) (a .log .now)
+waits : (c : tie.After-waiting-part) → let a = c .before .before .before .before .before .before .before .before .before .before .before .before .before .before .args in c .waiting-part .result .now ≡ pending (a .job) (a .j) (a .log .now)
 waits c =
     let e = c .before .before .before in
     let s = e .before .before .standing-of in
-    let a = e .before .before .before .before .before .before .before .before .before .before .args in
+    let a = e .before .before .before .before .before .before .before .before .before .before .before .args in
     c .waiting-part .ensures ∙ part-is (s .result) (a .j) (a .job) (s .ensures) (a .log .now)
 
 mark-all-requires : tie.Need-mark-all-requires
@@ -95,7 +95,7 @@ mark-all-requires c κs =
     let n = w .before in
     let v = n .before in
     let e = v .before in
-    let a = e .before .before .before .before .before .before .before .before .before .before .args in
+    let a = e .before .before .before .before .before .before .before .before .before .before .before .args in
     offsets-fit (a .job) (a .j) (a .segment .now) (a .log .now) (accepted e) (w .waiting-part .result .now) (waits w) (n .next-entry .result)
     (record { count = getD (a .job .counts) (v .level-of .result) 0 })
     (v .level-of .result)
@@ -103,9 +103,9 @@ mark-all-requires c κs =
     refl
 
 -- segment j has its place among the waiting numbers
-place : (c : tie.Else1) → let a = c .before .before .before .before .before .before .before .before .before .before .args in a .j < segmentLimit
+place : (c : tie.Else1) → let a = c .before .before .before .before .before .before .before .before .before .before .before .args in a .j < segmentLimit
 place c =
-    let a = c .before .before .before .before .before .before .before .before .before .before .args in
+    let a = c .before .before .before .before .before .before .before .before .before .before .before .args in
     let f = given c .called in
     segment-below (a .job) (f .coherent) (a .j) (f .inside)
 
@@ -135,7 +135,7 @@ returns-2 c =
     let n = w .before in
     let v = n .before in
     let e = v .before in
-    let a = e .before .before .before .before .before .before .before .before .before .before .args in
+    let a = e .before .before .before .before .before .before .before .before .before .before .before .args in
     let job = a .job in
     let left : ℕ → Job = λ d. progressed job (job .phase) (job .passed) (set (job .waiting) (a .j) 0) (set (job .counts) d (m .mark-all .result .count)) in
     settled-is job (a .j) (a .segment .now) (a .log .now) (accepted e) (w .waiting-part .result .now) (waits w) (v .level-of .result) (n .next-entry .result)

@@ -5,7 +5,7 @@ use Prim.Native.Nat.{ℕ, _<_}
 use native.Mathlib.Omega.{arith}
 use borrow.Author.Needs.{needs}
 use lib.ListN.{length, set}
-use Rattle.job.proofs.Bounds.{coherent-sizes, level-least, segment-below}
+use Rattle.job.proofs.Bounds.{coherent-sizes, forward-least, segment-below}
 use Rattle.job.proofs.Standings.{passed-is}
 use Rattle.search.specs.Expand.{expandRefusal, expandedJob}
 use Rattle.search.specs.JobState.{progressed}
@@ -21,26 +21,26 @@ standing-of-requires c κs = search needs
 
 expand-refusal-requires : tie.Need-expand-refusal-requires
 expand-refusal-requires c κs =
-    record { job = c .before .before .before .before .before .before .before .before .args .job; is = c .standing-of .ensures }
+    record { job = c .before .before .before .before .before .before .before .before .before .args .job; is = c .standing-of .ensures }
 
 -- what the row has answered
-answered : (c : tie.After-expand-refusal) → let a = c .before .before .before .before .before .before .before .before .before .args in
+answered : (c : tie.After-expand-refusal) → let a = c .before .before .before .before .before .before .before .before .before .before .args in
     c .expand-refusal .result ≡ expandRefusal (a .job) (a .j) (length (a .segment .now)) (length (a .log .now))
-answered c = c .expand-refusal .ensures (c .before .before .before .before .before .before .before .before .before .args .job) (c .before .standing-of .ensures)
+answered c = c .expand-refusal .ensures (c .before .before .before .before .before .before .before .before .before .before .args .job) (c .before .standing-of .ensures)
 
-accepted : (c : tie.Else1) → let a = c .before .before .before .before .before .before .before .before .before .before .args in expandRefusal (a .job) (a .j) (length (a .segment .now)) (length (a .log .now)) ≡ 0
+accepted : (c : tie.Else1) → let a = c .before .before .before .before .before .before .before .before .before .before .before .args in expandRefusal (a .job) (a .j) (length (a .segment .now)) (length (a .log .now)) ≡ 0
 accepted c = sym (answered (c .before)) ∙ c .if1 .left
 
 -- what an accepted call was given
-given : (c : tie.Else1) → let a = c .before .before .before .before .before .before .before .before .before .before .args in LevelFacts (a .job) (a .j) (length (a .segment .now)) (length (a .log .now))
+given : (c : tie.Else1) → let a = c .before .before .before .before .before .before .before .before .before .before .before .args in LevelFacts (a .job) (a .j) (length (a .segment .now)) (length (a .log .now))
 given c =
-    let a = c .before .before .before .before .before .before .before .before .before .before .args in
+    let a = c .before .before .before .before .before .before .before .before .before .before .before .args in
     call-facts (a .job) (a .j) (a .segment .now) (a .log .now) (accepted c)
 
 returns : tie.Need-returns
 returns c =
     let f = c .before in
-    let a = f .before .before .before .before .before .before .before .before .before .args in
+    let a = f .before .before .before .before .before .before .before .before .before .before .args in
     ap (λ (n : ℕ). (a .segment .now, a .log .now, record { refusal = n; waits = false; on = 0; job = a .job })) (answered f)
     ∙ sym (expand-refused (a .job) (a .j) (a .segment .now) (a .log .now) (λ e. c .if1 .taken (answered f ∙ e)))
 
@@ -50,14 +50,14 @@ level-of-requires c κs = search needs
 scan-of-requires : tie.Need-scan-of-requires
 scan-of-requires c κs =
     let ok = c .before in
-    let job = ok .before .before .before .before .before .before .before .before .before .before .args .job in
+    let job = ok .before .before .before .before .before .before .before .before .before .before .before .args .job in
     let g = given ok .called in
-    let sizes = coherent-sizes job (g .coherent) in (sizes .0, sizes .1, rw (c .level-of .ensures) (level-least job (g .coherent) (g .in-phase)))
+    let sizes = coherent-sizes job (g .coherent) in (sizes .0, sizes .1, rw (c .level-of .ensures) (forward-least job (g .coherent) (g .in-phase)))
 
 stack-count-at-requires : tie.Need-stack-count-at-requires
 stack-count-at-requires c κs =
     let ok = c .before .before in
-    coherent-sizes (ok .before .before .before .before .before .before .before .before .before .before .args .job) (given ok .called .coherent) .0
+    coherent-sizes (ok .before .before .before .before .before .before .before .before .before .before .before .args .job) (given ok .called .coherent) .0
 
 cast-count : tie.Need-cast-count
 cast-count c = search needs
@@ -75,17 +75,17 @@ expand-run-requires c κs =
     let leveled = scanned .before in
     let ok = leveled .before in
     let stood = ok .before .before .standing-of in
-    let s = ok .before .before .before .before .before .before .before .before .before .before in
+    let s = ok .before .before .before .before .before .before .before .before .before .before .before in
     let a = s .args in
     run-given (a .job) (a .j) (a .segment .now) (a .log .now) (accepted ok) (leveled .level-of .ensures) (scanned .scan-of .ensures)
     (counted .stack-count-at .ensures)
     (passed-is (stood .result) (a .j) (a .job) (stood .ensures))
-    (search (needs, s .good .0 .1 .1 .1 .1 .1 .1 .1 .1 .1 .1 .0))
+    (search (needs, s .good .0 .1 .1 .1 .1 .1 .1 .1 .1 .1 .1 .1 .1 .0))
 
 -- segment j has its place among the passed numbers
-place : (c : tie.Else1) → let a = c .before .before .before .before .before .before .before .before .before .before .args in a .j < segmentLimit
+place : (c : tie.Else1) → let a = c .before .before .before .before .before .before .before .before .before .before .before .args in a .j < segmentLimit
 place c =
-    let a = c .before .before .before .before .before .before .before .before .before .before .args in
+    let a = c .before .before .before .before .before .before .before .before .before .before .before .args in
     let f = given c .called in
     segment-below (a .job) (f .coherent) (a .j) (f .inside)
 
@@ -119,7 +119,7 @@ returns-2 c =
     let leveled = scanned .before in
     let ok = leveled .before in
     let stood = ok .before .before .standing-of in
-    let a = ok .before .before .before .before .before .before .before .before .before .before .args in
+    let a = ok .before .before .before .before .before .before .before .before .before .before .before .args in
     let job = a .job in
     let reached = ran .expand-run .result in
     let waiting = ran .expand-run .last .1 .1 .1 .1 .1 .1 .0 in

@@ -13,9 +13,12 @@ same-length c = search needs
 same-length-2 : tie.Need-same-length-2
 same-length-2 c = search needs
 
+same-length-3 : tie.Need-same-length-3
+same-length-3 c = search needs
+
 returns : tie.Need-returns
 unfolding buildCall
-returns c = c .before .before .before .before .hokrund-build-table .ensures
+returns c = c .before .before .before .before .before .before .hokrund-build-table .ensures
 
 pub build-table-spec : {M : Type 1} → statement M
-build-table-spec = tie.close (tie.spec hokrund-build-table-requires same-length same-length-2 returns)
+build-table-spec = tie.close (tie.spec hokrund-build-table-requires same-length same-length-2 same-length-3 returns)

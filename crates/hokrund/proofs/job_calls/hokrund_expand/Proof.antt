@@ -9,13 +9,13 @@ use borrow.Author.Needs.{needs}
 use Rattle.hokrund.proofs.job_calls.hokrund_expand.Statement.{statement}
 use Rattle.hokrund.proofs.job_calls.hokrund_expand.Tie as tie
 
-has-phase-requires : tie.Need-has-phase-requires
-has-phase-requires c κs = search needs
+is-job-requires : tie.Need-is-job-requires
+is-job-requires c κs = search needs
 
 returns : tie.Need-returns
 unfolding expandCall
 returns c =
-    let f = c .before .has-phase in rw (sym (f .ensures) ∙ not-true (f .result) (c .if1 .taken)) refl
+    let f = c .before .is-job in rw (sym (f .ensures) ∙ not-true (f .result) (c .if1 .taken)) refl
 
 job-of-requires : tie.Need-job-of-requires
 job-of-requires c κs = search needs
@@ -37,7 +37,7 @@ unfolding expandCall expandedOf
 returns-2 c =
     let op = c .before .before .before .before .before in
     let made = op .before .before .before in
-    let f = made .before .before .has-phase in
+    let f = made .before .before .is-job in
     let a = made .before .before .before .before .before .args in
     let out = expandOf (made .job-of .result) (a .j) (a .segment .now) (a .log .now) in
     rw (sym (f .ensures) ∙ not-false (f .result) (made .before .if1 .left))
@@ -47,7 +47,7 @@ pub hokrund-expand-spec : {M : Type 1} → statement M
 hokrund-expand-spec =
     tie.close
     (tie.spec
-    has-phase-requires
+    is-job-requires
     returns
     job-of-requires
     expand-requires

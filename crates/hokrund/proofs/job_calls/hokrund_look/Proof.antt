@@ -16,13 +16,13 @@ use Rattle.hokrund.proofs.job_calls.hokrund_look.Tie as tie
 product-below : (a b : ℕ) → a < 2 ^ 32 → b < 2 ^ 32 → a * b < 2 ^ 64
 product-below a b h k = omega (arith, mul-le-mul {n₁ = a} {m₁ = b} {n₂ = 4294967295} {m₂ = 4294967295} (omega arith) (omega arith))
 
-has-phase-requires : tie.Need-has-phase-requires
-has-phase-requires c κs = search needs
+is-job-requires : tie.Need-is-job-requires
+is-job-requires c κs = search needs
 
 returns : tie.Need-returns
 unfolding lookCall
 returns c =
-    let f = c .before .has-phase in rw (sym (f .ensures) ∙ not-true (f .result) (c .if1 .taken)) refl
+    let f = c .before .is-job in rw (sym (f .ensures) ∙ not-true (f .result) (c .if1 .taken)) refl
 
 job-of-requires : tie.Need-job-of-requires
 job-of-requires c κs = search needs
@@ -35,7 +35,7 @@ unfolding lookCall jobOf
 returns-2 c =
     let op = c .before in
     let made = op .before .before in
-    let f = made .before .before .has-phase in
+    let f = made .before .before .is-job in
     let a = made .before .before .before .before .args in
     rw (sym (f .ensures) ∙ not-false (f .result) (made .before .if1 .left))
     (not-looked (jobOf (a .job)) (a .j) (a .log .now) _ _ (op .look .ensures ∙ ap (λ (job : Job). lookOf job (a .j) (a .log .now)) (made .job-of .ensures)) (c .if2 .taken))
@@ -51,7 +51,7 @@ unfolding lookCall jobOf
 returns-3 c =
     let op = c .before .before in
     let made = op .before .before in
-    let f = made .before .before .has-phase in
+    let f = made .before .before .is-job in
     let a = made .before .before .before .before .args in
     rw (sym (f .ensures) ∙ not-false (f .result) (made .before .if1 .left))
     (looked (jobOf (a .job)) (a .j) (a .log .now) _ _ (op .look .ensures ∙ ap (λ (job : Job). lookOf job (a .j) (a .log .now)) (made .job-of .ensures)) (c .before .if2 .left))
@@ -60,7 +60,7 @@ pub hokrund-look-spec : {M : Type 1} → statement M
 hokrund-look-spec =
     tie.close
     (tie.spec
-    has-phase-requires
+    is-job-requires
     returns
     job-of-requires
     look-requires

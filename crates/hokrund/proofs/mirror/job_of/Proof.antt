@@ -8,9 +8,12 @@ use Rattle.hokrund.proofs.mirror.job_of.Tie as tie
 phase-of-requires : tie.Need-phase-of-requires
 phase-of-requires c κs = search needs
 
+way-of-requires : tie.Need-way-of-requires
+way-of-requires c κs = search needs
+
 returns : tie.Need-returns
 unfolding jobOf
-returns c = rw (c .phase-of .ensures) refl
+returns c = rw (c .before .phase-of .ensures) (rw (c .way-of .ensures) refl)
 
 pub job-of-spec : {M : Type 1} → statement M
-job-of-spec = tie.close (tie.spec phase-of-requires returns)
+job-of-spec = tie.close (tie.spec phase-of-requires way-of-requires returns)

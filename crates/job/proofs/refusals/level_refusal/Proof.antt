@@ -6,13 +6,13 @@ use borrow.Author.Tests.{eq-eqb, ne-eqb}
 use Prim.Native.Nat.{ℕ}
 use lib.Dec.{eqb}
 use Rattle.base.specs.Words.{unless}
-use Rattle.search.specs.JobState.{isLevel, logLength}
+use Rattle.search.specs.JobState.{inForward, logLength}
 use Rattle.search.specs.Refusals.{segmentRefusal, levelRefusal}
 use Rattle.search.specs.declared.Job.{Job}
 use Rattle.search.proofs.Accepted.{segment-facts}
 use Rattle.job.specs.Standing.{standingOf}
 use Rattle.job.proofs.Rows.{segment-refuses, segment-on}
-use Rattle.job.proofs.Standings.{phase-is, area-is, stands-sizes}
+use Rattle.job.proofs.Standings.{forward-is, area-is, stands-sizes}
 use Rattle.job.proofs.refusals.level_refusal.Statement.{statement}
 use Rattle.job.proofs.refusals.level_refusal.Tie as tie
 
@@ -20,33 +20,33 @@ use Rattle.job.proofs.refusals.level_refusal.Tie as tie
 abbrev rest : Job → ℕ → ℕ
 rest job words = unless (eqb words (logLength job)) 10 0
 
-is-level-requires : tie.Need-is-level-requires
-is-level-requires c κs = search needs
+in-forward-requires : tie.Need-in-forward-requires
+in-forward-requires c κs = search needs
 
 segment-refusal-requires : tie.Need-segment-refusal-requires
 segment-refusal-requires c κs = c .before .pre
 
 -- what the row above has answered
 answered : (c : tie.After-segment-refusal) (job : Job) → let a = c .before .before .args in
-    a .standing ≡ standingOf job (a .j) → c .segment-refusal .result ≡ segmentRefusal (isLevel (job .phase)) job (a .j) (a .bytes) 0
+    a .standing ≡ standingOf job (a .j) → c .segment-refusal .result ≡ segmentRefusal (inForward job) job (a .j) (a .bytes) 0
 answered c job e =
     let a = c .before .before .args in
     c .segment-refusal .ensures job e
-    ∙ ap (λ (p : Bool). segmentRefusal p job (a .j) (a .bytes) 0) (c .before .is-level .ensures ∙ ap isLevel (phase-is (a .standing) (a .j) job e))
+    ∙ ap (λ (p : Bool). segmentRefusal p job (a .j) (a .bytes) 0) (c .before .in-forward .ensures ∙ forward-is (a .standing) (a .j) job e)
 
 returns : tie.Need-returns
 unfolding levelRefusal
 returns c job e =
     let s = c .before in
     let a = s .before .before .args in
-    segment-refuses (isLevel (job .phase)) job (a .j) (rest job (a .words)) (s .segment-refusal .result) (a .bytes) (answered s job e) (c .if1 .taken)
+    segment-refuses (inForward job) job (a .j) (rest job (a .words)) (s .segment-refusal .result) (a .bytes) (answered s job e) (c .if1 .taken)
 
 log-length-requires : tie.Need-log-length-requires
 log-length-requires c κs =
     let s = c .before .before .before in
     let a = s .args in
     let of = s .pre in
-    let f = segment-facts (isLevel (of .job .phase)) (of .job) (a .j) (a .bytes) 0 (sym (answered (c .before) (of .job) (of .is)) ∙ c .if1 .left) .0 in
+    let f = segment-facts (inForward (of .job)) (of .job) (a .j) (a .bytes) 0 (sym (answered (c .before) (of .job) (of .is)) ∙ c .if1 .left) .0 in
     let b = stands-sizes (a .standing) (a .j) of (f .coherent) in (b .is-pane-count, b .is-size, b .is-room)
 
 -- the row goes on, and the test of the length decides
@@ -58,7 +58,7 @@ decides c job e =
     let s = ok .before in
     let a = s .before .before .args in
     ap (λ (m : ℕ). unless (eqb (a .words) m) 10 0) (c .log-length .ensures ∙ area-is (a .standing) (a .j) job e)
-    ∙ segment-on (isLevel (job .phase)) job (a .j) (rest job (a .words)) (s .segment-refusal .result) (a .bytes) (answered s job e) (ok .if1 .left)
+    ∙ segment-on (inForward job) job (a .j) (rest job (a .words)) (s .segment-refusal .result) (a .bytes) (answered s job e) (ok .if1 .left)
 
 returns-2 : tie.Need-returns-2
 returns-2 c job e =
@@ -73,4 +73,4 @@ returns-3 c job e =
 pub level-refusal-spec : {M : Type 1} → statement M
 level-refusal-spec =
     tie.close
-    (tie.spec is-level-requires segment-refusal-requires returns log-length-requires returns-2 returns-3)
+    (tie.spec in-forward-requires segment-refusal-requires returns log-length-requires returns-2 returns-3)

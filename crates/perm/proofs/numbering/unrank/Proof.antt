@@ -7,10 +7,11 @@ use mathlib.Core.List.{List}
 use mir.Syntax.{w8}
 use mir.Val.{toZ, ofZ}
 use lib.Pow.{pow-pos}
+use Rattle.base.proofs.Bits.{bit-le}
 use Rattle.base.proofs.Numbers.{fact-pos}
 use Rattle.stacks.specs.Index.{stackAt}
 use Rattle.stacks.proofs.KindLaws.{panes-twelve, coatings-pos}
-use Rattle.perm.proofs.Sets.{pow-twelve, shifted, bit-le}
+use Rattle.perm.proofs.Sets.{pow-twelve, shifted}
 use Rattle.perm.proofs.Signed.{pane-back}
 use Rattle.perm.proofs.Unranking.{Unranked, unranked-start, unranked-ones, unranked-step, unranked-end}
 use Rattle.perm.proofs.numbering.unrank.Statement.{statement}

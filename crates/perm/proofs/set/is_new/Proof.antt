@@ -2,7 +2,7 @@
 use Prim.Native.Nat.{_-_}
 use borrow.Author.Needs.{needs}
 use borrow.Author.Tests.{lt-leb, le-leb}
-use Rattle.perm.proofs.Sets.{bit-is}
+use Rattle.base.proofs.Bits.{bit-is}
 use Rattle.perm.proofs.set.is_new.Statement.{statement}
 use Rattle.perm.proofs.set.is_new.Tie as tie
 

@@ -6,7 +6,8 @@ use native.Mathlib.Omega.{arith}
 use lib.Count.{ones, ones-le}
 use lib.Pow.{pow-pos}
 use Rattle.perm.specs.Set.{NthOne}
-use Rattle.perm.proofs.Sets.{ones-up, bit-le-one}
+use Rattle.base.proofs.Bits.{bit-le-one}
+use Rattle.perm.proofs.Sets.{ones-up}
 use Rattle.perm.proofs.set.nth_one.Statement.{statement}
 use Rattle.perm.proofs.set.nth_one.Tie as tie
 

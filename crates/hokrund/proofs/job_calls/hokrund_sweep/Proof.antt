@@ -1,0 +1,53 @@
+-- `hokrund::job_calls::hokrund_sweep` meets its contract: refused 7, or the outcome of the operation, its answer converted.
+use mathlib.Core.Path.{refl, sym, _∙_}
+use borrow.Author.Tests.{not-true, not-false}
+use Rattle.search.specs.Sweep.{sweepOf}
+use Rattle.hokrund.specs.Mirror.{answerOf}
+use Rattle.hokrund.specs.Calls.{sweepCall}
+use Rattle.hokrund.proofs.Wrapped.{converted}
+use borrow.Author.Needs.{needs}
+use Rattle.hokrund.proofs.job_calls.hokrund_sweep.Statement.{statement}
+use Rattle.hokrund.proofs.job_calls.hokrund_sweep.Tie as tie
+
+is-job-requires : tie.Need-is-job-requires
+is-job-requires c κs = search needs
+
+returns : tie.Need-returns
+unfolding sweepCall
+returns c =
+    let f = c .before .is-job in rw (sym (f .ensures) ∙ not-true (f .result) (c .if1 .taken)) refl
+
+job-of-requires : tie.Need-job-of-requires
+job-of-requires c κs = search needs
+
+sweep-requires : tie.Need-sweep-requires
+sweep-requires c κs = search needs
+
+answer-of-requires : tie.Need-answer-of-requires
+answer-of-requires c κs = search needs
+
+same-length : tie.Need-same-length
+same-length c = search needs
+
+returns-2 : tie.Need-returns-2
+unfolding sweepCall
+returns-2 c =
+    let op = c .before .before .before in
+    let made = op .before .before in
+    let f = made .before .before .is-job in
+    let a = made .before .before .before .before .before .args in
+    let out = sweepOf (made .job-of .result) (a .j) (a .segment .now) (a .list .now) in
+    rw (sym (f .ensures) ∙ not-false (f .result) (made .before .if1 .left))
+    (rw (sym (made .job-of .ensures)) (converted answerOf _ _ _ out (op .sweep .ensures) (c .answer-of .ensures)))
+
+pub hokrund-sweep-spec : {M : Type 1} → statement M
+hokrund-sweep-spec =
+    tie.close
+    (tie.spec
+    is-job-requires
+    returns
+    job-of-requires
+    sweep-requires
+    answer-of-requires
+    same-length
+    returns-2)

@@ -1,0 +1,145 @@
+-- What Sweep's refusals ask of a standing, and what an accepted Sweep was given and leaves.
+use mathlib.Core.Path.{_≡_, refl, sym, ap, _∙_, subst}
+use mathlib.Core.Bool.{Bool, true, _&&_, cond}
+use mathlib.Core.List.{List}
+use Prim.Native.Nat.{ℕ, _+_, _-_, _*_, _%_, _^_, _<_, _≤_}
+use native.Mathlib.Omega.{arith}
+use borrow.Author.Tests.{lt-ltb}
+use lib.Dec.{eqb}
+use lib.ListN.{length, getD, set}
+use lib.Pow.{pow-mono, shl-exact}
+use Rattle.base.proofs.Bits.{put-lt}
+use Rattle.stacks.specs.Stack.{isPaneCount, stackCount}
+use Rattle.search.specs.Changed.{listBytes}
+use Rattle.search.specs.Entries.{bytesFor, nextEntry}
+use Rattle.search.specs.JobState.{countLimit, sweptOf, levelOf, countOf, stackCountOf, segmentCountOf, stackCountAt, progressed, directed}
+use Rattle.search.specs.Logs.{indexesOf}
+use Rattle.search.specs.Marks.{Marks, markAll}
+use Rattle.search.specs.Segments.{segmentLimit, stackCountIn}
+use Rattle.search.specs.Sweep.{sweepRefusal, isReached, reachedIn, withPair, sweepOf}
+use Rattle.search.specs.declared.Answer.{Answer}
+use Rattle.search.specs.declared.Job.{Job}
+use Rattle.search.proofs.Accepted.{SweepFacts, sweep-facts, sweep-accepted}
+use Rattle.search.proofs.Coherence.{begin-given, coherent-facts}
+use Rattle.search.proofs.EntryLaws.{next-lt, next-level}
+use Rattle.search.proofs.PairLaws as PairLaws
+use Rattle.search.proofs.PairLaws.{unswept-bit}
+use Rattle.search.proofs.SegmentLaws.{segment-starts, stackCountIn-le}
+use Rattle.twobit.specs.Mark.{marksOf}
+use Rattle.twobit.specs.declared.marking.Found.{Found}
+use Rattle.twobit.proofs.LeafMarks.{marks-level}
+use Rattle.job.specs.Standing.{standingOf}
+use Rattle.job.specs.declared.standing.Standing.{Standing}
+use Rattle.job.proofs.Bounds.{Bounds, coherent-bounds, segment-below, reverse-least}
+use Rattle.sweep.specs.Reach.{RunFits, Sweeps}
+use Rattle.sweep.specs.declared.run.Pair.{Pair}
+
+-- the lengths that a job of this standing asks for
+pub lengths-are : (s : Standing) (j bytes listed : ℕ) (job : Job) → s ≡ standingOf job j
+    → (let N = stackCount (s .kind) (s .n) in
+    (eqb bytes (bytesFor (stackCountIn N (s .size) j)) && eqb listed (listBytes (stackCountIn N (s .size) (s .loaded))))
+    ≡ (eqb bytes (bytesFor (stackCountAt job j)) && eqb listed (listBytes (stackCountAt job (job .loaded)))))
+unfolding standingOf stackCountAt stackCountOf
+lengths-are s j bytes listed job e =
+    ap (λ (x : Standing). eqb bytes (bytesFor (stackCountIn (stackCount (x .kind) (x .n)) (x .size) j))
+    && eqb listed (listBytes (stackCountIn (stackCount (x .kind) (x .n)) (x .size) (x .loaded)))) e
+
+-- ---- an accepted Sweep
+
+-- what a call on segment j copies from the job, with its loaded segment and its level's entry
+abbrev pairOf : Job → ℕ → ℕ → ℕ → Pair
+pairOf job j loaded mark =
+    record {
+      kind = job .kind;
+      n = job .n;
+      groups = job .groups;
+      size = job .size;
+      j = j;
+      b = loaded;
+      mark = mark;
+    }
+
+module _ (job : Job) (j : ℕ) (segment list : List ℕ) (accepted : sweepRefusal job j (length segment) (length list) ≡ 0) where
+  given : SweepFacts job j (length segment) (length list)
+  given = sweep-facts job j (length segment) (length list) accepted
+
+  bounds : Bounds job
+  bounds = coherent-bounds job (given .called .coherent)
+
+  pub sweep-panes : isPaneCount (job .kind) (job .n) ≡ true
+  sweep-panes = bounds .is-pane-count
+
+  pub sweep-below : j < segmentLimit
+  sweep-below = segment-below job (given .called .coherent) j (given .called .inside)
+
+  loaded-inside : job .loaded < segmentCountOf job
+  loaded-inside = PairLaws.loaded-below job (coherent-facts job (given .called .coherent) .loaded-fits) (given .loaded)
+
+  pub loaded-within : job .loaded < segmentLimit
+  loaded-within = segment-below job (given .called .coherent) (job .loaded) loaded-inside
+
+  shifted : 1 * 2 ^ j % 2 ^ 64 ≡ 2 ^ j
+  shifted = shl-exact {a = 1} 1 j 64 (omega arith) (omega (arith, sweep-below)) ∙ (let e : 1 * 2 ^ j ≡ 2 ^ j = omega arith in e)
+
+  -- the loaded segment's number has room for the pair's bit
+  pub pair-fits : (row : ℕ) → row ≡ sweptOf job (job .loaded) → row + 1 * 2 ^ j % 2 ^ 64 < 2 ^ 64
+  pair-fits row e =
+      let G = segmentCountOf job in
+      let low : sweptOf job (job .loaded) < 2 ^ G =
+      subst (λ (t : Bool). sweptOf job (job .loaded) < cond t (2 ^ G) 1) (lt-ltb (job .loaded) G loaded-inside)
+      (coherent-facts job (given .called .coherent) .swept-fits (job .loaded) loaded-within) in
+      rw (e, shifted)
+      (omega (arith, put-lt G (sweptOf job (job .loaded)) j (given .called .inside) low (unswept-bit job (job .loaded) j (given .left)), pow-mono {i = G} {j = 64} (bounds .few)))
+
+  pub level-some : (level : ℕ) → level ≡ levelOf (job .phase) → 1 ≤ level
+  level-some level l = rw l (reverse-least job (given .called .coherent) (given .called .in-phase))
+
+  -- the values as the code has them
+  module _ (loaded level mark stacks : ℕ) (b : loaded ≡ job .loaded) (l : level ≡ levelOf (job .phase)) (k : mark ≡ nextEntry ((level - 1) % 3))
+      (m : stacks ≡ stackCountIn (stackCount (job .kind) (job .n)) (job .size) j) where
+    pub run-fits : RunFits (pairOf job j loaded mark) stacks (record { count = getD (job .counts) level 0 }) segment list
+    unfolding countLimit stackCountAt stackCountOf segmentCountOf countOf
+    run-fits =
+        let f = given in
+        let N = stackCountOf job in
+        let coherent = coherent-facts job (f .called .coherent) in
+        record {
+          is-pane-count = sweep-panes;
+          set-fits = begin-given (job .kind) (job .n) (job .wanted) (job .groups) (job .size) (job .room) (coherent .begins) .of-set;
+          some = bounds .some;
+          listed = rw b (f .wide);
+          starts = segment-starts N (job .size) (bounds .some) j (f .called .inside);
+          all = m;
+          bytes = rw m (f .long);
+          label = omega (arith, k, next-lt ((level - 1) % 3));
+          few = omega (arith, m, coherent .counts-fit level, bounds .small, stackCountIn-le N (job .size) (bounds .some) j);
+        }
+
+    -- what the code leaves is what the definition says
+    pub sweep-is : (row : ℕ) → row ≡ sweptOf job (job .loaded) → (marked : Found) (after : List ℕ)
+        → Sweeps (pairOf job j loaded mark) stacks list (marksOf segment (record { count = getD (job .counts) level 0 })) (marksOf after marked)
+        → _≡_ {A = List ℕ × Answer} (
+          after,
+          record {
+            refusal = 0;
+            job = directed
+                (progressed job (job .phase) (job .passed) (job .waiting) (set (job .counts) level (marked .count)))
+                (job .way)
+                (job .loaded)
+                (set (job .swept) loaded (row + 1 * 2 ^ j % 2 ^ 64));
+          },
+        )
+        (sweepOf job j segment list)
+    unfolding reachedIn isReached withPair countOf stackCountAt stackCountOf
+    sweep-is row r marked after swept =
+        let S = job .size in
+        let left : ℕ → ℕ → ℕ → Marks → Job = λ d at put x. directed
+        (progressed job (job .phase) (job .passed) (job .waiting) (set (job .counts) d (x .count))) (job .way) (job .loaded) (set (job .swept) at put) in
+        let d = levelOf (job .phase) in
+        let stacks′ : List ℕ = indexesOf S j (reachedIn job j list) in
+        let start : Marks = record { segment = segment; count = countOf job d } in
+        let marks : marksOf after marked ≡ markAll S d stacks′ start =
+        rw (b, k ∙ next-level level (level-some level l), l, m) at swept ∙ marks-level S d stacks′ start in
+        ap (λ (x : Job). (after, record { refusal = 0; job = x })) (rw (l, b, r, shifted) refl)
+        ∙ ap (λ (x : Marks). (x .segment, record { refusal = 0; job = left d (job .loaded) (sweptOf job (job .loaded) + 2 ^ j) x })) marks
+        ∙ sym (sweep-accepted job j segment list accepted)

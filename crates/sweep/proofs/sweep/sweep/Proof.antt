@@ -1,0 +1,167 @@
+-- `sweep::sweep::sweep` meets its contract: the refusal's number and nothing changed, or the marked segment, and the pair noted.
+use mathlib.Core.Path.{_≡_, sym, ap, _∙_}
+use mathlib.Core.List.{List}
+use Prim.Native.Nat.{ℕ}
+use borrow.Author.Needs.{needs}
+use lib.ListN.{length}
+use Rattle.search.specs.JobState.{progressed, directed}
+use Rattle.search.specs.Sweep.{sweepRefusal, sweepOf}
+use Rattle.search.specs.declared.Answer.{Answer}
+use Rattle.search.specs.declared.Job.{Job}
+use Rattle.search.proofs.Accepted.{sweep-refused}
+use Rattle.job.proofs.Standings.{loaded-is, swept-is}
+use Rattle.sweep.proofs.Sweeping.{sweep-panes, sweep-below, loaded-within, level-some, pair-fits, run-fits, sweep-is}
+use Rattle.sweep.proofs.sweep.sweep.Statement.{statement}
+use Rattle.sweep.proofs.sweep.sweep.Tie as tie
+
+refused : (job : Job) (j : ℕ) (segment list : List ℕ) (r : ℕ) → r ≡ sweepRefusal job j (length segment) (length list) → (r ≡ 0 → ⊥)
+    → _≡_ {A = List ℕ × Answer} (segment, record { refusal = r; job = job }) (sweepOf job j segment list)
+refused job j segment list r e h =
+    ap (λ (q : ℕ). (segment, record { refusal = q; job = job })) e ∙ sym (sweep-refused job j segment list (λ z. h (e ∙ z)))
+
+standing-of-requires : tie.Need-standing-of-requires
+standing-of-requires c κs = search needs
+
+sweep-refusal-requires : tie.Need-sweep-refusal-requires
+sweep-refusal-requires c κs = record { job = c .before .before .before .before .before .before .before .before .before .args .job; is = c .standing-of .ensures }
+
+-- what the row has answered
+answered : (c : tie.After-sweep-refusal) → let a = c .before .before .before .before .before .before .before .before .before .before .args in
+    c .sweep-refusal .result ≡ sweepRefusal (a .job) (a .j) (length (a .segment .now)) (length (a .list .now))
+answered c = c .sweep-refusal .ensures (c .before .before .before .before .before .before .before .before .before .before .args .job) (c .before .standing-of .ensures)
+
+returns : tie.Need-returns
+returns c =
+    let f = c .before in
+    let a = f .before .before .before .before .before .before .before .before .before .before .args in
+    refused (a .job) (a .j) (a .segment .now) (a .list .now) (f .sweep-refusal .result) (answered f) (c .if1 .taken)
+
+-- nothing is refused
+accepted : (c : tie.Else1) → let a = c .before .before .before .before .before .before .before .before .before .before .before .args in sweepRefusal (a .job) (a .j) (length (a .segment .now)) (length (a .list .now)) ≡ 0
+accepted c = sym (answered (c .before)) ∙ c .if1 .left
+
+level-of-requires : tie.Need-level-of-requires
+level-of-requires c κs = search needs
+
+cast-b : tie.Need-cast-b
+cast-b c = search needs
+
+sub-next-entry : tie.Need-sub-next-entry
+sub-next-entry c =
+    let e = c .before .before in
+    let a = e .before .before .before .before .before .before .before .before .before .before .before .args in
+    level-some (a .job) (a .j) (a .segment .now) (a .list .now) (accepted e) (c .before .level-of .result) (c .before .level-of .ensures)
+
+next-entry-requires : tie.Need-next-entry-requires
+next-entry-requires c κs = search needs
+
+stack-count-at-requires : tie.Need-stack-count-at-requires
+stack-count-at-requires c κs =
+    let e = c .before .before .before in
+    let a = e .before .before .before .before .before .before .before .before .before .before .before .args in
+    sweep-panes (a .job) (a .j) (a .segment .now) (a .list .now) (accepted e)
+
+cast-count : tie.Need-cast-count
+cast-count c = search needs
+
+mul-count : tie.Need-mul-count
+mul-count c = search needs
+
+element-copy-out-count : tie.Need-element-copy-out-count
+element-copy-out-count c = search needs
+
+sweep-run-requires : tie.Need-sweep-run-requires
+sweep-run-requires c κs =
+    let v = c .before .before .before .before .before in
+    let e = v .before in
+    let a = e .before .before .before .before .before .before .before .before .before .before .before .args in
+    let s = e .before .before .standing-of in
+    run-fits (a .job) (a .j) (a .segment .now) (a .list .now) (accepted e) (s .result .loaded) (v .level-of .result) (c .before .before .before .next-entry .result) (c .before .before .stack-count-at .result)
+    (loaded-is (s .result) (a .j) (a .job) (s .ensures)) (v .level-of .ensures) (c .before .before .before .next-entry .ensures) (c .before .before .stack-count-at .ensures)
+
+shl-next : tie.Need-shl-next
+shl-next c =
+    let e = c .before .before .before .before .before .before .before .before .before in
+    let a = e .before .before .before .before .before .before .before .before .before .before .before .args in
+    sweep-below (a .job) (a .j) (a .segment .now) (a .list .now) (accepted e)
+
+add-next : tie.Need-add-next
+add-next c =
+    let e = c .before .before .before .before .before .before .before .before .before .before in
+    let a = e .before .before .before .before .before .before .before .before .before .before .before .args in
+    let s = e .before .before .standing-of in
+    record { fits = pair-fits (a .job) (a .j) (a .segment .now) (a .list .now) (accepted e) (s .result .swept) (swept-is (s .result) (a .j) (a .job) (s .ensures)) }
+
+cast-next : tie.Need-cast-next
+cast-next c = search needs
+
+mul-next : tie.Need-mul-next
+mul-next c = search needs
+
+element-write-next : tie.Need-element-write-next
+element-write-next c =
+    let e = c .before .before .before .before .before .before .before .before .before .before in
+    let a = e .before .before .before .before .before .before .before .before .before .before .before .args in
+    let s = e .before .before .standing-of in
+    rw (loaded-is (s .result) (a .j) (a .job) (s .ensures)) (loaded-within (a .job) (a .j) (a .segment .now) (a .list .now) (accepted e))
+
+cast-next-2 : tie.Need-cast-next-2
+cast-next-2 c = search needs
+
+mul-next-2 : tie.Need-mul-next-2
+mul-next-2 c = search needs
+
+element-write-next-2 : tie.Need-element-write-next-2
+element-write-next-2 c = search needs
+
+same-length : tie.Need-same-length
+same-length c = search needs
+
+returns-2 : tie.Need-returns-2
+unfolding directed progressed
+returns-2 c =
+    let m = c .before .before .before in
+    let w = m .before .before .before in
+    let k = w .before in
+    let v = k .before .before in
+    let e = v .before in
+    let a = e .before .before .before .before .before .before .before .before .before .before .before .args in
+    let job = a .job in
+    let s = e .before .before .standing-of in
+    sweep-is job (a .j) (a .segment .now) (a .list .now) (accepted e) (s .result .loaded) (v .level-of .result) (k .next-entry .result) (w .stack-count-at .result)
+    (loaded-is (s .result) (a .j) job (s .ensures))
+    (v .level-of .ensures)
+    (k .next-entry .ensures)
+    (w .stack-count-at .ensures)
+    (s .result .swept)
+    (swept-is (s .result) (a .j) job (s .ensures))
+    (m .sweep-run .result)
+    (m .sweep-run .last .1 .1 .1 .0)
+    (m .sweep-run .ensures)
+
+pub sweep-spec : {M : Type 1} → statement M
+sweep-spec =
+    tie.close
+    (tie.spec
+    standing-of-requires
+    sweep-refusal-requires
+    returns
+    level-of-requires
+    cast-b
+    sub-next-entry
+    next-entry-requires
+    stack-count-at-requires
+    cast-count
+    mul-count
+    element-copy-out-count
+    sweep-run-requires
+    shl-next
+    add-next
+    cast-next
+    mul-next
+    element-write-next
+    cast-next-2
+    mul-next-2
+    element-write-next-2
+    same-length
+    returns-2)

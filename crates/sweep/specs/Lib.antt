@@ -1,0 +1,2 @@
+-- What the functions of Sweep promise of one another.
+pub mod Reach

@@ -1,0 +1,47 @@
+// The search of one stack: whether a turn leads it to a changed stack of the loaded segment.
+ghost use mathlib.Core.Path.{_≡_};
+ghost use Rattle.search.specs.Sweep.{isChanged};
+ghost use Rattle.sweep.specs.Reach.{BitFits, ReachFits, reachedBy};
+use perm::kind;
+use perm::numbering;
+use twobit::list;
+
+// Only the stacks of segment b have bits in the list.
+fn is_changed(size: u32, b: u32, list: &[u8], child: u32) -> bool
+    requires { ⌜ BitFits size b (now list) child ⌝ }
+    ensures { λ r. ⌜ r ≡ isChanged size b (now (list .entry)) child ⌝ }
+{
+    if child / size != b {
+        return false;
+    }
+    list::get_bit(list, child % size)
+}
+
+// The turns of the set by rising k, the set halved from turn to turn: the first that leads to a changed stack ends the search.
+pub(crate) fn is_reached(
+    kind: u8,
+    n: u8,
+    groups: u32,
+    size: u32,
+    b: u32,
+    list: &[u8],
+    index: u32,
+) -> bool
+    requires { ⌜ ReachFits kind n groups size b (now list) index ⌝ }
+    ensures { λ r. ⌜ r ≡ reachedBy kind n groups size b (now (list .entry)) index ⌝ }
+{
+    let stack = numbering::unrank(kind, n, index);
+    let mut k = kind::first_turn(kind) - 1;
+    let mut rest = groups >> (k as u32);
+    while rest != 0 {
+        k += 1;
+        if rest % 2 == 1 {
+            let child = numbering::rank_turned(kind, n, &stack, index, k);
+            if is_changed(size, b, list, child) {
+                return true;
+            }
+        }
+        rest = rest / 2;
+    }
+    false
+}
