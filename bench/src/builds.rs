@@ -3,7 +3,7 @@
 use std::fmt;
 use std::time::Instant;
 
-use outside::build::{ordered, size_for, Build, Fields, FORWARD_RISING};
+use outside::build::{chosen_way, ordered, size_for, Build, Fields, FORWARD_RISING};
 use outside::linked::{Library, JOB_BYTES};
 use outside::rng::Rng;
 use outside::system::*;
@@ -103,14 +103,17 @@ impl Subject {
     }
 }
 
-// The ways of a whole build's levels.
+// Who makes the calls of a whole build of the proved library, and the ways of its levels.
 #[derive(Clone, Copy, PartialEq, Debug)]
 pub enum Ways {
+    // The same calls from outside: every level forward, or by the rule of Build the whole table.
     Forward,
     Chosen,
+    // Build the whole table itself.
+    Driver,
 }
 
-pub const WAYS: [Ways; 2] = [Ways::Forward, Ways::Chosen];
+pub const WAYS: [Ways; 3] = [Ways::Forward, Ways::Chosen, Ways::Driver];
 
 impl Ways {
     // The word that names them on the command line.
@@ -171,18 +174,22 @@ impl Subject {
         Lent::TwoBits { system, build: Box::new(Build { job, measures, segments, logs, list }) }
     }
 
-    // Runs Build the whole table of the proved library, which chooses the way of each level, or the same calls with every level forward.
+    // Runs a whole build of the proved library.
     pub fn drive(&self, ways: Ways) -> Built {
         let Lent::TwoBits { system, mut build } = self.lend(Method::Library, false) else { unreachable!() };
-        if ways == Ways::Forward {
-            let (finished, took) = timed(|| build.drive(system.as_ref(), |_| FORWARD));
-            finished.expect("no call of a build in order is refused");
-            return Built { took, counts: build.job.counts, cells: build.table() };
-        }
-        let (fields, mut cells) = (self.fields(), build.table());
-        let Build { logs, list, .. } = build.as_mut();
-        let (answer, took) = timed(|| fields.build_table(system.as_ref(), &mut cells, logs, list));
-        Built { took, counts: answer.job.counts, cells }
+        let way = match ways {
+            Ways::Forward => |_: &Build| FORWARD,
+            Ways::Chosen => chosen_way,
+            Ways::Driver => {
+                let (fields, mut cells) = (self.fields(), build.table());
+                let Build { logs, list, .. } = build.as_mut();
+                let (answer, took) = timed(|| fields.build_table(system.as_ref(), &mut cells, logs, list));
+                return Built { took, counts: answer.job.counts, cells };
+            }
+        };
+        let (finished, took) = timed(|| build.drive(system.as_ref(), way));
+        finished.expect("no call of a build in order is refused");
+        Built { took, counts: build.job.counts, cells: build.table() }
     }
 
     // Runs the build; the time is that of the calls alone.

@@ -3,8 +3,8 @@
 //   bench/run [mode] [options]
 //   tables             (the default) whole builds by wall time and by instructions, by either way of their levels, and single calls
 //   check              methods (b) and (c) against the outside tests; prints what was checked
-//   one METHOD BUILD   one build only, for a profiler; METHOD is library, fast, queue, forward or chosen (the library's own loop with every level
-//                      forward, or with the ways that it chooses) or none (set-up alone)
+//   one METHOD BUILD   one build only, for a profiler; METHOD is library, fast, queue, forward or chosen (the calls of Build the whole table from
+//                      outside, every level forward or by its rule), driver (Build the whole table itself) or none (set-up alone)
 //   --builds LIST      the builds timed (plain9,plain10,plain11,coated7,coated8)
 //   --counted LIST     the builds counted in instructions by valgrind (plain8,plain9,coated6,coated7); none for none
 //   --segments G       about so many segments, which gives S (16)
@@ -203,18 +203,22 @@ fn counted(options: &Options) -> Result<(), String> {
     Ok(())
 }
 
-// Build the whole table, which chooses the way of each level, beside the same calls with every level forward.
+// Whole builds with every level forward beside those by the rule of Build the whole table: the same calls from outside, and its own loop.
 fn by_either_way(options: &Options) -> Result<(), String> {
-    println!("### Whole builds of (a) by its own loop, instructions by valgrind, set-up taken off\n");
-    println!("| build | segments | every level forward | ways chosen | chosen / forward |");
-    println!("|---|--:|--:|--:|--:|");
+    println!("### Whole builds of (a) by either way of their levels, instructions by valgrind, set-up taken off\n");
+    println!("| build | segments | forward only | ways chosen | Build the whole table | chosen / forward | whole table / forward |");
+    println!("|---|--:|--:|--:|--:|--:|--:|");
     for (build, segments) in options.counted.iter().flat_map(|build| [1, 2, 4, 16].map(|segments| (build, segments))) {
         let subject = Subject { segments, ..options.subject(*build) };
-        let [forward, chosen] = WAYS.map(|ways| subject.drive(ways));
-        check::same(&subject, (Method::Library, &forward), (Method::Library, &chosen))?;
-        let [forward, chosen] = WAYS.map(|ways| taken(&ways.word(), &subject));
-        let (forward, chosen) = (forward?, chosen?);
-        println!("| {subject} | {segments} | {forward} | {chosen} | {:.3} |", chosen as f64 / forward as f64);
+        let built = WAYS.map(|ways| subject.drive(ways));
+        for other in &built[1..] {
+            check::same(&subject, (Method::Library, &built[0]), (Method::Library, other))?;
+        }
+        let [forward, chosen, driver] = WAYS.map(|ways| taken(&ways.word(), &subject));
+        let (forward, chosen, driver) = (forward?, chosen?, driver?);
+        let of_forward = |this: u64| this as f64 / forward as f64;
+        print!("| {subject} | {segments} | {forward} | {chosen} | {driver} |");
+        println!(" {:.3} | {:.3} |", of_forward(chosen), of_forward(driver));
     }
     println!();
     Ok(())

@@ -8,7 +8,7 @@ use borrow.Author.Tests.{eq-eqb, ne-eqb}
 use lib.Dec.{ltb, eqb}
 use lib.ListN.{getD}
 use Rattle.stacks.specs.Stack.{stackCount}
-use Rattle.calls.specs.Lent.{rowWhole}
+use Rattle.close.specs.Ready.{rowWhole}
 use Rattle.search.specs.Close.{isSweptWhole}
 use Rattle.search.specs.Drive.{isOpen, isPending, isUnswept, firstOpen, firstPending, firstUnswept, firstPair}
 use Rattle.search.specs.JobState.{stackCountOf, segmentCountOf, stackCountAt, passedOf, waitingOf, sweptOf, isSwept, isLoaded, isCoherent, noSegment}

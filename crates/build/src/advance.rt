@@ -13,7 +13,6 @@ ghost use Rattle.search.specs.JobState.{isBlanking, isCoherent, isLoaded, inRev
 use crate::choose;
 use crate::part;
 use crate::way;
-use calls::close;
 use job::geometry;
 use job::phase;
 use perm::kind;
@@ -27,7 +26,7 @@ fn close_phase(job: Job) -> Job
 {
     let phase = job.phase;
     let next = way::way_after(job.kind, job.n, job.size, phase, &job.counts);
-    let closed = close::close(job, next);
+    let closed = close::close::close(job, next);
     closed.job
 }
 

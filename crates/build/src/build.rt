@@ -3,7 +3,6 @@ ghost use mathlib.Core.Path.{_≡_};
 ghost use Rattle.search.specs.Begin.{beginOf};
 ghost use Rattle.search.specs.Drive.{hasEnded, buildRefusal, buildOf};
 use crate::advance;
-use calls::close;
 use job::begin;
 use job::coherence;
 use job::phase;
@@ -68,7 +67,7 @@ fn has_ended(job: Job) -> bool
     }
     let wanted = job.wanted;
     let way = job.way;
-    let refusal = close::close_refusal(
+    let refusal = close::close::close_refusal(
         job.kind,
         job.n,
         wanted,

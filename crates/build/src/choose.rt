@@ -5,9 +5,8 @@ ghost use Prim.Native.Nat.{_/_, _%_, _^_, _≤_};
 ghost use lib.Dec.{ltb, eqb};
 ghost use lib.ListN.{getD};
 ghost use Rattle.base.specs.Words.{firstFrom};
-ghost use Rattle.calls.specs.Lent.{rowWhole};
+ghost use Rattle.close.specs.Ready.{rowWhole};
 ghost use Rattle.search.specs.Segments.{segmentLimit, stackCountIn};
-use calls::close;
 use search::SEGMENT_LIMIT;
 use twobit::segment;
 
@@ -48,7 +47,7 @@ pub(crate) fn first_unswept(segments: u32, swept: [u64; SEGMENT_LIMIT]) -> u32
 {
     let mut b: u32 = 0;
     while b < segments {
-        if !close::is_swept_whole(segments, swept[b as usize]) {
+        if !close::close::is_swept_whole(segments, swept[b as usize]) {
             return b;
         }
         b += 1;

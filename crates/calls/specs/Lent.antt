@@ -1,18 +1,16 @@
--- What the helpers of Blank, Settle, Load and Close ask of what they are given, and what they leave, by the fields that each takes.
+-- What the helpers of Blank, Settle and Load ask of what they are given, and what they leave, by the fields that each takes.
 use mathlib.Core.Path.{_≡_}
-use mathlib.Core.Bool.{Bool, true, not, _&&_, cond}
+use mathlib.Core.Bool.{true, cond}
 use mathlib.Core.List.{List}
 use Prim.Native.Nat.{ℕ, _+_, _*_, _/_, _%_, _^_, _<_, _≤_}
 use lib.Dec.{eqb}
 use lib.IntN.{ℤ}
 use lib.ListN.{length, getD}
-use Rattle.base.specs.Words.{all, from}
 use Rattle.stacks.specs.Index.{rankOf}
 use Rattle.stacks.specs.Stack.{isPaneCount, isStack, stackCount}
 use Rattle.search.specs.Changed.{listBytes}
 use Rattle.search.specs.Entries.{bytesFor, blank, setEntry}
-use Rattle.search.specs.JobState.{lastLevel}
-use Rattle.search.specs.Segments.{mostSize, segmentCount, stackCountIn}
+use Rattle.search.specs.Segments.{mostSize, stackCountIn}
 use Rattle.twobit.specs.declared.marking.Found.{Found}
 
 -- blanked of a job with these fields
@@ -43,29 +41,3 @@ pub record ListFits (m : ℕ) (segment list : List ℕ) : Type 0 where
   pub long : length segment ≡ bytesFor m
   pub wide : length list ≡ listBytes m
   pub few : m ≤ mostSize
-
--- isDone of a job with N stacks, S, and these passed and waiting numbers, and of each of its segments
-abbrev pub isDoneBy : ℕ → ℕ → List ℕ → List ℕ → ℕ → Bool
-isDoneBy N S passed waiting j = eqb (getD passed j 0) (stackCountIn N S j) && eqb (getD waiting j 0) 0
-
-abbrev pub doneBy : ℕ → ℕ → List ℕ → List ℕ → Bool
-doneBy N S passed waiting = all (isDoneBy N S passed waiting) (from 0 (segmentCount N S))
-
--- isSweptWhole of a job with G segments, by the segment's number and by all, and of each segment
-abbrev pub rowWhole : ℕ → ℕ → Bool
-rowWhole G row = all (λ j. eqb (row / 2 ^ j % 2) 1) (from 0 G)
-
-abbrev pub isWholeBy : ℕ → List ℕ → ℕ → Bool
-isWholeBy G swept b = rowWhole G (getD swept b 0)
-
-abbrev pub sweptBy : ℕ → List ℕ → Bool
-sweptBy G swept = all (isWholeBy G swept) (from 0 G)
-
--- isReady, of a reverse level or not
-abbrev pub readyBy : Bool → ℕ → ℕ → List ℕ → List ℕ → List ℕ → Bool
-readyBy reverse N S passed waiting swept =
-    all (cond reverse (isWholeBy (segmentCount N S) swept) (isDoneBy N S passed waiting)) (from 0 (segmentCount N S))
-
--- isPastLast of a job at level d whose last level has found count stacks
-abbrev pub pastLast : ℕ → ℕ → Bool
-pastLast d count = eqb d lastLevel && not (eqb count 0)

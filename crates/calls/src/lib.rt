@@ -1,6 +1,5 @@
-// Code: Blank, Settle, Look, Load and Close.
+// Code: Blank, Settle, Look and Load.
 pub mod blank;
-pub mod close;
 pub mod load;
 pub mod look;
 pub mod settle;

@@ -11,7 +11,6 @@ use crate::mirror::HokrundJob;
 use crate::mirror::HokrundLook;
 use crate::mirror::HokrundStack;
 use calls::blank;
-use calls::close;
 use calls::load;
 use calls::look;
 use calls::settle;
@@ -149,5 +148,5 @@ pub extern "C" fn hokrund_close(job: HokrundJob, way: u8) -> HokrundAnswer
     if !mirror::is_job(job) {
         return HokrundAnswer { refusal: 7, job };
     }
-    mirror::answer_of(close::close(mirror::job_of(job), mirror::way_of(way)))
+    mirror::answer_of(close::close::close(mirror::job_of(job), mirror::way_of(way)))
 }

@@ -259,9 +259,9 @@ past-facts job h e = go (eq-or-ne (countOf job lastLevel) 0)
 -- ---- what the call leaves
 
 -- what an outcome is, accepted or refused
-either-way : {X A : Type 0} {out a b : X} (f : X → A) (v : A) (r : ℕ) → (r ≡ 0 → out ≡ a) → ((r ≡ 0 → ⊥) → out ≡ b)
+whether-refused : {X A : Type 0} {out a b : X} (f : X → A) (v : A) (r : ℕ) → (r ≡ 0 → out ≡ a) → ((r ≡ 0 → ⊥) → out ≡ b)
     → (r ≡ 0 → f a ≡ v) → f b ≡ v → f out ≡ v
-either-way {X} {A} {out} f v r accepted refused h k = go (eq-or-ne r 0)
+whether-refused {X} {A} {out} f v r accepted refused h k = go (eq-or-ne r 0)
   where
     go : (r ≡ 0) ⊎ (r ≡ 0 → ⊥) → f out ≡ v
     go (inl e) = ap f (accepted e) ∙ h e
@@ -269,7 +269,7 @@ either-way {X} {A} {out} f v r accepted refused h k = go (eq-or-ne r 0)
 
 -- an answer that names 0 where it was accepted and r where it was refused names r
 pub names-refusal : {X : Type 0} {out a b : X} (f : X → ℕ) (r : ℕ) → (r ≡ 0 → out ≡ a) → ((r ≡ 0 → ⊥) → out ≡ b) → f a ≡ 0 → f b ≡ r → f out ≡ r
-names-refusal f r accepted refused h k = either-way f r r accepted refused (λ e. h ∙ sym e) k
+names-refusal f r accepted refused h k = whether-refused f r r accepted refused (λ e. h ∙ sym e) k
 
 module _ (job : Job) (j : ℕ) (segment : List ℕ) where
   pub blank-accepted : blankRefusal job j (length segment) ≡ 0 → blankOf job j segment ≡ (
@@ -294,7 +294,7 @@ module _ (job : Job) (j : ℕ) (segment : List ℕ) where
   pub blank-phase : blankOf job j segment .1 .job .phase ≡ job .phase
   unfolding progressed
   blank-phase =
-      either-way (λ o. o .1 .job .phase) (job .phase) (blankRefusal job j (length segment)) blank-accepted blank-refused (λ e. refl) refl
+      whether-refused (λ o. o .1 .job .phase) (job .phase) (blankRefusal job j (length segment)) blank-accepted blank-refused (λ e. refl) refl
 
   module _ (log : List ℕ) where
     pub expand-accepted : expandRefusal job j (length segment) (length log) ≡ 0
@@ -322,7 +322,7 @@ module _ (job : Job) (j : ℕ) (segment : List ℕ) where
     pub expand-phase : expandOf job j segment log .2 .job .phase ≡ job .phase
     unfolding expandedJob progressed
     expand-phase =
-        either-way (λ o. o .2 .job .phase) (job .phase) (expandRefusal job j (length segment) (length log)) expand-accepted expand-refused (λ e. refl) refl
+        whether-refused (λ o. o .2 .job .phase) (job .phase) (expandRefusal job j (length segment) (length log)) expand-accepted expand-refused (λ e. refl) refl
 
     pub settle-accepted : settleRefusal job j (length segment) log ≡ 0
         → (let marks = markAll (job .size) (levelOf (job .phase)) (indexesOf (job .size) j (pending job j log)) (marksFrom job segment) in
@@ -344,7 +344,7 @@ module _ (job : Job) (j : ℕ) (segment : List ℕ) where
     pub settle-phase : settleOf job j segment log .1 .job .phase ≡ job .phase
     unfolding progressed
     settle-phase =
-        either-way (λ o. o .1 .job .phase) (job .phase) (settleRefusal job j (length segment) log) settle-accepted settle-refused (λ e. refl) refl
+        whether-refused (λ o. o .1 .job .phase) (job .phase) (settleRefusal job j (length segment) log) settle-accepted settle-refused (λ e. refl) refl
 
 module _ (job : Job) (b : ℕ) (segment list : List ℕ) where
   pub load-accepted : loadRefusal job b (length segment) (length list) ≡ 0
@@ -363,7 +363,7 @@ module _ (job : Job) (b : ℕ) (segment list : List ℕ) where
   pub load-phase : loadOf job b segment list .1 .job .phase ≡ job .phase
   unfolding directed
   load-phase =
-      either-way (λ o. o .1 .job .phase) (job .phase) (loadRefusal job b (length segment) (length list)) load-accepted load-refused (λ e. refl) refl
+      whether-refused (λ o. o .1 .job .phase) (job .phase) (loadRefusal job b (length segment) (length list)) load-accepted load-refused (λ e. refl) refl
 
 module _ (job : Job) (j : ℕ) (segment list : List ℕ) where
   pub sweep-accepted : sweepRefusal job j (length segment) (length list) ≡ 0
@@ -389,7 +389,7 @@ module _ (job : Job) (j : ℕ) (segment list : List ℕ) where
   pub sweep-phase : sweepOf job j segment list .1 .job .phase ≡ job .phase
   unfolding directed progressed
   sweep-phase =
-      either-way (λ o. o .1 .job .phase) (job .phase) (sweepRefusal job j (length segment) (length list)) sweep-accepted sweep-refused (λ e. refl) refl
+      whether-refused (λ o. o .1 .job .phase) (job .phase) (sweepRefusal job j (length segment) (length list)) sweep-accepted sweep-refused (λ e. refl) refl
 
 module _ (job : Job) (way : Way) where
   pub close-accepted : closeRefusal job ≡ 0 → closeOf job way ≡ record { refusal = 0; job = closed job way }

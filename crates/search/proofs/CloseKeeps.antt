@@ -11,7 +11,7 @@ use lib.Dec.{eqb}
 use lib.ListN.{length, getD, set, length-set}
 use lib.Seq.{getD-set-same, getD-set-other}
 use borrow.Author.Tests.{eqb-true, eq-eqb, ne-eqb}
-use Rattle.base.specs.Words.{unless, all, from}
+use Rattle.base.specs.Words.{unless}
 use Rattle.base.proofs.Bits.{bit-is, bit-zero}
 use Rattle.base.proofs.Counting.{all-below}
 use Rattle.base.proofs.Lists.{replicate-zero}
@@ -102,10 +102,7 @@ module _ {terms : Terms} {w : World} (shaped : Shaped terms w) (ready : isReady 
   module _ (forward : inReverse (w .job) ≡ false) (j : ℕ) (inside : j < G terms) where
     done : isDone (w .job) j ≡ true
     unfolding isReady
-    done =
-        all-below (isDone (w .job)) (segmentCountOf (w .job)) j
-        (subst (λ (t : Bool). all (cond t (isSweptWhole (w .job)) (isDone (w .job))) (from 0 (segmentCountOf (w .job))) ≡ true) forward ready)
-        (rw (segments-is shaped) inside)
+    done = all-below (isDone (w .job)) (segmentCountOf (w .job)) j (rw forward at ready) (rw (segments-is shaped) inside)
 
     ready-passed : passedOf (w .job) j ≡ m terms j
     unfolding isDone
@@ -125,9 +122,7 @@ module _ {terms : Terms} {w : World} (shaped : Shaped terms w) (ready : isReady 
   unfolding isReady isSweptWhole
   ready-swept reverse b j low inside =
       all-below (isSwept (w .job) b) (segmentCountOf (w .job)) j
-      (all-below (isSweptWhole (w .job)) (segmentCountOf (w .job)) b
-      (subst (λ (t : Bool). all (cond t (isSweptWhole (w .job)) (isDone (w .job))) (from 0 (segmentCountOf (w .job))) ≡ true) reverse ready)
-      (rw (segments-is shaped) low))
+      (all-below (isSweptWhole (w .job)) (segmentCountOf (w .job)) b (rw reverse at ready) (rw (segments-is shaped) low))
       (rw (segments-is shaped) inside)
 
 pub no-log : (terms : Terms) (w : World) → ((j : ℕ) → waitingOf (w .job) j ≡ 0) → (v : ℕ) → Logged terms w v → ⊥

@@ -28,7 +28,7 @@ use Rattle.search.proofs.Terms.{Terms, Given, N, G, m, D, some}
 pub load-spare : (job : Job) (b : ℕ) (segment : List ℕ) (i : ℕ) → stackCountAt job b ≤ i → i < 8 * listBytes (stackCountAt job b)
     → bitAt (changedOf job b segment) i ≡ false
 unfolding changedOf
-load-spare job b segment = list-spare (stackCountAt job b) (λ i. isParent (levelOf (job .phase)) (entryAt segment i))
+load-spare job b segment = list-spare (stackCountAt job b) _
 
 -- the world after segment b is loaded
 unfoldable pub loadedWorld : World → ℕ → World

@@ -1,7 +1,6 @@
 // The next call of a build, with the segments taken in a chosen order and the levels searched by a rule of ways.
 use crate::SEGMENTS;
 use crate::part;
-use calls::close;
 use job::phase;
 use search::Answer;
 use search::Job;
@@ -125,7 +124,7 @@ fn next_way(ways: u8, way: Way) -> Way {
 
 fn close_by(job: Job, ways: u8) -> Answer {
     let way = job.way;
-    close::close(job, next_way(ways, way))
+    close::close::close(job, next_way(ways, way))
 }
 
 // Each segment is loaded, and every segment swept against it, then the level closed.

@@ -6,7 +6,7 @@ use Prim.Native.Nat.{ℕ, _-_, _≤_}
 use native.Mathlib.Omega.{arith}
 use borrow.Author.Needs.{needs}
 use borrow.Author.Tests.{not-true, not-false}
-use Rattle.calls.specs.Lent.{isWholeBy}
+use Rattle.close.specs.Ready.{isWholeBy}
 use Rattle.build.proofs.Choosing.{Seeks, seek-starts, seek-on, seek-finds, seek-ends}
 use Rattle.build.proofs.choose.first_unswept.Statement.{statement}
 use Rattle.build.proofs.choose.first_unswept.Tie as tie

@@ -1,0 +1,2 @@
+-- Laws beside the proofs of Close.
+pub mod Closing

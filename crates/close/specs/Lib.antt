@@ -1,0 +1,2 @@
+-- What the functions of Close promise of one another.
+pub mod Ready

@@ -1,0 +1,2 @@
+// Code: Close.
+pub mod close;
