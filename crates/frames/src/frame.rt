@@ -4,20 +4,20 @@ ghost use mathlib.Core.Path.{_≡_};
 ghost use Prim.Native.Nat.{_+_, _≤_};
 ghost use lib.ListN.{take, drop};
 ghost use Rattle.stacks.specs.Stack.{stackPlaces, isPaneCount};
-ghost use Rattle.frames.specs.Frame.{frameBytes, isFrame, paneOf, placesOf, fieldsRefusal, firstRefusal, firstOf, laterRefusal, laterOf};
-ghost use Rattle.frames.specs.Hex.{bytesOf};
-ghost use Rattle.frames.specs.Kept.{textOf};
-use crate::FRAME_LIMIT;
-use crate::First;
-use crate::Line;
-use crate::OVERLONG;
-use crate::STACK_LIMIT;
+ghost use Rattle.text.specs.Frame.{frameBytes, isFrame, paneOf, placesOf, fieldsRefusal, firstRefusal, firstOf, laterRefusal, laterOf};
+ghost use Rattle.text.specs.Hex.{bytesOf};
+ghost use Rattle.text.specs.Kept.{textOf};
 use crate::hex;
 use perm::kind;
 use perm::operations;
 use perm::valid;
 use stacks::PLACES;
 use stacks::Stacked;
+use text::FRAME_LIMIT;
+use text::First;
+use text::Line;
+use text::OVERLONG;
+use text::STACK_LIMIT;
 use twobit::segment;
 
 // Within the limit, and pairs of digits.

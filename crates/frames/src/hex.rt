@@ -3,10 +3,10 @@ ghost use mathlib.Core.Path.{_≡_};
 ghost use Prim.Native.Nat.{_+_, _*_, _<_, _≤_};
 ghost use lib.ListN.{length, getD, take, drop};
 ghost use Rattle.base.specs.Words.{all};
-ghost use Rattle.frames.specs.Frame.{frameBytes, frameLimit};
-ghost use Rattle.frames.specs.Hex.{isDigit, digitOf, digitChar, bytesOf, hexOf, numberOf};
-ghost use Rattle.frames.specs.Written.{Put};
-use crate::FRAME_LIMIT;
+ghost use Rattle.text.specs.Frame.{frameBytes, frameLimit};
+ghost use Rattle.text.specs.Hex.{isDigit, digitOf, digitChar, bytesOf, hexOf, numberOf};
+ghost use Rattle.text.specs.Written.{Put};
+use text::FRAME_LIMIT;
 
 pub(crate) fn is_digit(c: u8) -> bool
     ensures { λ r. ⌜ r ≡ isDigit c ⌝ }

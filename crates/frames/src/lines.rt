@@ -1,9 +1,9 @@
 // The line in the making.
 ghost use mathlib.Core.Path.{_≡_};
-ghost use Rattle.frames.specs.Kept.{newLine, pushed};
-use crate::FRAME_LIMIT;
-use crate::Line;
-use crate::OVERLONG;
+ghost use Rattle.text.specs.Kept.{newLine, pushed};
+use text::FRAME_LIMIT;
+use text::Line;
+use text::OVERLONG;
 
 pub fn new_line() -> Line
     ensures { λ r. ⌜ r ≡ newLine ⌝ }

@@ -1,15 +1,15 @@
 // The report's lines, written into a lent buffer, whose other bytes stay.
 ghost use mathlib.Core.List.{_++_};
 ghost use mathlib.Core.Path.{_≡_};
-ghost use Rattle.frames.specs.Output.{levelLine, levelLines, deepestLine, planLine, refusalLine};
-ghost use Rattle.frames.specs.Written.{Put, Wrote};
-ghost use Rattle.frames.specs.Hex.{lineOf};
+ghost use Rattle.text.specs.Output.{levelLine, levelLines, deepestLine, planLine, refusalLine};
+ghost use Rattle.text.specs.Written.{Put, Wrote};
+ghost use Rattle.text.specs.Hex.{lineOf};
 ghost use Prim.Native.Nat.{_+_, _*_, _<_, min};
 ghost use lib.ListN.{length, take};
-use crate::TEXT_LIMIT;
 use crate::hex;
 use search::COUNT_PLACES;
 use search::PLAN_LIMIT;
+use text::TEXT_LIMIT;
 
 // The digits of a line's bytes and its end, from place at on. The answer is the place after them.
 pub(crate) fn put_line(out: &mut [u8], at: usize, bytes: &[u8]) -> usize

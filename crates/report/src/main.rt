@@ -1,14 +1,14 @@
 // The report: frames from standard input, one a line; levels, plans and refusals to standard output, one a line.
 ghost use mathlib.Core.Path.{_≡_};
 ghost use lib.ListN.{length};
-ghost use Rattle.frames.specs.Frame.{tableLimit};
-ghost use Rattle.session.specs.Reader.{readAll};
-use frames::TABLE_LIMIT;
-use frames::TEXT_LIMIT;
+ghost use Rattle.text.specs.Frame.{tableLimit};
+ghost use Rattle.text.specs.Reader.{readAll};
 use libc::STDIN_FILENO;
 use libc::STDOUT_FILENO;
-use session::Reader;
 use session::input;
+use text::Reader;
+use text::TABLE_LIMIT;
+use text::TEXT_LIMIT;
 
 // What was read, and whether there may be more.
 struct Going {

@@ -1,26 +1,26 @@
 // What a first frame is answered: the table is built, and the levels that the build found are written.
 ghost use mathlib.Core.Path.{_≡_};
 ghost use lib.ListN.{length};
-ghost use Rattle.frames.specs.Frame.{tableLimit};
-ghost use Rattle.frames.specs.Written.{Wrote};
-ghost use Rattle.session.specs.Report.{headText, builtIn};
-ghost use Rattle.session.specs.Reader.{afterFirst, firstLine, Shown};
-use crate::LIST_LIMIT;
-use crate::LOG_LIMIT;
-use crate::Printed;
-use crate::Reader;
-use crate::Stage;
+ghost use Rattle.text.specs.Frame.{tableLimit};
+ghost use Rattle.text.specs.Written.{Wrote};
+ghost use Rattle.text.specs.Report.{headText, builtIn};
+ghost use Rattle.text.specs.Reader.{afterFirst, firstLine, Shown};
 use crate::lent;
-use frames::First;
-use frames::Line;
-use frames::REPORT_ROOM;
-use frames::TEXT_LIMIT;
 use frames::frame;
 use frames::lines;
 use frames::output;
 use job::phase;
 use search::Job;
 use stacks::PLACES;
+use text::First;
+use text::LIST_LIMIT;
+use text::LOG_LIMIT;
+use text::Line;
+use text::Printed;
+use text::REPORT_ROOM;
+use text::Reader;
+use text::Stage;
+use text::TEXT_LIMIT;
 
 // The build of a frame's table in the part of the table that it uses.
 fn build_in(kind: u8, n: u8, wanted: [i8; PLACES], size: u32, table: &mut [u8]) -> Job

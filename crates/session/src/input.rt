@@ -1,18 +1,18 @@
 // The report's input, character by character: the reader after each, and what is to be printed.
 ghost use mathlib.Core.Path.{_≡_};
 ghost use lib.ListN.{length};
-ghost use Rattle.frames.specs.Frame.{tableLimit};
-ghost use Rattle.session.specs.Reader.{isStart, isOver, newReader, withLine, laterLine, lineRead, byteRead, endRead, Shown};
-use crate::Printed;
-use crate::Reader;
-use crate::Stage;
+ghost use Rattle.text.specs.Frame.{tableLimit};
+ghost use Rattle.text.specs.Reader.{isStart, isOver, newReader, withLine, laterLine, lineRead, byteRead, endRead, Shown};
 use crate::first;
 use crate::later;
 use crate::lent;
-use frames::Line;
-use frames::TEXT_LIMIT;
 use frames::lines;
 use stacks::PLACES;
+use text::Line;
+use text::Printed;
+use text::Reader;
+use text::Stage;
+use text::TEXT_LIMIT;
 
 fn is_start(stage: Stage) -> bool
     ensures { λ r. ⌜ r ≡ isStart stage ⌝ }

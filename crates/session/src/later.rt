@@ -1,14 +1,14 @@
 // What a later frame is answered, written at the front of a lent buffer. The answer is the text's length.
-ghost use Rattle.frames.specs.Kept.{textOf};
-ghost use Rattle.frames.specs.Written.{Wrote};
-ghost use Rattle.session.specs.Report.{planText, laterText};
+ghost use Rattle.text.specs.Kept.{textOf};
+ghost use Rattle.text.specs.Written.{Wrote};
+ghost use Rattle.text.specs.Report.{planText, laterText};
 use crate::lent;
-use frames::Line;
-use frames::TEXT_LIMIT;
 use frames::frame;
 use frames::output;
 use search::PLAN_LIMIT;
 use stacks::PLACES;
+use text::Line;
+use text::TEXT_LIMIT;
 
 // The plan of a stack, or Plan's refusal.
 fn plan_text(

@@ -2,13 +2,13 @@
 // are accepted.
 ghost use mathlib.Core.Path.{_≡_};
 ghost use Prim.Native.Nat.{_≤_};
-ghost use Rattle.frames.specs.Frame.{tableLimit};
-ghost use Rattle.session.specs.Report.{isReported, reportGroups, tableBytes, logWords, changedBytes};
-ghost use Rattle.session.specs.Reader.{logLimit, listLimit};
-use frames::REPORT_ROOM;
-use frames::STACK_LIMIT;
+ghost use Rattle.text.specs.Frame.{tableLimit};
+ghost use Rattle.text.specs.Report.{isReported, reportGroups, tableBytes, logWords, changedBytes};
+ghost use Rattle.text.specs.Reader.{logLimit, listLimit};
 use perm::groups;
 use perm::kind;
+use text::REPORT_ROOM;
+use text::STACK_LIMIT;
 use twobit::list;
 use twobit::segment;
 

@@ -7,15 +7,15 @@ use Prim.Native.String as string
 use native.Mathlib.Omega.{arith}
 use lib.IntN.{ℤ, pos}
 use lib.ListN.{length, replicate}
-use Rattle.frames.specs.Frame.{tableLimit}
-use Rattle.frames.specs.Hex.{bytesOf, fourBytes}
-use Rattle.frames.specs.Lines.{linesOf}
-use Rattle.frames.specs.Output.{levelLine, planLine}
-use Rattle.session.specs.Promise.{Answers, Reports}
-use Rattle.session.specs.Reader.{newReader, printedAll}
-use Rattle.session.specs.Report.{reportOf}
-use Rattle.session.proofs.Meaning.{report-means, report-refused, answer-says, level-says}
-use Rattle.session.proofs.Reading.{read-report}
+use Rattle.text.specs.Frame.{tableLimit}
+use Rattle.text.specs.Hex.{bytesOf, fourBytes}
+use Rattle.text.specs.Lines.{linesOf}
+use Rattle.text.specs.Output.{levelLine, planLine}
+use Rattle.text.specs.Promise.{Answers, Reports}
+use Rattle.text.specs.Reader.{newReader, printedAll}
+use Rattle.text.specs.Report.{reportOf}
+use Rattle.text.proofs.Meaning.{report-means, report-refused, answer-says, level-says}
+use Rattle.text.proofs.Reading.{read-report}
 use Rattle.shown.proofs.Open.{report-open}
 
 -- the characters of a text

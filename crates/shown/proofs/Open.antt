@@ -1,10 +1,10 @@
 -- Every definition that a report computes with: who unfolds `report-open` unfolds them all, with those of builds and plans.
 use Rattle.worked.proofs.Open.{all-open}
-use Rattle.frames.specs.Frame
-use Rattle.frames.specs.Hex
-use Rattle.frames.specs.Lines
-use Rattle.frames.specs.Output
-use Rattle.session.specs.Report
+use Rattle.text.specs.Frame
+use Rattle.text.specs.Hex
+use Rattle.text.specs.Lines
+use Rattle.text.specs.Output
+use Rattle.text.specs.Report
 
 texts : Unit {0}
 unfolding Hex.isDigit Hex.digitOf Hex.digitChar Hex.isPairs Hex.bytesOf Hex.hexOf Hex.lineOf Hex.numberFrom Hex.numberOf Hex.fourBytes Lines.inFirst Lines.linesOf

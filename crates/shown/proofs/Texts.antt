@@ -2,10 +2,10 @@
 use mathlib.Core.Path.{_≡_, refl}
 use mathlib.Core.List.{List, [], _∷_, map}
 use Prim.Native.Nat.{ℕ}
-use Rattle.frames.specs.Frame.{firstRefusal}
-use Rattle.frames.specs.Hex.{hexOf}
-use Rattle.frames.specs.Lines.{linesOf}
-use Rattle.frames.specs.Output.{levelLine, deepestLine, planLine, refusalLine}
+use Rattle.text.specs.Frame.{firstRefusal}
+use Rattle.text.specs.Hex.{hexOf}
+use Rattle.text.specs.Lines.{linesOf}
+use Rattle.text.specs.Output.{levelLine, deepestLine, planLine, refusalLine}
 use Rattle.shown.proofs.Open.{report-open}
 
 -- the first frame's refusal: no frame, `000d`, kind 2 with nothing after it, plain 9 with a wrong stack, plain 8, coated 7, and panes 80 and 81

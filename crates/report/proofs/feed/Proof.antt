@@ -2,8 +2,8 @@
 use mathlib.Core.Path.{_≡_, refl, _∙_}
 use Prim.Native.Nat.{_-_, _≤_}
 use lib.ListN.{length, drop}
-use Rattle.session.specs.Reader.{readAll}
-use Rattle.session.proofs.ReadLaws.{read-none, read-more}
+use Rattle.text.specs.Reader.{readAll}
+use Rattle.text.proofs.ReadLaws.{read-none, read-more}
 use native.Mathlib.Omega.{arith}
 use borrow.Author.Needs.{needs}
 use Rattle.report.proofs.feed.Statement.{statement}

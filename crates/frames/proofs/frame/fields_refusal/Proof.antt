@@ -12,10 +12,10 @@ use Rattle.base.specs.Words.{unless}
 use Rattle.stacks.specs.Stack.{isStack, stackCount}
 use Rattle.stacks.proofs.KindLaws.{panes-twelve}
 use Rattle.search.specs.Segments.{isSegmentSize}
-use Rattle.frames.specs.Frame.{stackLimit, sizeIn, fieldsRefusal}
-use Rattle.frames.specs.Hex.{bytesOf}
-use Rattle.frames.proofs.FrameRefusals.{fields-length, fields-limit, fields-rest, wanted-part, size-part}
-use Rattle.frames.proofs.HexLaws.{chars-bytes}
+use Rattle.text.specs.Frame.{stackLimit, sizeIn, fieldsRefusal}
+use Rattle.text.specs.Hex.{bytesOf}
+use Rattle.text.proofs.FrameRefusals.{fields-length, fields-limit, fields-rest, wanted-part, size-part}
+use Rattle.text.proofs.HexLaws.{chars-bytes}
 use Rattle.frames.proofs.frame.fields_refusal.Statement.{statement}
 use Rattle.frames.proofs.frame.fields_refusal.Tie as tie
 

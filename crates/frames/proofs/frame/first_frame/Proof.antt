@@ -4,10 +4,10 @@ use Prim.Native.Nat.{_≤_}
 use native.Mathlib.Omega.{arith}
 use borrow.Author.Needs.{needs}
 use Rattle.stacks.specs.Stack.{stackPlaces}
-use Rattle.frames.specs.Frame.{firstRefusal, firstOf}
-use Rattle.frames.specs.Hex.{bytesOf}
-use Rattle.frames.specs.Kept.{textOf}
-use Rattle.frames.proofs.FrameRefusals.{no-first, a-first, kind-is, panes-is, panes-fit, wanted-is, size-is}
+use Rattle.text.specs.Frame.{firstRefusal, firstOf}
+use Rattle.text.specs.Hex.{bytesOf}
+use Rattle.text.specs.Kept.{textOf}
+use Rattle.text.proofs.FrameRefusals.{no-first, a-first, kind-is, panes-is, panes-fit, wanted-is, size-is}
 use Rattle.frames.proofs.frame.first_frame.Statement.{statement}
 use Rattle.frames.proofs.frame.first_frame.Tie as tie
 

@@ -7,11 +7,11 @@ use borrow.Author.Tests.{not-true, not-false}
 use lib.ListN.{take}
 use Rattle.stacks.specs.Operations.{kindRefusal}
 use Rattle.perm.proofs.Refusals.{kind-refuses, kind-goes-on, kind-passes}
-use Rattle.frames.specs.Frame.{isFrame, fieldsRefusal, firstRefusal}
-use Rattle.frames.specs.Hex.{bytesOf}
-use Rattle.frames.specs.Kept.{textOf}
-use Rattle.frames.proofs.FrameLaws.{frame-count}
-use Rattle.frames.proofs.FrameRefusals.{first-none, first-few, first-row}
+use Rattle.text.specs.Frame.{isFrame, fieldsRefusal, firstRefusal}
+use Rattle.text.specs.Hex.{bytesOf}
+use Rattle.text.specs.Kept.{textOf}
+use Rattle.text.proofs.FrameLaws.{frame-count}
+use Rattle.text.proofs.FrameRefusals.{first-none, first-few, first-row}
 use Rattle.frames.proofs.frame.first_refusal.Statement.{statement}
 use Rattle.frames.proofs.frame.first_refusal.Tie as tie
 

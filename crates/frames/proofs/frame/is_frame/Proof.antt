@@ -2,7 +2,7 @@
 use mathlib.Core.Path.{_∙_}
 use native.Mathlib.Omega.{arith}
 use borrow.Author.Needs.{needs}
-use Rattle.frames.proofs.FrameLaws.{long-is-none, odd-is-none, even-is-digits}
+use Rattle.text.proofs.FrameLaws.{long-is-none, odd-is-none, even-is-digits}
 use Rattle.frames.proofs.frame.is_frame.Statement.{statement}
 use Rattle.frames.proofs.frame.is_frame.Tie as tie
 

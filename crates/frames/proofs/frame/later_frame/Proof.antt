@@ -3,10 +3,10 @@ use mathlib.Core.Path.{_≡_, sym, ap, _∙_}
 use native.Mathlib.Omega.{arith}
 use borrow.Author.Needs.{needs}
 use Rattle.perm.proofs.Refusals.{no-stack, a-stack}
-use Rattle.frames.specs.Frame.{laterRefusal, laterOf, placesOf}
-use Rattle.frames.specs.Hex.{bytesOf}
-use Rattle.frames.specs.Kept.{textOf}
-use Rattle.frames.proofs.FrameRefusals.{later-passes, later-panes}
+use Rattle.text.specs.Frame.{laterRefusal, laterOf, placesOf}
+use Rattle.text.specs.Hex.{bytesOf}
+use Rattle.text.specs.Kept.{textOf}
+use Rattle.text.proofs.FrameRefusals.{later-passes, later-panes}
 use Rattle.frames.proofs.frame.later_frame.Statement.{statement}
 use Rattle.frames.proofs.frame.later_frame.Tie as tie
 

@@ -5,9 +5,9 @@ use borrow.Author.Needs.{needs}
 use borrow.Author.Tests.{not-true, not-false}
 use Rattle.base.specs.Words.{unless}
 use Rattle.stacks.specs.Stack.{isStack}
-use Rattle.frames.specs.Frame.{isFrame, laterRefusal}
-use Rattle.frames.specs.Kept.{textOf}
-use Rattle.frames.proofs.FrameRefusals.{later-none, later-length-wrong, later-many, later-rest}
+use Rattle.text.specs.Frame.{isFrame, laterRefusal}
+use Rattle.text.specs.Kept.{textOf}
+use Rattle.text.proofs.FrameRefusals.{later-none, later-length-wrong, later-many, later-rest}
 use Rattle.frames.proofs.frame.later_refusal.Statement.{statement}
 use Rattle.frames.proofs.frame.later_refusal.Tie as tie
 

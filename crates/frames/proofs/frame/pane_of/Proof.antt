@@ -8,7 +8,7 @@ use mir.Syntax.{w8}
 use mir.Val.{SFits, toZ, ofZ}
 use mir.Facts.{toZ-ofZ, toZ-pos}
 use Rattle.perm.proofs.Signed.{byte-negated, neg-fits, pane-up, pane-down}
-use Rattle.frames.specs.Frame.{paneOf}
+use Rattle.text.specs.Frame.{paneOf}
 use Rattle.frames.proofs.frame.pane_of.Statement.{statement}
 use Rattle.frames.proofs.frame.pane_of.Tie as tie
 

@@ -1,18 +1,26 @@
 -- `frames::frame::places_at` meets its contract. The loop's invariant: the first p panes are placed, and zeros stand below them.
 use mathlib.Core.Path.{_≡_, sym, ap, _∙_}
 use mathlib.Core.List.{List}
-use Prim.Native.Nat.{ℕ, _-_, _≤_}
+use Prim.Native.Nat.{ℕ, _-_, _/_, _%_, _≤_}
 use native.Mathlib.Omega.{arith}
 use borrow.Author.Needs.{needs}
+use lib.IntN.{ℤ, natAbs}
 use lib.ListN.{length, getD, take, drop}
 use mir.Syntax.{w8}
 use mir.Val.{toZ, ofZ}
-use Rattle.frames.specs.Frame.{paneOf}
-use Rattle.frames.specs.Hex.{bytesOf}
-use Rattle.frames.proofs.FrameLaws.{pane-kept, placedTo, placed-none, placed-more, placed-all, part-length, part-at}
-use Rattle.frames.proofs.HexLaws.{chars-bytes}
+use Rattle.stacks.proofs.CoatLaws.{pane-number}
+use Rattle.perm.proofs.Signed.{mag-abs, place-back}
+use Rattle.text.specs.Frame.{paneOf}
+use Rattle.text.specs.Hex.{bytesOf}
+use Rattle.text.proofs.FrameLaws.{placedTo, placed-none, placed-more, placed-all, part-length, part-at}
+use Rattle.text.proofs.HexLaws.{chars-bytes}
 use Rattle.frames.proofs.frame.places_at.Statement.{statement}
 use Rattle.frames.proofs.frame.places_at.Tie as tie
+
+-- a pane that a byte says is written and read back as it is
+pane-kept : (b : ℕ) (z : ℤ) → z ≡ paneOf b → toZ w8 (ofZ w8 z) ≡ paneOf b
+unfolding paneOf
+pane-kept b z e = place-back z (omega (arith, mag-abs z, ap natAbs e, pane-number (b % 128) (b / 128))) ∙ e
 
 -- the panes' bytes
 abbrev part : List ℕ → ℕ → ℕ → List ℕ

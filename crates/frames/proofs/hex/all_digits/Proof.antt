@@ -8,7 +8,7 @@ use lib.ListN.{length, getD, take, drop}
 use lib.Seq.{length-take-le, getD-take}
 use Rattle.base.specs.Words.{all}
 use Rattle.perm.proofs.Places.{scan-on, scan-fails, scan-end}
-use Rattle.frames.specs.Hex.{isDigit}
+use Rattle.text.specs.Hex.{isDigit}
 use Rattle.frames.proofs.hex.all_digits.Statement.{statement}
 use Rattle.frames.proofs.hex.all_digits.Tie as tie
 

@@ -4,7 +4,7 @@ use Prim.Native.Nat.{ℕ, _+_, _*_}
 use native.Mathlib.Omega.{arith}
 use borrow.Author.Needs.{needs}
 use lib.ListN.{getD}
-use Rattle.frames.proofs.HexLaws.{digit-lt, bytes-at}
+use Rattle.text.proofs.HexLaws.{digit-lt, bytes-at}
 use Rattle.frames.proofs.hex.byte_at.Statement.{statement}
 use Rattle.frames.proofs.hex.byte_at.Tie as tie
 

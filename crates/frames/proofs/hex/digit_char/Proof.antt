@@ -1,7 +1,7 @@
 -- `frames::hex::digit_char` meets its contract.
 use borrow.Author.Needs.{needs}
 use borrow.Author.Tests.{lt-ltb, le-ltb}
-use Rattle.frames.specs.Hex.{digitChar}
+use Rattle.text.specs.Hex.{digitChar}
 use Rattle.frames.proofs.hex.digit_char.Statement.{statement}
 use Rattle.frames.proofs.hex.digit_char.Tie as tie
 

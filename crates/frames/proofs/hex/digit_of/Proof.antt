@@ -4,8 +4,8 @@ use mathlib.Core.Bool.{true}
 use native.Mathlib.Omega.{arith}
 use borrow.Author.Needs.{needs}
 use borrow.Author.Tests.{not-true, not-false}
-use Rattle.frames.specs.Hex.{isDigit}
-use Rattle.frames.proofs.HexLaws.{digit-none, digit-low, digit-high, digit-decimal, digit-letter}
+use Rattle.text.specs.Hex.{isDigit}
+use Rattle.text.proofs.HexLaws.{digit-none, digit-low, digit-high, digit-decimal, digit-letter}
 use Rattle.frames.proofs.hex.digit_of.Statement.{statement}
 use Rattle.frames.proofs.hex.digit_of.Tie as tie
 

@@ -1,7 +1,7 @@
 -- `frames::hex::is_digit` meets its contract: the four tests rise.
 use native.Mathlib.Omega.{arith}
 use borrow.Author.Tests.{le-leb, lt-leb}
-use Rattle.frames.specs.Hex.{isDigit}
+use Rattle.text.specs.Hex.{isDigit}
 use Rattle.frames.proofs.hex.is_digit.Statement.{statement}
 use Rattle.frames.proofs.hex.is_digit.Tie as tie
 

@@ -4,8 +4,8 @@ use Prim.Native.Nat.{ℕ, _+_, _*_}
 use native.Mathlib.Omega.{arith}
 use borrow.Author.Needs.{needs}
 use lib.ListN.{getD}
-use Rattle.frames.specs.Hex.{bytesOf}
-use Rattle.frames.proofs.HexLaws.{chars-bytes, number-at-is}
+use Rattle.text.specs.Hex.{bytesOf}
+use Rattle.text.proofs.HexLaws.{chars-bytes, number-at-is}
 use Rattle.frames.proofs.hex.number_at.Statement.{statement}
 use Rattle.frames.proofs.hex.number_at.Tie as tie
 

@@ -4,7 +4,7 @@ use Prim.Native.Nat.{_+_, _-_, _*_, _≤_}
 use native.Mathlib.Omega.{arith}
 use borrow.Author.Needs.{needs}
 use lib.ListN.{length, set, length-set}
-use Rattle.frames.proofs.Writing.{putTo, put-none, put-more, put-end}
+use Rattle.text.proofs.Writing.{putTo, put-none, put-more, put-end}
 use Rattle.frames.proofs.hex.put_bytes.Statement.{statement}
 use Rattle.frames.proofs.hex.put_bytes.Tie as tie
 

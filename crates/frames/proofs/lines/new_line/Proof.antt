@@ -1,6 +1,6 @@
 -- `frames::lines::new_line` meets its contract.
 use mathlib.Core.Path.{refl}
-use Rattle.frames.specs.Kept.{newLine}
+use Rattle.text.specs.Kept.{newLine}
 use Rattle.frames.proofs.lines.new_line.Statement.{statement}
 use Rattle.frames.proofs.lines.new_line.Tie as tie
 

@@ -1,6 +1,6 @@
 -- `frames::lines::push` meets its contract.
 use borrow.Author.Needs.{needs}
-use Rattle.frames.proofs.LineLaws.{push-stored, push-counted}
+use Rattle.text.proofs.LineLaws.{push-stored, push-counted}
 use Rattle.frames.proofs.lines.push.Statement.{statement}
 use Rattle.frames.proofs.lines.push.Tie as tie
 

@@ -1,7 +1,7 @@
 -- `frames::output::put_level` meets its contract.
 use borrow.Author.Needs.{needs}
-use Rattle.frames.specs.Output.{levelLine}
-use Rattle.frames.specs.Hex.{fourBytes}
+use Rattle.text.specs.Output.{levelLine}
+use Rattle.text.specs.Hex.{fourBytes}
 use Rattle.frames.proofs.output.put_level.Statement.{statement}
 use Rattle.frames.proofs.output.put_level.Tie as tie
 

@@ -1,7 +1,7 @@
 -- `frames::output::put_line` meets its contract.
 use native.Mathlib.Omega.{arith}
 use borrow.Author.Needs.{needs}
-use Rattle.frames.proofs.Writing.{hex-length, put-end-line}
+use Rattle.text.proofs.Writing.{hex-length, put-end-line}
 use Rattle.frames.proofs.output.put_line.Statement.{statement}
 use Rattle.frames.proofs.output.put_line.Tie as tie
 

@@ -1,8 +1,8 @@
 -- `frames::output::write_head` meets its contract.
 use native.Mathlib.Omega.{arith}
 use borrow.Author.Needs.{needs}
-use Rattle.frames.specs.Output.{levelLines, deepestLine}
-use Rattle.frames.proofs.Writing.{put-after, levels-most}
+use Rattle.text.specs.Output.{levelLines, deepestLine}
+use Rattle.text.proofs.Writing.{put-after, levels-most}
 use Rattle.frames.proofs.output.write_head.Statement.{statement}
 use Rattle.frames.proofs.output.write_head.Tie as tie
 

@@ -9,9 +9,9 @@ use borrow.Author.Needs.{needs}
 use lib.ListN.{length, getD, take}
 use lib.Seq.{length-take-le}
 use Rattle.search.specs.JobState.{countPlaces}
-use Rattle.frames.specs.Output.{levelLine, levelsFrom}
-use Rattle.frames.specs.Written.{textLimit, over, Put, Wrote}
-use Rattle.frames.proofs.Writing.{wrote, put-after, levels-more, levels-length, levels-all}
+use Rattle.text.specs.Output.{levelLine, levelsFrom}
+use Rattle.text.specs.Written.{textLimit, over, Put, Wrote}
+use Rattle.text.proofs.Writing.{wrote, put-after, levels-more, levels-length, levels-all}
 use Rattle.frames.proofs.output.write_levels.Statement.{statement}
 use Rattle.frames.proofs.output.write_levels.Tie as tie
 

@@ -2,9 +2,9 @@
 use mathlib.Core.Path.{refl}
 use mathlib.Core.List.{[]}
 use borrow.Author.Needs.{needs}
-use Rattle.frames.specs.Hex.{lineOf}
-use Rattle.frames.specs.Written.{over}
-use Rattle.frames.proofs.Writing.{put-after}
+use Rattle.text.specs.Hex.{lineOf}
+use Rattle.text.specs.Written.{over}
+use Rattle.text.proofs.Writing.{put-after}
 use Rattle.frames.proofs.output.write_line.Statement.{statement}
 use Rattle.frames.proofs.output.write_line.Tie as tie
 

@@ -9,8 +9,8 @@ use lib.ListN.{length, take}
 use lib.Seq.{length-take-le, take-all}
 use Rattle.base.proofs.Tests.{lt-or-ge}
 use Rattle.search.specs.Plan.{planLimit}
-use Rattle.frames.specs.Output.{planLine}
-use Rattle.frames.specs.Written.{Wrote}
+use Rattle.text.specs.Output.{planLine}
+use Rattle.text.specs.Written.{Wrote}
 use Rattle.frames.proofs.output.write_plan.Statement.{statement}
 use Rattle.frames.proofs.output.write_plan.Tie as tie
 

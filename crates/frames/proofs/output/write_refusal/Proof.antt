@@ -1,6 +1,6 @@
 -- `frames::output::write_refusal` meets its contract.
 use borrow.Author.Needs.{needs}
-use Rattle.frames.specs.Output.{refusalLine}
+use Rattle.text.specs.Output.{refusalLine}
 use Rattle.frames.proofs.output.write_refusal.Statement.{statement}
 use Rattle.frames.proofs.output.write_refusal.Tie as tie
 

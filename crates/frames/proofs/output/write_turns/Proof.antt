@@ -5,10 +5,10 @@ use Prim.Native.Nat.{ℕ}
 use native.Mathlib.Omega.{arith}
 use borrow.Author.Needs.{needs}
 use lib.ListN.{length}
-use Rattle.frames.specs.Hex.{hexOf, lineOf}
-use Rattle.frames.specs.Output.{planLine}
-use Rattle.frames.specs.Written.{over}
-use Rattle.frames.proofs.Writing.{hex-length, over-more, put-after}
+use Rattle.text.specs.Hex.{hexOf, lineOf}
+use Rattle.text.specs.Output.{planLine}
+use Rattle.text.specs.Written.{over}
+use Rattle.text.proofs.Writing.{hex-length, over-more, put-after}
 use Rattle.frames.proofs.output.write_turns.Statement.{statement}
 use Rattle.frames.proofs.output.write_turns.Tie as tie
 

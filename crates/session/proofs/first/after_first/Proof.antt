@@ -1,8 +1,8 @@
 -- `session::first::after_first` meets its contract.
 use borrow.Author.Needs.{needs}
 use mathlib.Core.Path.{ap}
-use Rattle.frames.specs.declared.Line.{Line}
-use Rattle.session.specs.Reader.{afterFirst}
+use Rattle.text.specs.declared.Line.{Line}
+use Rattle.text.specs.Reader.{afterFirst}
 use Rattle.session.proofs.first.after_first.Statement.{statement}
 use Rattle.session.proofs.first.after_first.Tie as tie
 

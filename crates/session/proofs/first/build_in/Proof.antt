@@ -4,8 +4,8 @@ use mathlib.Core.Path.{sym}
 use native.Mathlib.Omega.{arith}
 use lib.ListN.{replicate}
 use lib.Seq.{length-take-le}
-use Rattle.session.specs.Reader.{logLimit, listLimit}
-use Rattle.session.proofs.LentLaws.{built-is}
+use Rattle.text.specs.Reader.{logLimit, listLimit}
+use Rattle.text.proofs.LentLaws.{built-is}
 use Rattle.session.proofs.first.build_in.Statement.{statement}
 use Rattle.session.proofs.first.build_in.Tie as tie
 

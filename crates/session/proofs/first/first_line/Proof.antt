@@ -1,6 +1,6 @@
 -- `session::first::first_line` meets its contract.
 use borrow.Author.Needs.{needs}
-use Rattle.session.proofs.ReadLaws.{shows-refused, shows-accepted}
+use Rattle.text.proofs.ReadLaws.{shows-refused, shows-accepted}
 use Rattle.session.proofs.first.first_line.Statement.{statement}
 use Rattle.session.proofs.first.first_line.Tie as tie
 

@@ -3,9 +3,9 @@ use borrow.Author.Needs.{needs}
 use mathlib.Core.Path.{subst}
 use mathlib.Core.List.{_++_}
 use Prim.Native.Nat.{ℕ}
-use Rattle.frames.specs.Output.{levelLines, deepestLine}
-use Rattle.frames.specs.Written.{Wrote}
-use Rattle.session.specs.Report.{headText}
+use Rattle.text.specs.Output.{levelLines, deepestLine}
+use Rattle.text.specs.Written.{Wrote}
+use Rattle.text.specs.Report.{headText}
 use Rattle.session.proofs.first.head_text.Statement.{statement}
 use Rattle.session.proofs.first.head_text.Tie as tie
 

@@ -1,9 +1,9 @@
 -- `session::input::byte_read` meets its contract.
 use borrow.Author.Needs.{needs}
 use mathlib.Core.Path.{ap, _∙_}
-use Rattle.frames.specs.Kept.{pushed}
-use Rattle.session.specs.Reader.{withLine}
-use Rattle.session.proofs.ReadLaws.{shown-as, byte-end, byte-more, shows-quiet}
+use Rattle.text.specs.Kept.{pushed}
+use Rattle.text.specs.Reader.{withLine}
+use Rattle.text.proofs.ReadLaws.{shown-as, byte-end, byte-more, shows-quiet}
 use Rattle.session.proofs.input.byte_read.Statement.{statement}
 use Rattle.session.proofs.input.byte_read.Tie as tie
 

@@ -1,9 +1,9 @@
 -- `session::input::end_read` meets its contract.
 use mathlib.Core.Path.{sym, ap, _∙_}
 use borrow.Author.Needs.{needs}
-use Rattle.frames.specs.Kept.{newLine}
-use Rattle.session.specs.Reader.{withLine}
-use Rattle.session.proofs.ReadLaws.{shown-as, end-missing, end-last, end-quiet, shows-quiet}
+use Rattle.text.specs.Kept.{newLine}
+use Rattle.text.specs.Reader.{withLine}
+use Rattle.text.proofs.ReadLaws.{shown-as, end-missing, end-last, end-quiet, shows-quiet}
 use Rattle.session.proofs.input.end_read.Statement.{statement}
 use Rattle.session.proofs.input.end_read.Tie as tie
 

@@ -1,7 +1,7 @@
 -- `session::input::is_over` meets its contract, case by case.
 use mathlib.Core.Path.{sym, ap}
 use borrow.Author.Needs.{needs}
-use Rattle.session.specs.Reader.{isOver}
+use Rattle.text.specs.Reader.{isOver}
 use Rattle.session.proofs.input.is_over.Statement.{statement}
 use Rattle.session.proofs.input.is_over.Tie as tie
 

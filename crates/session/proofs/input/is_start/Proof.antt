@@ -1,7 +1,7 @@
 -- `session::input::is_start` meets its contract, case by case.
 use mathlib.Core.Path.{sym, ap}
 use borrow.Author.Needs.{needs}
-use Rattle.session.specs.Reader.{isStart}
+use Rattle.text.specs.Reader.{isStart}
 use Rattle.session.proofs.input.is_start.Statement.{statement}
 use Rattle.session.proofs.input.is_start.Tie as tie
 

@@ -3,8 +3,8 @@ use borrow.Author.Needs.{needs}
 use mathlib.Core.Path.{sym, ap, _∙_}
 use native.Mathlib.Omega.{arith}
 use lib.Seq.{length-take-le}
-use Rattle.session.specs.Reader.{withLine}
-use Rattle.session.proofs.ReadLaws.{shows-later}
+use Rattle.text.specs.Reader.{withLine}
+use Rattle.text.proofs.ReadLaws.{shows-later}
 use Rattle.session.proofs.input.later_line.Statement.{statement}
 use Rattle.session.proofs.input.later_line.Tie as tie
 

@@ -1,9 +1,9 @@
 -- `session::input::line_read` meets its contract.
 use mathlib.Core.Path.{ap, _∙_}
 use borrow.Author.Needs.{needs}
-use Rattle.frames.specs.Kept.{newLine}
-use Rattle.session.specs.Reader.{withLine}
-use Rattle.session.proofs.ReadLaws.{shown-as, line-first, line-later, line-over, shows-quiet}
+use Rattle.text.specs.Kept.{newLine}
+use Rattle.text.specs.Reader.{withLine}
+use Rattle.text.proofs.ReadLaws.{shown-as, line-first, line-later, line-over, shows-quiet}
 use Rattle.session.proofs.input.line_read.Statement.{statement}
 use Rattle.session.proofs.input.line_read.Tie as tie
 

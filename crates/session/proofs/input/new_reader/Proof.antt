@@ -4,9 +4,9 @@ use mathlib.Core.Path.{ap}
 use lib.IntN.{pos}
 use lib.ListN.{replicate}
 use Rattle.stacks.specs.Stack.{stackPlaces}
-use Rattle.frames.specs.declared.Line.{Line}
-use Rattle.session.specs.Reader.{newReader}
-use Rattle.session.specs.declared.Stage.the-variants.{Start}
+use Rattle.text.specs.declared.Line.{Line}
+use Rattle.text.specs.Reader.{newReader}
+use Rattle.text.specs.declared.Stage.the-variants.{Start}
 use Rattle.session.proofs.input.new_reader.Statement.{statement}
 use Rattle.session.proofs.input.new_reader.Tie as tie
 

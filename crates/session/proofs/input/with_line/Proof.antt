@@ -1,6 +1,6 @@
 -- `session::input::with_line` meets its contract.
 use mathlib.Core.Path.{refl}
-use Rattle.session.specs.Reader.{withLine}
+use Rattle.text.specs.Reader.{withLine}
 use Rattle.session.proofs.input.with_line.Statement.{statement}
 use Rattle.session.proofs.input.with_line.Tie as tie
 

@@ -1,7 +1,7 @@
 -- `session::later::later_text` meets its contract.
-use Rattle.session.proofs.AnswerLaws.{wrote-same, later-refused, later-accepted}
+use Rattle.text.proofs.AnswerLaws.{wrote-same, later-refused, later-accepted}
 use borrow.Author.Needs.{needs}
-use Rattle.frames.specs.Kept.{textOf}
+use Rattle.text.specs.Kept.{textOf}
 use Rattle.session.proofs.later.later_text.Statement.{statement}
 use Rattle.session.proofs.later.later_text.Tie as tie
 

@@ -1,5 +1,5 @@
 -- `session::later::plan_text` meets its contract.
-use Rattle.session.proofs.AnswerLaws.{wrote-same, plan-refused, plan-accepted}
+use Rattle.text.proofs.AnswerLaws.{wrote-same, plan-refused, plan-accepted}
 use mathlib.Core.Path.{ap, _∙_}
 use Prim.Native.Nat.{ℕ}
 use lib.ListN.{replicate}

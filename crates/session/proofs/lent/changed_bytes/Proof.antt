@@ -5,8 +5,8 @@ use native.Mathlib.Omega.{arith}
 use borrow.Author.Tests.{not-true, not-false}
 use Rattle.search.specs.Changed.{listBytes}
 use Rattle.search.specs.Segments.{stackCountIn}
-use Rattle.session.specs.Report.{isReported}
-use Rattle.session.proofs.LentLaws.{reported-panes, changed-none, changed-some}
+use Rattle.text.specs.Report.{isReported}
+use Rattle.text.proofs.LentLaws.{reported-panes, changed-none, changed-some}
 use borrow.Author.Needs.{needs}
 use Rattle.session.proofs.lent.changed_bytes.Statement.{statement}
 use Rattle.session.proofs.lent.changed_bytes.Tie as tie

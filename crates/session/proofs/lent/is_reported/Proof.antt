@@ -1,7 +1,7 @@
 -- `session::lent::is_reported` meets its contract.
 use borrow.Author.Tests.{not-true, not-false}
 use mathlib.Core.Path.{sym, _∙_}
-use Rattle.session.proofs.LentLaws.{reported-none, reported-some}
+use Rattle.text.proofs.LentLaws.{reported-none, reported-some}
 use borrow.Author.Needs.{needs}
 use Rattle.session.proofs.lent.is_reported.Statement.{statement}
 use Rattle.session.proofs.lent.is_reported.Tie as tie

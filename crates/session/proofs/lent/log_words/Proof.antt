@@ -7,8 +7,8 @@ use borrow.Author.Tests.{not-true, not-false}
 use Rattle.stacks.specs.Stack.{stackCount}
 use Rattle.search.specs.Segments.{segmentCount, isSegmentSize}
 use Rattle.search.proofs.SegmentLaws.{segment-size-facts}
-use Rattle.session.specs.Report.{isReported}
-use Rattle.session.proofs.LentLaws.{reported-panes, log-unreported, log-none, log-some}
+use Rattle.text.specs.Report.{isReported}
+use Rattle.text.proofs.LentLaws.{reported-panes, log-unreported, log-none, log-some}
 use Rattle.session.proofs.lent.log_words.Statement.{statement}
 use Rattle.session.proofs.lent.log_words.Tie as tie
 

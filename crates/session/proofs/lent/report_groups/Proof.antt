@@ -3,8 +3,8 @@ use mathlib.Core.Path.{_≡_, sym, _∙_}
 use mathlib.Core.Bool.{true}
 use borrow.Author.Needs.{needs}
 use borrow.Author.Tests.{not-true, not-false}
-use Rattle.session.specs.Report.{isReported}
-use Rattle.session.proofs.LentLaws.{reported-panes, groups-none, groups-some}
+use Rattle.text.specs.Report.{isReported}
+use Rattle.text.proofs.LentLaws.{reported-panes, groups-none, groups-some}
 use Rattle.session.proofs.lent.report_groups.Statement.{statement}
 use Rattle.session.proofs.lent.report_groups.Tie as tie
 

@@ -4,8 +4,8 @@ use mathlib.Core.Bool.{true}
 use native.Mathlib.Omega.{arith}
 use borrow.Author.Tests.{not-true, not-false}
 use Rattle.search.specs.Entries.{bytesFor}
-use Rattle.session.specs.Report.{isReported}
-use Rattle.session.proofs.LentLaws.{reported-panes, table-none, table-some}
+use Rattle.text.specs.Report.{isReported}
+use Rattle.text.proofs.LentLaws.{reported-panes, table-none, table-some}
 use borrow.Author.Needs.{needs}
 use Rattle.session.proofs.lent.table_bytes.Statement.{statement}
 use Rattle.session.proofs.lent.table_bytes.Tie as tie

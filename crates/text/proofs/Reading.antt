@@ -12,23 +12,23 @@ use borrow.Author.Tests.{eq-eqb, ne-eqb}
 use Rattle.base.proofs.Tests.{eq-or-ne, test-cases, never}
 use Rattle.search.specs.declared.Job.{Job}
 use Rattle.base.specs.Words.{all}
-use Rattle.frames.specs.Frame.{isFrame, bytesRefusal, firstRefusal, firstOf}
-use Rattle.frames.specs.Hex.{isPairs, bytesOf}
-use Rattle.frames.specs.Kept.{newLine, pushed, textOf}
-use Rattle.frames.specs.Lines.{inFirst, linesOf}
-use Rattle.frames.specs.Output.{refusalLine}
-use Rattle.frames.specs.declared.First.{First}
-use Rattle.frames.specs.declared.Line.{Line}
-use Rattle.frames.proofs.Feeding.{reading, stepped, fed, ended, handled, read-lines}
-use Rattle.frames.proofs.LineLaws.{pushedAll, keptOf}
-use Rattle.frames.proofs.FrameRefusals.{kept-first, kept-later}
-use Rattle.session.specs.Report.{tableBytes, builtIn, headText, laterText, laterTexts, reportFrom, reportOf}
-use Rattle.session.specs.Reader.{Effect, isStart, newReader, withLine, afterFirst, firstTaken, firstLeft, firstRead, firstLine, laterLine, quiet, lineAs, lineRead, byteRead, endRead, printedAll}
-use Rattle.session.specs.declared.Reader.{Reader}
-use Rattle.session.specs.declared.Stage.{Stage}
-use Rattle.session.specs.declared.Stage.the-variants.{Start, Later, Over}
-use Rattle.session.proofs.AnswerLaws.{frameSaid}
-use Rattle.session.proofs.ReadLaws.{line-first, line-later, line-over, end-missing, end-last, end-quiet}
+use Rattle.text.specs.Frame.{isFrame, bytesRefusal, firstRefusal, firstOf}
+use Rattle.text.specs.Hex.{isPairs, bytesOf}
+use Rattle.text.specs.Kept.{newLine, pushed, textOf}
+use Rattle.text.specs.Lines.{inFirst, linesOf}
+use Rattle.text.specs.Output.{refusalLine}
+use Rattle.text.specs.declared.First.{First}
+use Rattle.text.specs.declared.Line.{Line}
+use Rattle.text.proofs.Feeding.{reading, stepped, fed, ended, handled, read-lines}
+use Rattle.text.proofs.LineLaws.{pushedAll, keptOf}
+use Rattle.text.proofs.FrameRefusals.{kept-first, kept-later}
+use Rattle.text.specs.Report.{tableBytes, builtIn, headText, laterText, laterTexts, reportFrom, reportOf}
+use Rattle.text.specs.Reader.{Effect, isStart, newReader, withLine, afterFirst, firstTaken, firstLeft, firstRead, firstLine, laterLine, quiet, lineAs, lineRead, byteRead, endRead, printedAll}
+use Rattle.text.specs.declared.Reader.{Reader}
+use Rattle.text.specs.declared.Stage.{Stage}
+use Rattle.text.specs.declared.Stage.the-variants.{Start, Later, Over}
+use Rattle.text.proofs.AnswerLaws.{frameSaid}
+use Rattle.text.proofs.ReadLaws.{line-first, line-later, line-over, end-missing, end-last, end-quiet}
 
 -- what was read and printed so far, and a line more
 record Sofar : Type 0 where

@@ -9,9 +9,9 @@ use native.Mathlib.Omega.{arith}
 use lib.ListN.{length, set, take, length-append, length-take, length-set}
 use lib.Seq.{set-out, take-append-le, take-suc-set, append-snoc}
 use Rattle.base.proofs.Tests.{lt-or-ge}
-use Rattle.frames.specs.Frame.{frameLimit}
-use Rattle.frames.specs.Kept.{newLine, pushed, textOf}
-use Rattle.frames.specs.declared.Line.{Line}
+use Rattle.text.specs.Frame.{frameLimit}
+use Rattle.text.specs.Kept.{newLine, pushed, textOf}
+use Rattle.text.specs.declared.Line.{Line}
 
 abbrev line-with : List ℕ → ℕ → Line
 line-with chars length = record { chars = chars; length = length }

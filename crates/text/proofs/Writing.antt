@@ -9,9 +9,9 @@ use native.Mathlib.Nat.{add-zero, zero-add}
 use lib.ListN.{length, getD, set, take, drop, length-append, length-take, take-append-drop}
 use lib.Seq.{take-suc, take-all, take-length, drop-cons, length-take-le, drop-drop, take-append-seam, drop-append-add, set-append-seam, append-snoc}
 use Rattle.search.specs.JobState.{countPlaces}
-use Rattle.frames.specs.Hex.{digitChar, hexOf, lineOf, fourBytes}
-use Rattle.frames.specs.Output.{levelLine, levelsFrom, levelLines}
-use Rattle.frames.specs.Written.{over, Put, Wrote}
+use Rattle.text.specs.Hex.{digitChar, hexOf, lineOf, fourBytes}
+use Rattle.text.specs.Output.{levelLine, levelsFrom, levelLines}
+use Rattle.text.specs.Written.{over, Put, Wrote}
 
 pub hex-length : (bs : List ℕ) → length (hexOf bs) ≡ 2 * length bs
 unfolding hexOf

@@ -14,8 +14,8 @@ use lib.ListN.{length, getD, take, drop}
 use borrow.Author.Tests.{lt-ltb, le-ltb, le-leb, lt-leb, leb-true, ltb-true}
 use Rattle.base.specs.Words.{all}
 use Rattle.base.proofs.Tests.{lt-or-ge, and-left, and-right, test-cases}
-use Rattle.frames.specs.Frame.{frameLimit, frameBytes}
-use Rattle.frames.specs.Hex.{isDigit, digitOf, digitChar, isByte, bytesOf, hexOf, lineOf, numberFrom, numberOf, fourBytes}
+use Rattle.text.specs.Frame.{frameLimit, frameBytes}
+use Rattle.text.specs.Hex.{isDigit, digitOf, digitChar, isByte, bytesOf, hexOf, lineOf, numberFrom, numberOf, fourBytes}
 
 -- ---- digits
 

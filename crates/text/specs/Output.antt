@@ -2,7 +2,7 @@
 use mathlib.Core.List.{List, [], _∷_, _++_}
 use Prim.Native.Nat.{ℕ, suc}
 use lib.ListN.{length, take}
-use Rattle.frames.specs.Hex.{lineOf, fourBytes}
+use Rattle.text.specs.Hex.{lineOf, fourBytes}
 
 -- a level's number and its count
 unfoldable pub levelLine : ℕ → ℕ → List ℕ

@@ -10,10 +10,10 @@ use borrow.Author.Tests.{eq-eqb, ne-eqb}
 use Rattle.stacks.specs.declared.Stacked.{Stacked}
 use Rattle.search.specs.Plan.{planOf, planLimit}
 use Rattle.search.specs.declared.Planned.{Planned}
-use Rattle.frames.specs.Frame.{laterOf}
-use Rattle.frames.specs.Output.{planLine, refusalLine}
-use Rattle.frames.specs.Written.{Wrote}
-use Rattle.session.specs.Report.{reportGroups, planText, laterText}
+use Rattle.text.specs.Frame.{laterOf}
+use Rattle.text.specs.Output.{planLine, refusalLine}
+use Rattle.text.specs.Written.{Wrote}
+use Rattle.text.specs.Report.{reportGroups, planText, laterText}
 
 -- what was written is the text under another name
 pub wrote-same : (text other before after : List ℕ) (r : ℕ) → text ≡ other → Wrote text before after r → Wrote other before after r

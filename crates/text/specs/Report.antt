@@ -22,9 +22,9 @@ use Rattle.search.specs.JobState.{levelOf}
 use Rattle.search.specs.Plan.{planOf, planLimit}
 use Rattle.search.specs.Segments.{segmentCount, stackCountIn, isSegmentSize}
 use Rattle.search.specs.declared.Job.{Job}
-use Rattle.frames.specs.Frame.{stackLimit, reportRoom, firstOf, laterOf}
-use Rattle.frames.specs.Output.{levelLines, deepestLine, planLine, refusalLine}
-use Rattle.frames.specs.declared.First.{First}
+use Rattle.text.specs.Frame.{stackLimit, reportRoom, firstOf, laterOf}
+use Rattle.text.specs.Output.{levelLines, deepestLine, planLine, refusalLine}
+use Rattle.text.specs.declared.First.{First}
 
 module _ (kind n : ℕ) where
   unfoldable pub isReported : Bool

@@ -6,31 +6,22 @@ use Prim.Native.Nat.{ℕ, suc, _+_, _-_, _*_, _/_, _%_, _≤_, _<_}
 use native.Mathlib.Numerals.{add-one}
 use native.Mathlib.Omega.{arith}
 use lib.Dec.{leb, eqb}
-use lib.IntN.{ℤ, pos, natAbs}
+use lib.IntN.{ℤ, pos}
 use lib.ListN.{length, getD, set, take, drop, replicate, length-map, length-drop}
 use lib.Seq.{take-suc, take-length, length-take-le, getD-take, getD-drop, set-at, append-snoc}
-use mir.Syntax.{w8}
-use mir.Val.{toZ, ofZ}
 use borrow.Author.Tests.{le-leb, lt-leb, leb-true, eq-eqb, ne-eqb, eqb-true}
 use Rattle.base.specs.Words.{all}
 use Rattle.base.proofs.Lists.{map-append}
 use Rattle.base.proofs.Tests.{and-left, and-right}
 use Rattle.stacks.specs.Stack.{stackPlaces}
-use Rattle.stacks.proofs.CoatLaws.{pane-number}
-use Rattle.perm.proofs.Signed.{mag-abs, place-back}
-use Rattle.frames.specs.Frame.{frameLimit, frameBytes, isFrame, paneOf, placesOf}
-use Rattle.frames.specs.Hex.{isDigit, isPairs, bytesOf}
-use Rattle.frames.specs.Kept.{textOf}
-use Rattle.frames.specs.declared.Line.{Line}
-use Rattle.frames.proofs.HexLaws.{bytes-take}
-use Rattle.frames.proofs.LineLaws.{text-length, text-short}
+use Rattle.text.specs.Frame.{frameLimit, frameBytes, isFrame, paneOf, placesOf}
+use Rattle.text.specs.Hex.{isDigit, isPairs, bytesOf}
+use Rattle.text.specs.Kept.{textOf}
+use Rattle.text.specs.declared.Line.{Line}
+use Rattle.text.proofs.HexLaws.{bytes-take}
+use Rattle.text.proofs.LineLaws.{text-length, text-short}
 
 -- ---- panes
-
--- a pane that a byte says is written and read back as it is
-pub pane-kept : (b : ℕ) (z : ℤ) → z ≡ paneOf b → toZ w8 (ofZ w8 z) ≡ paneOf b
-unfolding paneOf
-pane-kept b z e = place-back z (omega (arith, mag-abs z, ap natAbs e, pane-number (b % 128) (b / 128))) ∙ e
 
 -- the places when p panes are placed
 unfoldable pub placedTo : List ℕ → ℕ → List ℤ

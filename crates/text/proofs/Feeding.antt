@@ -10,10 +10,10 @@ use native.Mathlib.Omega.{arith}
 use lib.Dec.{eqb}
 use lib.Seq.{append-snoc}
 use borrow.Author.Tests.{ne-eqb}
-use Rattle.frames.specs.Kept.{newLine, pushed}
-use Rattle.frames.specs.Lines.{inFirst, linesOf}
-use Rattle.frames.specs.declared.Line.{Line}
-use Rattle.frames.proofs.LineLaws.{pushedAll, keptOf, kept-more, kept}
+use Rattle.text.specs.Kept.{newLine, pushed}
+use Rattle.text.specs.Lines.{inFirst, linesOf}
+use Rattle.text.specs.declared.Line.{Line}
+use Rattle.text.proofs.LineLaws.{pushedAll, keptOf, kept-more, kept}
 
 -- a state and the line in the making
 pub record Reading (A : Type 0) : Type 0 where

@@ -39,15 +39,15 @@ use Rattle.search.proofs.Terms.{termsWith, Given}
 use Rattle.search.proofs.Finishing.{plan-arrives}
 use Rattle.search.proofs.WholeTable.{build-ends, build-finishes}
 use Rattle.search.proofs.AllTurns.{few-turns}
-use Rattle.frames.specs.Frame.{stackLimit, tableLimit, reportRoom, isFrame, placesOf, kindIn, panesIn, wantedIn, sizeIn, firstWith, firstRefusal, firstOf, laterRefusal, laterOf}
-use Rattle.frames.specs.Hex.{isByte, bytesOf, fourBytes}
-use Rattle.frames.specs.Output.{levelLine, levelsFrom, levelLines, deepestLine, planLine, refusalLine}
-use Rattle.frames.proofs.FrameRefusals.{FirstPasses, first-passes, later-passes}
-use Rattle.frames.proofs.HexLaws.{number-four, line-says}
-use Rattle.session.specs.Report.{isReported, reportGroups, tableBytes, logWords, changedBytes, builtIn, headText, planText, laterTexts, reportFrom, reportOf}
-use Rattle.session.specs.Promise.{Answers, Reports}
-use Rattle.session.proofs.LentLaws.{groups-some, table-some, log-some, changed-some}
-use Rattle.session.proofs.AnswerLaws.{plan-accepted, later-accepted, later-refused}
+use Rattle.text.specs.Frame.{stackLimit, tableLimit, reportRoom, isFrame, placesOf, kindIn, panesIn, wantedIn, sizeIn, firstWith, firstRefusal, firstOf, laterRefusal, laterOf}
+use Rattle.text.specs.Hex.{isByte, bytesOf, fourBytes}
+use Rattle.text.specs.Output.{levelLine, levelsFrom, levelLines, deepestLine, planLine, refusalLine}
+use Rattle.text.proofs.FrameRefusals.{FirstPasses, first-passes, later-passes}
+use Rattle.text.proofs.HexLaws.{number-four, line-says}
+use Rattle.text.specs.Report.{isReported, reportGroups, tableBytes, logWords, changedBytes, builtIn, headText, planText, laterTexts, reportFrom, reportOf}
+use Rattle.text.specs.Promise.{Answers, Reports}
+use Rattle.text.proofs.LentLaws.{groups-some, table-some, log-some, changed-some}
+use Rattle.text.proofs.AnswerLaws.{plan-accepted, later-accepted, later-refused}
 
 -- as many turns are answered as stand at the front of the list
 front-count : (t : Bool) (r : ℕ) (turns list : List ℕ)

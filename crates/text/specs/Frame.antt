@@ -17,8 +17,8 @@ use Rattle.stacks.specs.Operations.{kindRefusal, stacked}
 use Rattle.stacks.specs.Stack.{stackPlaces, isStack, stackCount}
 use Rattle.stacks.specs.declared.Stacked.{Stacked}
 use Rattle.search.specs.Segments.{isSegmentSize}
-use Rattle.frames.specs.Hex.{isPairs, bytesOf, numberOf}
-use Rattle.frames.specs.declared.First.{First}
+use Rattle.text.specs.Hex.{isPairs, bytesOf, numberOf}
+use Rattle.text.specs.declared.First.{First}
 
 -- the limits, named once: the characters of a frame and its bytes, the most stacks that a report is made of, the bytes of their table, and C
 abbrev pub frameLimit : ℕ

@@ -12,10 +12,10 @@ use Rattle.base.specs.Words.{all, total}
 use Rattle.stacks.specs.Counts.{CountsAt}
 use Rattle.stacks.specs.Stack.{isStack, stackCount}
 use Rattle.stacks.specs.Turn.{Road, Fewest}
-use Rattle.frames.specs.Frame.{placesOf, laterRefusal}
-use Rattle.frames.specs.Hex.{isByte, bytesOf, numberOf, fourBytes}
-use Rattle.frames.specs.Output.{levelsFrom, deepestLine, planLine, refusalLine}
-use Rattle.session.specs.Report.{laterText, laterTexts}
+use Rattle.text.specs.Frame.{placesOf, laterRefusal}
+use Rattle.text.specs.Hex.{isByte, bytesOf, numberOf, fourBytes}
+use Rattle.text.specs.Output.{levelsFrom, deepestLine, planLine, refusalLine}
+use Rattle.text.specs.Report.{laterText, laterTexts}
 
 -- the answer to a later frame is the line of a road to the wanted stack, and no road has fewer turns
 pub record Answers (kind n : ℕ) (wanted : List ℤ) (table cs : List ℕ) : Type 0 where

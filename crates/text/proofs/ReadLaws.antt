@@ -8,20 +8,20 @@ use native.Mathlib.Omega.{arith}
 use lib.ListN.{length, getD, take, drop, drop-of-length-le}
 use lib.Seq.{drop-cons}
 use borrow.Author.Tests.{eq-eqb, ne-eqb, lt-ltb, le-ltb}
-use Rattle.frames.specs.Frame.{firstOf}
-use Rattle.frames.specs.Kept.{newLine, pushed, textOf}
-use Rattle.frames.specs.Output.{refusalLine}
-use Rattle.frames.specs.Written.{over, Wrote}
-use Rattle.frames.specs.declared.First.{First}
-use Rattle.frames.specs.declared.Line.{Line}
-use Rattle.frames.proofs.Writing.{wrote}
+use Rattle.text.specs.Frame.{firstOf}
+use Rattle.text.specs.Kept.{newLine, pushed, textOf}
+use Rattle.text.specs.Output.{refusalLine}
+use Rattle.text.specs.Written.{over, Wrote}
+use Rattle.text.specs.declared.First.{First}
+use Rattle.text.specs.declared.Line.{Line}
+use Rattle.text.proofs.Writing.{wrote}
 use Rattle.search.specs.declared.Job.{Job}
-use Rattle.session.specs.Report.{tableBytes, builtIn, headText, laterText}
-use Rattle.session.specs.Reader.{Effect, isStart, withLine, afterFirst, firstTaken, firstLeft, firstRead, firstLine, laterLine, quiet, lineAs, lineRead, byteRead, readAll, endRead, Shown}
-use Rattle.session.specs.declared.Printed.{Printed}
-use Rattle.session.specs.declared.Reader.{Reader}
-use Rattle.session.specs.declared.Stage.{Stage}
-use Rattle.session.specs.declared.Stage.the-variants.{Start, Later, Over}
+use Rattle.text.specs.Report.{tableBytes, builtIn, headText, laterText}
+use Rattle.text.specs.Reader.{Effect, isStart, withLine, afterFirst, firstTaken, firstLeft, firstRead, firstLine, laterLine, quiet, lineAs, lineRead, byteRead, readAll, endRead, Shown}
+use Rattle.text.specs.declared.Printed.{Printed}
+use Rattle.text.specs.declared.Reader.{Reader}
+use Rattle.text.specs.declared.Stage.{Stage}
+use Rattle.text.specs.declared.Stage.the-variants.{Start, Later, Over}
 
 pub shown-as : {e x : Effect} {r : Printed} {table before after : List ℕ} → x ≡ e → Shown x r table before after → Shown e r table before after
 shown-as {r = r} {table = table} {before = before} {after = after} same shown = subst (λ (y : Effect). Shown y r table before after) same shown

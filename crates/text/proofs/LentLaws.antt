@@ -18,9 +18,9 @@ use Rattle.search.specs.Entries.{bytesFor}
 use Rattle.search.specs.Segments.{segmentCount, stackCountIn, isSegmentSize}
 use Rattle.search.specs.declared.Answer.{Answer}
 use Rattle.search.proofs.SegmentLaws.{segment-size-facts}
-use Rattle.frames.specs.Frame.{stackLimit, tableLimit, reportRoom}
-use Rattle.session.specs.Report.{isReported, reportGroups, tableBytes, logWords, changedBytes, builtIn}
-use Rattle.session.specs.Reader.{logLimit, listLimit}
+use Rattle.text.specs.Frame.{stackLimit, tableLimit, reportRoom}
+use Rattle.text.specs.Report.{isReported, reportGroups, tableBytes, logWords, changedBytes, builtIn}
+use Rattle.text.specs.Reader.{logLimit, listLimit}
 
 pub reported-panes : (kind n : ℕ) → isReported kind n ≡ true → isPaneCount kind n ≡ true
 unfolding isReported

@@ -17,14 +17,14 @@ use Rattle.stacks.specs.Stack.{stackPlaces, isKind, isPaneCount, isStack, stack
 use Rattle.stacks.proofs.Panes.{stack-facts}
 use Rattle.stacks.proofs.KindLaws.{panes-twelve}
 use Rattle.search.specs.Segments.{isSegmentSize}
-use Rattle.frames.specs.Frame.{frameLimit, stackLimit, isFrame, paneOf, placesOf, kindIn, panesIn, wantedIn, sizeIn, fieldsRefusal, bytesRefusal, firstRefusal, firstWith, firstOf, laterRefusal, laterOf}
-use Rattle.frames.specs.Hex.{bytesOf, numberOf}
-use Rattle.frames.specs.Kept.{textOf}
-use Rattle.frames.specs.declared.First.{First}
-use Rattle.frames.specs.declared.Line.{Line}
-use Rattle.frames.proofs.FrameLaws.{frame-count, frame-bytes}
-use Rattle.frames.proofs.HexLaws.{chars-bytes}
-use Rattle.frames.proofs.LineLaws.{keptOf, kept-says}
+use Rattle.text.specs.Frame.{frameLimit, stackLimit, isFrame, paneOf, placesOf, kindIn, panesIn, wantedIn, sizeIn, fieldsRefusal, bytesRefusal, firstRefusal, firstWith, firstOf, laterRefusal, laterOf}
+use Rattle.text.specs.Hex.{bytesOf, numberOf}
+use Rattle.text.specs.Kept.{textOf}
+use Rattle.text.specs.declared.First.{First}
+use Rattle.text.specs.declared.Line.{Line}
+use Rattle.text.proofs.FrameLaws.{frame-count, frame-bytes}
+use Rattle.text.proofs.HexLaws.{chars-bytes}
+use Rattle.text.proofs.LineLaws.{keptOf, kept-says}
 
 drop-take : (i k : ℕ) (xs : List ℕ) → drop i (take (i + k) xs) ≡ take k (drop i xs)
 drop-take zero k xs = rw (zero-add k)

@@ -14,17 +14,17 @@ use lib.Dec.{ltb, eqb}
 use lib.IntN.{pos}
 use lib.ListN.{take, replicate}
 use Rattle.stacks.specs.Stack.{stackPlaces}
-use Rattle.frames.specs.Frame.{firstOf}
-use Rattle.frames.specs.Kept.{newLine, pushed, textOf}
-use Rattle.frames.specs.Output.{refusalLine}
-use Rattle.frames.specs.Written.{Wrote}
-use Rattle.frames.specs.declared.First.{First}
-use Rattle.frames.specs.declared.Line.{Line}
-use Rattle.session.specs.Report.{tableBytes, builtIn, headText, laterText}
-use Rattle.session.specs.declared.Printed.{Printed}
-use Rattle.session.specs.declared.Reader.{Reader}
-use Rattle.session.specs.declared.Stage.{Stage}
-use Rattle.session.specs.declared.Stage.the-variants.{Start, Later, Over}
+use Rattle.text.specs.Frame.{firstOf}
+use Rattle.text.specs.Kept.{newLine, pushed, textOf}
+use Rattle.text.specs.Output.{refusalLine}
+use Rattle.text.specs.Written.{Wrote}
+use Rattle.text.specs.declared.First.{First}
+use Rattle.text.specs.declared.Line.{Line}
+use Rattle.text.specs.Report.{tableBytes, builtIn, headText, laterText}
+use Rattle.text.specs.declared.Printed.{Printed}
+use Rattle.text.specs.declared.Reader.{Reader}
+use Rattle.text.specs.declared.Stage.{Stage}
+use Rattle.text.specs.declared.Stage.the-variants.{Start, Later, Over}
 
 abbrev pub logLimit : ℕ
 logLimit = 1024

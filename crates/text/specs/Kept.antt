@@ -5,8 +5,8 @@
 use mathlib.Core.List.{List, [], _∷_, _++_}
 use Prim.Native.Nat.{ℕ, suc, _+_, min}
 use lib.ListN.{take, set, replicate}
-use Rattle.frames.specs.Frame.{frameLimit}
-use Rattle.frames.specs.declared.Line.{Line}
+use Rattle.text.specs.Frame.{frameLimit}
+use Rattle.text.specs.declared.Line.{Line}
 
 unfoldable pub newLine : Line
 newLine = record { chars = replicate frameLimit 0; length = 0 }
