@@ -1,15 +1,23 @@
 // The report's lines, written into a lent buffer, whose other bytes stay.
-ghost use mathlib.Core.List.{_++_};
+ghost use mathlib.Core.List.{_∷_, _++_};
 ghost use mathlib.Core.Path.{_≡_};
-ghost use Rattle.text.specs.Output.{levelLine, levelLines, deepestLine, planLine, refusalLine};
+ghost use Rattle.base.specs.Words.{total};
+ghost use Rattle.text.specs.Output.{levelCounts, levelLines, deepestLine, totalLine, planLine, refusalLine};
 ghost use Rattle.text.specs.Written.{Put, Wrote};
-ghost use Rattle.text.specs.Hex.{lineOf};
-ghost use Prim.Native.Nat.{_+_, _*_, _<_, min};
+ghost use Rattle.text.specs.Hex.{lineOf, fourBytes};
+ghost use Prim.Native.Nat.{_+_, _*_, _%_, _^_, _<_, min};
 ghost use lib.ListN.{length, take};
 use crate::hex;
 use search::COUNT_PLACES;
 use search::PLAN_LIMIT;
 use text::TEXT_LIMIT;
+
+// The first byte of each line that is no level's and no plan's.
+const DEEPEST_MARK: u8 = 0xff;
+
+const TOTAL_MARK: u8 = 0xfe;
+
+const REFUSAL_MARK: u8 = 0xee;
 
 // The digits of a line's bytes and its end, from place at on. The answer is the place after them.
 pub(crate) fn put_line(out: &mut [u8], at: usize, bytes: &[u8]) -> usize
@@ -21,17 +29,17 @@ pub(crate) fn put_line(out: &mut [u8], at: usize, bytes: &[u8]) -> usize
     end + 1
 }
 
-// A level's number and its count, of which four bytes are written.
-pub(crate) fn put_level(out: &mut [u8], at: usize, level: u8, count: u64) -> usize
+// A byte and a number, of which four bytes are written: a level and its count, or fe and the total.
+pub(crate) fn put_number(out: &mut [u8], at: usize, first: u8, number: u64) -> usize
     requires { ⌜ at + 10 < length (now out) ⌝ }
-    ensures { λ r. ⌜ Put (levelLine level count) at (now (out .entry)) (now (out .exit)) r ⌝ }
+    ensures { λ r. ⌜ Put (lineOf (first ∷ fourBytes number)) at (now (out .entry)) (now (out .exit)) r ⌝ }
 {
     let bytes = [
-        level,
-        (count / 16777216 % 256) as u8,
-        (count / 65536 % 256) as u8,
-        (count / 256 % 256) as u8,
-        (count % 256) as u8,
+        first,
+        (number / 16777216 % 256) as u8,
+        (number / 65536 % 256) as u8,
+        (number / 256 % 256) as u8,
+        (number % 256) as u8,
     ];
     put_line(out, at, &bytes)
 }
@@ -48,7 +56,7 @@ pub(crate) fn write_levels(
     let mut at: usize = 0;
     let mut level: usize = 0;
     while level <= last && level < COUNT_PLACES {
-        at = put_level(out, at, level as u8, counts[level]);
+        at = put_number(out, at, level as u8, counts[level]);
         level += 1;
     }
     at
@@ -62,20 +70,35 @@ pub(crate) fn write_line(out: &mut [u8], bytes: &[u8]) -> usize
     put_line(out, 0, bytes)
 }
 
-// The levels, and after them ff and the deepest: what a finished build found. The answer is how long it is.
-pub fn write_head(out: &mut [u8; TEXT_LIMIT], counts: [u64; COUNT_PLACES], deepest: u8) -> usize
-    ensures { λ r. ⌜ Wrote (levelLines deepest counts ++ deepestLine deepest) (now (out .entry)) (now (out .exit)) r ⌝ }
+// The sum of the counts of levels 0 to the deepest. Four bytes of it are printed, so that it may wrap.
+pub(crate) fn total_of(counts: [u64; COUNT_PLACES], deepest: u8) -> u64
+    ensures { λ r. ⌜ r ≡ total (levelCounts deepest counts) % 2 ^ 64 ⌝ }
 {
-    let at = write_levels(out, counts, deepest);
-    let bytes = [255, deepest];
-    put_line(out, at, &bytes)
+    let last = deepest as usize;
+    let mut sum: u64 = 0;
+    let mut level: usize = 0;
+    while level <= last {
+        sum = std::num::wrapping_add_u64(sum, counts[level]);
+        level += 1;
+    }
+    sum
+}
+
+// The levels, ff and the deepest, fe and the total: what a finished build found. The answer is how long it is.
+pub fn write_head(out: &mut [u8; TEXT_LIMIT], counts: [u64; COUNT_PLACES], deepest: u8) -> usize
+    ensures { λ r. ⌜ Wrote (levelLines deepest counts ++ deepestLine deepest ++ totalLine (total (levelCounts deepest counts))) (now (out .entry)) (now (out .exit)) r ⌝ }
+{
+    let levels = write_levels(out, counts, deepest);
+    let bytes = [DEEPEST_MARK, deepest];
+    let at = put_line(out, levels, &bytes);
+    put_number(out, at, TOTAL_MARK, total_of(counts, deepest))
 }
 
 // ee and the refusal's number.
 pub fn write_refusal(out: &mut [u8; TEXT_LIMIT], refusal: u8) -> usize
     ensures { λ r. ⌜ Wrote (refusalLine refusal) (now (out .entry)) (now (out .exit)) r ⌝ }
 {
-    let bytes = [238, refusal];
+    let bytes = [REFUSAL_MARK, refusal];
     write_line(out, &bytes)
 }
 

@@ -1,4 +1,4 @@
-// The report: frames from standard input, one a line; levels, plans and refusals to standard output, one a line.
+// The report: frames from standard input, one a line; levels, their total, plans and refusals to standard output, one a line.
 ghost use mathlib.Core.Path.{_≡_};
 ghost use lib.ListN.{length};
 ghost use Rattle.text.specs.Frame.{tableLimit};

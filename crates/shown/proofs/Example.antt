@@ -10,11 +10,11 @@ use lib.ListN.{length, replicate}
 use Rattle.text.specs.Frame.{tableLimit}
 use Rattle.text.specs.Hex.{bytesOf, fourBytes}
 use Rattle.text.specs.Lines.{linesOf}
-use Rattle.text.specs.Output.{levelLine, planLine}
+use Rattle.text.specs.Output.{levelLine, totalLine, planLine}
 use Rattle.text.specs.Promise.{Answers, Reports}
 use Rattle.text.specs.Reader.{newReader, printedAll}
 use Rattle.text.specs.Report.{reportOf}
-use Rattle.text.proofs.Meaning.{report-means, report-refused, answer-says, level-says}
+use Rattle.text.proofs.Meaning.{report-means, report-refused, answer-says, level-says, total-says}
 use Rattle.text.proofs.Reading.{read-report}
 use Rattle.shown.proofs.Open.{report-open}
 
@@ -29,7 +29,7 @@ input = codes "000301020300000004\n030102\n010302\n010203\n010103\n"
 
 output : List ℕ
 unfolding codes
-output = codes "0000000001\n0100000002\n0200000002\n0300000001\nff03\n020302\n03030203\n00\nee03\n"
+output = codes "0000000001\n0100000002\n0200000002\n0300000001\nff03\nfe00000006\n020302\n03030203\n00\nee03\n"
 
 report : List ℕ → List ℕ → List ℕ
 unfolding report-open
@@ -54,11 +54,12 @@ laterLines : List (List ℕ)
 unfolding codes
 laterLines = codes "030102" ∷ codes "010302" ∷ codes "010203" ∷ codes "010103" ∷ []
 
--- those lines of output are the counts and the plans of plain 3 and 1 2 3: the theorem `report-means`
-means : (a b : ℕ) (rest : List ℕ) → length (a ∷ b ∷ rest) ≡ tableLimit → Reports 0 3 (pos 1 ∷ pos 2 ∷ pos 3 ∷ replicate 9 (pos 0)) laterLines output
+-- those lines of output are the counts, their total and the plans of plain 3 and 1 2 3, whose table is 90 f6: the theorem `report-means`
+means : (a b : ℕ) (rest : List ℕ) → length (a ∷ b ∷ rest) ≡ tableLimit
+    → Reports 0 3 (pos 1 ∷ pos 2 ∷ pos 3 ∷ replicate 9 (pos 0)) (144 ∷ 246 ∷ []) laterLines output
 unfolding report input firstLine laterLines
 means a b rest long =
-    subst (Reports 0 3 (pos 1 ∷ pos 2 ∷ pos 3 ∷ replicate 9 (pos 0)) laterLines) (prints a b rest)
+    subst (Reports 0 3 (pos 1 ∷ pos 2 ∷ pos 3 ∷ replicate 9 (pos 0)) (144 ∷ 246 ∷ []) laterLines) (prints a b rest)
     (report-means (a ∷ b ∷ rest) firstLine laterLines long refl)
 
 -- with thirteen panes the first frame is refused, and nothing follows: the theorem `report-refused`
@@ -66,10 +67,13 @@ refused : (table : List ℕ) → reportOf table (codes "000d" ∷ codes "010203"
 unfolding report codes
 refused table = report-refused table (codes "000d") (codes "010203" ∷ []) (λ h. omega (arith, h))
 
--- a plan and a level can be read back from their lines: the theorems `answer-says` and `level-says`
+-- a plan, a level and the total can be read back from their lines: the theorems `answer-says`, `level-says` and `total-says`
 plan-back : {kind n : ℕ} {wanted : List ℤ} {table cs : List ℕ} (answer : Answers kind n wanted table cs)
     → bytesOf (planLine (answer .turns)) ≡ length (answer .turns) ∷ answer .turns
 plan-back answer = answer-says answer
 
 level-back : (d count : ℕ) → d < 256 → bytesOf (levelLine d count) ≡ d ∷ fourBytes count
 level-back = level-says
+
+total-back : (sum : ℕ) → bytesOf (totalLine sum) ≡ 254 ∷ fourBytes sum
+total-back = total-says

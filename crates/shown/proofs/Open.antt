@@ -19,11 +19,11 @@ unfolding Frame.fieldsRefusal Frame.bytesRefusal Frame.firstRefusal Frame.firstO
 frames = tt
 
 lines : Unit {0}
-unfolding Output.levelLine Output.levelsFrom Output.levelLines Output.deepestLine Output.planLine Output.refusalLine
+unfolding Output.levelLine Output.levelsFrom Output.levelLines Output.deepestLine Output.totalLine Output.planLine Output.refusalLine
 lines = tt
 
 answers : Unit {0}
-unfolding Report.isReported Report.reportGroups Report.tableBytes Report.logWords Report.changedBytes Report.builtIn Report.headText Report.planText Report.laterText Report.laterTexts
+unfolding Report.isReported Report.reportGroups Report.tableBytes Report.logWords Report.changedBytes Report.builtIn Report.printedTotal Report.headText Report.planText Report.laterText Report.laterTexts
 answers = tt
 
 unfoldable pub report-open : Unit {0}

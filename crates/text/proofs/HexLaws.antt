@@ -3,7 +3,7 @@ use mathlib.Core.Path.{_≡_, refl, ap, ap₂, _∙_}
 use mathlib.Core.Logic.{_⊎_, inl, inr}
 use mathlib.Core.Bool.{Bool, true, false, _&&_, _||_}
 use mathlib.Core.List.{List, [], _∷_}
-use Prim.Native.Nat.{ℕ, zero, suc, _+_, _-_, _*_, _/_, _%_, _≤_, _<_}
+use Prim.Native.Nat.{ℕ, zero, suc, _+_, _-_, _*_, _/_, _%_, _^_, _≤_, _<_}
 use native.Mathlib.Nat.{not-suc-le-zero, zero-add, div-div-eq-div-mul}
 use native.Mathlib.Numerals.{add-one}
 use native.Mathlib.Omega.{arith}
@@ -138,6 +138,16 @@ number-four x =
       ← mod-mul (x / 256) {m = 65536} {c = 256} (omega arith) (omega arith),
       ← mod-mul x {m = 16777216} {c = 256} (omega arith) (omega arith),
     )
+
+-- a number that wraps at 2 ^ 64 has the same four bytes
+pub four-wraps : (x : ℕ) → fourBytes (x % 2 ^ 64) ≡ fourBytes x
+unfolding fourBytes
+four-wraps x =
+    let a : x % 2 ^ 64 / 16777216 % 256 ≡ x / 16777216 % 256 = omega arith in
+    let b : x % 2 ^ 64 / 65536 % 256 ≡ x / 65536 % 256 = omega arith in
+    let c : x % 2 ^ 64 / 256 % 256 ≡ x / 256 % 256 = omega arith in
+    let d : x % 2 ^ 64 % 256 ≡ x % 256 = omega arith in
+    rw (a, b, c, d)
 
 -- ---- to hexadecimal and back
 

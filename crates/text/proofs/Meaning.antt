@@ -1,5 +1,5 @@
 -- What a report means: the table of an accepted first frame is that of a finished build, so the levels are its levels and the plans are shortest.
-use mathlib.Core.Path.{_≡_, refl, sym, ap, ap₂, subst, _∙_}
+use mathlib.Core.Path.{_≡_, refl, sym, ap, subst, _∙_}
 use mathlib.Core.Logic.{_⊎_, inl, inr}
 use mathlib.Core.Bool.{Bool, true, false, cond}
 use mathlib.Core.List.{List, [], _∷_, _++_}
@@ -24,7 +24,7 @@ use Rattle.stacks.proofs.TurnLaws.{turn-last}
 use Rattle.search.specs.Build.{World}
 use Rattle.search.specs.Changed.{listBytes}
 use Rattle.search.specs.Drive.{buildRefusal, built, buildOf, Builds}
-use Rattle.search.specs.Entries.{bytesFor}
+use Rattle.search.specs.Entries.{seenIn, bytesFor}
 use Rattle.search.specs.JobState.{lastLevel, countOf, levelOf}
 use Rattle.search.specs.Plan.{planOf, planLimit, planRefusal, routeFrom}
 use Rattle.search.specs.Promise.{rightWords, Plans, Finishes}
@@ -40,11 +40,11 @@ use Rattle.search.proofs.Finishing.{plan-arrives}
 use Rattle.search.proofs.WholeTable.{build-ends, build-finishes}
 use Rattle.search.proofs.AllTurns.{few-turns}
 use Rattle.text.specs.Frame.{stackLimit, tableLimit, reportRoom, isFrame, placesOf, kindIn, panesIn, wantedIn, sizeIn, firstWith, firstRefusal, firstOf, laterRefusal, laterOf}
-use Rattle.text.specs.Hex.{isByte, bytesOf, fourBytes}
-use Rattle.text.specs.Output.{levelLine, levelsFrom, levelLines, deepestLine, planLine, refusalLine}
+use Rattle.text.specs.Hex.{isByte, bytesOf, lineOf, fourBytes}
+use Rattle.text.specs.Output.{levelLine, levelsFrom, levelCounts, levelLines, deepestLine, totalLine, planLine, refusalLine}
 use Rattle.text.proofs.FrameRefusals.{FirstPasses, first-passes, later-passes}
 use Rattle.text.proofs.HexLaws.{number-four, line-says}
-use Rattle.text.specs.Report.{isReported, reportGroups, tableBytes, logWords, changedBytes, builtIn, headText, planText, laterTexts, reportFrom, reportOf}
+use Rattle.text.specs.Report.{isReported, reportGroups, tableBytes, logWords, changedBytes, builtIn, printedTotal, headText, planText, laterTexts, reportFrom, reportOf}
 use Rattle.text.specs.Promise.{Answers, Reports}
 use Rattle.text.proofs.LentLaws.{groups-some, table-some, log-some, changed-some}
 use Rattle.text.proofs.AnswerLaws.{plan-accepted, later-accepted, later-refused}
@@ -268,53 +268,69 @@ module _ (cs table : List ℕ) (h : firstRefusal cs ≡ 0) (long : length table 
       go (inr l) = absurd (omega (arith, some, List·getD-eq-default (end .job .counts) 0 l))
 
   abbrev shown : List ℕ
-  shown = take (suc deepest) (end .job .counts)
+  shown = levelCounts deepest (end .job .counts)
 
   shown-at : (d : ℕ) → d ≤ deepest → getD shown d 0 ≡ countOf (end .job) d
   unfolding countOf
   shown-at d l = getD-take (suc deepest) (end .job .counts) d 0 (omega arith)
 
   -- past the deepest level there is no stack to count
-  added-is : total shown ≡ stackCount kind n
+  seen-is : total shown ≡ seenIn (joined (end .segments)) (stackCount kind n)
   unfolding countOf
-  added-is =
+  seen-is =
       let past = suc deepest in
       let counts = end .job .counts in
       let rest = total-zeros (drop past counts) (λ i. getD-drop past counts i 0 ∙ finishes .past (past + i) (omega arith)) in
-      omega (arith, total-append (take past counts) (drop past counts), ap total (take-append-drop past counts), finishes .added, finishes .all-seen)
+      omega (arith, total-append (take past counts) (drop past counts), ap total (take-append-drop past counts), finishes .added)
 
-  head-is : headText (builtIn kind n wanted S table .1) ≡ levelsFrom 0 shown ++ deepestLine deepest
+  total-is : printedTotal (end .job) ≡ total shown
+  unfolding printedTotal
+  total-is = refl
+
+  added-is : total shown ≡ stackCount kind n
+  added-is = seen-is ∙ finishes .all-seen
+
+  head-is : headText (builtIn kind n wanted S table .1) ≡ levelsFrom 0 shown ++ deepestLine deepest ++ totalLine (printedTotal (end .job))
   unfolding headText levelLines
   head-is = ap (λ (x : List ℕ × Job). headText (x .1)) built-end
 
   reports : (lines : List (List ℕ)) (text : List ℕ)
-      → text ≡ headText (builtIn kind n wanted S table .1) ++ laterTexts kind n wanted (take (tableBytes kind n) (builtIn kind n wanted S table .0)) lines
-      → Reports kind n wanted lines text
+      → (let built = take (tableBytes kind n) (builtIn kind n wanted S table .0) in
+      text ≡ headText (builtIn kind n wanted S table .1) ++ laterTexts kind n wanted built lines → Reports kind n wanted built lines text)
   unfolding laterOf
-  reports lines text e =
-      record {
+  reports lines text = subst (λ (b : List ℕ). text ≡ headText (builtIn kind n wanted S table .1) ++ laterTexts kind n wanted b lines → Reports kind n wanted b lines text)
+      (sym table-is)
+      (λ e. record {
         deepest = deepest;
         counts = shown;
-        built = joined (end .segments);
-        text-is = e ∙ ap₂ (λ (a b : List ℕ). a ++ laterTexts kind n wanted b lines) head-is table-is;
+        sum = printedTotal (end .job);
+        text-is = e ∙ ap (λ (head : List ℕ). head ++ laterTexts kind n wanted (joined (end .segments)) lines) head-is;
         levels = length-take-le (suc deepest) (end .job .counts) deepest-stands;
         counted = λ d l. subst (CountsAt kind n wanted d) (sym (shown-at d l)) (counts-at d l);
         whole = λ d l. number-four (getD shown d 0) ∙ mod-eq-of-lt (omega (arith, shown-at d l, count-few d l));
         fit = omega (arith, deepest-low);
+        summed = total-is;
+        seen = total-is ∙ seen-is;
+        sum-whole = number-four (printedTotal (end .job)) ∙ mod-eq-of-lt (omega (arith, total-is, added-is, passes .few));
         added = added-is;
         reached = finishes .deepest;
         greatest = finishes .greatest;
         refused = λ ds ne. sym (later-refused kind n wanted (joined (end .segments)) ds (laterOf kind n ds) refl ne);
         planned = λ ds z. later-means end kind n wanted ds reported finishes z;
-      }
+      })
 
--- The report of an accepted first frame: its counts are the numbers of stacks at each distance, and its plans are shortest.
+-- The report of an accepted first frame: its counts are the numbers of stacks at each distance, its total is their sum and the number of
+-- entries other than 3 in the table that its build leaves, and its plans are shortest.
 pub report-means : (table cs : List ℕ) (lines : List (List ℕ)) → length table ≡ tableLimit → firstRefusal cs ≡ 0
-    → (let first = firstOf cs in Reports (first .kind) (first .n) (first .wanted) lines (reportOf table (cs ∷ lines)))
+    → (let first = firstOf cs in
+    let built = take (tableBytes (first .kind) (first .n)) (builtIn (first .kind) (first .n) (first .wanted) (first .size) table .0) in
+    Reports (first .kind) (first .n) (first .wanted) built lines (reportOf table (cs ∷ lines)))
 unfolding firstOf reportOf reportFrom
 report-means table cs lines long h =
     subst
-    (λ (r : ℕ). (let first = firstWith r (bytesOf cs) in Reports (first .kind) (first .n) (first .wanted) lines (reportFrom first table lines)))
+    (λ (r : ℕ). (let first = firstWith r (bytesOf cs) in
+    let built = take (tableBytes (first .kind) (first .n)) (builtIn (first .kind) (first .n) (first .wanted) (first .size) table .0) in
+    Reports (first .kind) (first .n) (first .wanted) built lines (reportFrom first table lines)))
     (sym h)
     (reports cs table h long lines (reportFrom (firstWith 0 (bytesOf cs)) table lines) refl)
 
@@ -324,20 +340,28 @@ pub report-refused : (table cs : List ℕ) (lines : List (List ℕ)) → (firstR
 unfolding firstOf reportOf reportFrom
 report-refused table cs lines ne = rw (ne-eqb (firstRefusal cs) 0 ne)
 
--- What is printed can be read back from its line: the number of turns and the turns, and a level's number and its count.
+-- What is printed can be read back from its line: the number of turns and the turns, a level's number and its count, and the total.
 pub answer-says : {kind n : ℕ} {wanted : List ℤ} {table cs : List ℕ} (answer : Answers kind n wanted table cs)
     → bytesOf (planLine (answer .turns)) ≡ length (answer .turns) ∷ answer .turns
 unfolding planLine
 answer-says answer = line-says (length (answer .turns) ∷ answer .turns) (answer .fit)
 
-pub level-says : (d count : ℕ) → d < 256 → bytesOf (levelLine d count) ≡ d ∷ fourBytes count
-unfolding levelLine fourBytes all isByte
-level-says d count h =
-    line-says (d ∷ fourBytes count)
+number-says : (first x : ℕ) → first < 256 → bytesOf (lineOf (first ∷ fourBytes x)) ≡ first ∷ fourBytes x
+unfolding fourBytes all isByte
+number-says first x h =
+    line-says (first ∷ fourBytes x)
     (rw (
-      lt-ltb d 256 h,
-      lt-ltb (count / 16777216 % 256) 256 (omega arith),
-      lt-ltb (count / 65536 % 256) 256 (omega arith),
-      lt-ltb (count / 256 % 256) 256 (omega arith),
-      lt-ltb (count % 256) 256 (omega arith),
+      lt-ltb first 256 h,
+      lt-ltb (x / 16777216 % 256) 256 (omega arith),
+      lt-ltb (x / 65536 % 256) 256 (omega arith),
+      lt-ltb (x / 256 % 256) 256 (omega arith),
+      lt-ltb (x % 256) 256 (omega arith),
     ))
+
+pub level-says : (d count : ℕ) → d < 256 → bytesOf (levelLine d count) ≡ d ∷ fourBytes count
+unfolding levelLine
+level-says d count h = number-says d count h
+
+pub total-says : (sum : ℕ) → bytesOf (totalLine sum) ≡ 254 ∷ fourBytes sum
+unfolding totalLine
+total-says sum = number-says 254 sum (omega arith)

@@ -101,6 +101,10 @@ wrote text before after r e f =
 
 -- ---- a line from some place on
 
+pub line-length : (bytes : List ℕ) → length (lineOf bytes) ≡ 2 * length bytes + 1
+unfolding lineOf
+line-length bytes = length-append (hexOf bytes) (10 ∷ []) ∙ omega (arith, hex-length bytes)
+
 -- the digits of a line's bytes, and its end
 pub put-end-line : (bytes out before : List ℕ) (at r : ℕ) → at + 2 * length bytes < length out → Put (hexOf bytes) at out before r
     → Put (lineOf bytes) at out (set before r 10) (r + 1)
@@ -110,9 +114,7 @@ put-end-line bytes out before at r h p =
     let head : List ℕ = take at out ++ hexOf bytes in
     let long : length head ≡ r =
     length-append (take at out) (hexOf bytes) ∙ omega (arith, length-take-le at out (omega arith), hex-length bytes) in
-    let size : length (hexOf bytes ++ (10 ∷ [])) ≡ suc (2 * length bytes) =
-    length-append (hexOf bytes) (10 ∷ []) ∙ omega (arith, hex-length bytes) in
-    let next : at + length (hexOf bytes ++ (10 ∷ [])) ≡ suc r = omega arith in
+    let next : at + length (lineOf bytes) ≡ suc r = omega (arith, line-length bytes) in
     record {
       front = ap (λ (l : List ℕ). set l r 10)
           (p .front ∙ ap (λ (k : ℕ). head ++ drop k out) (sym (p .end)) ∙ ap (λ (l : List ℕ). head ++ l) (drop-cons out r 0 (omega arith)))

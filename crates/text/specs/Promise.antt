@@ -1,7 +1,8 @@
--- What we promise of a report (document 01, "The report"): its counts are the numbers of stacks at each distance, and its plans are shortest.
+-- What we promise of a report (document 01, "The report"; document 02, F-6): its counts are the numbers of stacks at each distance, its total is
+-- their sum and the number of entries other than 3, and its plans are shortest.
 --   Answers     of a later frame that is not refused
 --   Reports     of the whole text, where the first frame is not refused
--- kind, n and wanted are the first frame's.
+-- kind, n and wanted are the first frame's; built is the table that its build leaves.
 use mathlib.Core.Path.{_≡_}
 use mathlib.Core.Bool.{true}
 use mathlib.Core.List.{List, _∷_, _++_}
@@ -12,9 +13,10 @@ use Rattle.base.specs.Words.{all, total}
 use Rattle.stacks.specs.Counts.{CountsAt}
 use Rattle.stacks.specs.Stack.{isStack, stackCount}
 use Rattle.stacks.specs.Turn.{Road, Fewest}
+use Rattle.search.specs.Entries.{seenIn}
 use Rattle.text.specs.Frame.{placesOf, laterRefusal}
 use Rattle.text.specs.Hex.{isByte, bytesOf, numberOf, fourBytes}
-use Rattle.text.specs.Output.{levelsFrom, deepestLine, planLine, refusalLine}
+use Rattle.text.specs.Output.{levelsFrom, deepestLine, totalLine, planLine, refusalLine}
 use Rattle.text.specs.Report.{laterText, laterTexts}
 
 -- the answer to a later frame is the line of a road to the wanted stack, and no road has fewer turns
@@ -27,18 +29,23 @@ pub record Answers (kind n : ℕ) (wanted : List ℤ) (table cs : List ℕ) : Ty
   pub fit : all isByte (length turns ∷ turns) ≡ true
 
 -- the text of an accepted first frame and of the lines after it
-pub record Reports (kind n : ℕ) (wanted : List ℤ) (lines : List (List ℕ)) (text : List ℕ) : Type 0 where
-  -- a line for each level from 0 to the deepest, ff and the deepest, and a line for each later frame, answered from the built table
+pub record Reports (kind n : ℕ) (wanted : List ℤ) (built : List ℕ) (lines : List (List ℕ)) (text : List ℕ) : Type 0 where
+  -- a line for each level from 0 to the deepest, ff and the deepest, fe and the total, and a line for each later frame, answered from the
+  -- built table
   pub deepest : ℕ
   pub counts : List ℕ
-  pub built : List ℕ
-  pub text-is : text ≡ levelsFrom 0 counts ++ deepestLine deepest ++ laterTexts kind n wanted built lines
+  pub sum : ℕ
+  pub text-is : text ≡ levelsFrom 0 counts ++ deepestLine deepest ++ totalLine sum ++ laterTexts kind n wanted built lines
   pub levels : length counts ≡ suc deepest
   -- each count is the number of stacks at exactly that many turns, and fits its four bytes; each level's number fits its byte, as the
   -- deepest does
   pub counted : (d : ℕ) → d ≤ deepest → CountsAt kind n wanted d (getD counts d 0)
   pub whole : (d : ℕ) → d ≤ deepest → numberOf (fourBytes (getD counts d 0)) ≡ getD counts d 0
   pub fit : deepest < 256
+  -- the total is the sum of the printed counts; it is the number of table entries other than 3 among the N stacks; it fits its four bytes
+  pub summed : sum ≡ total counts
+  pub seen : sum ≡ seenIn built (stackCount kind n)
+  pub sum-whole : numberOf (fourBytes sum) ≡ sum
   -- the counts add up to the number of all stacks
   pub added : total counts ≡ stackCount kind n
   -- the deepest level is the greatest of all fewest turns

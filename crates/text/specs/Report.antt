@@ -3,7 +3,8 @@
 --   reportGroups            the set of a report: every size
 --   tableBytes, logWords    how much of its table and log area the build of a first frame is lent
 --   changedBytes            how much of its changed list: that of the first segment, which is the largest
---   headText job            the levels of a finished build and the deepest
+--   printedTotal job        the total of a finished build
+--   headText job            its levels, the deepest, and the total
 --   builtIn S table         the build of a first frame: the table that it leaves, and its job
 --   laterText table cs      what a later frame of characters cs is answered
 --   reportOf table lines    what is printed of an input of these lines, with a table that held anything before
@@ -13,6 +14,7 @@ use Prim.Native.Nat.{ℕ, _*_}
 use lib.Dec.{leb, eqb}
 use lib.IntN.{ℤ}
 use lib.ListN.{take, drop, replicate}
+use Rattle.base.specs.Words.{total}
 use Rattle.stacks.specs.Turn.{allGroups}
 use Rattle.stacks.specs.Stack.{isPaneCount, stackCount}
 use Rattle.search.specs.Changed.{listBytes}
@@ -23,7 +25,7 @@ use Rattle.search.specs.Plan.{planOf, planLimit}
 use Rattle.search.specs.Segments.{segmentCount, stackCountIn, isSegmentSize}
 use Rattle.search.specs.declared.Job.{Job}
 use Rattle.text.specs.Frame.{stackLimit, reportRoom, firstOf, laterOf}
-use Rattle.text.specs.Output.{levelLines, deepestLine, planLine, refusalLine}
+use Rattle.text.specs.Output.{levelCounts, levelLines, deepestLine, totalLine, planLine, refusalLine}
 use Rattle.text.specs.declared.First.{First}
 
 module _ (kind n : ℕ) where
@@ -42,9 +44,13 @@ module _ (kind n : ℕ) where
   unfoldable pub changedBytes : ℕ → ℕ
   changedBytes S = cond isReported (listBytes (stackCountIn (stackCount kind n) S 0)) 0
 
--- what a finished build found: its levels with their counts, and the deepest
+-- the sum of the counts that are printed of a finished build
+unfoldable pub printedTotal : Job → ℕ
+printedTotal job = total (levelCounts (levelOf (job .phase)) (job .counts))
+
+-- what a finished build found: its levels with their counts, the deepest, and the total
 unfoldable pub headText : Job → List ℕ
-headText job = levelLines (levelOf (job .phase)) (job .counts) ++ deepestLine (levelOf (job .phase))
+headText job = levelLines (levelOf (job .phase)) (job .counts) ++ deepestLine (levelOf (job .phase)) ++ totalLine (printedTotal job)
 
 -- for a wanted stack
 module _ (kind n : ℕ) (wanted : List ℤ) where

@@ -17,7 +17,7 @@ pub const REPORT_ROOM: u32 = 16;
 // The bytes of the table of the most stacks.
 pub const TABLE_LIMIT: usize = 11520;
 
-// The room that a lent text has: 11 characters for each place of the counts, ff and the deepest take 2821.
+// The room that a lent text has: 11 characters for each place of the counts, ff and the deepest, fe and the total take 2832.
 pub const TEXT_LIMIT: usize = 3072;
 
 // The places of the most logs, one for each segment that a job may have.

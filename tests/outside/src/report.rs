@@ -1,4 +1,4 @@
-// The report program against document 01, "The report", written from the paper: whole inputs, right, damaged and hostile.
+// The report program against document 01, "The report", and document 02, F-6, written from the papers: whole inputs, right, damaged and hostile.
 
 use std::io::Write;
 use std::process::{Command, Stdio};
@@ -94,6 +94,14 @@ impl Started {
         }
         Ok(list)
     }
+
+    // Document 02 says it twice: the sum of the counts, and the number of stacks that have an entry.
+    fn total(&self) -> u32 {
+        let sum: u64 = self.distances.counts.iter().sum();
+        let seen = self.distances.turns.iter().flatten().count();
+        assert_eq!(sum, seen as u64, "the counts are those of the stacks that have an entry");
+        sum as u32
+    }
 }
 
 fn hexadecimal(bytes: &[u8]) -> String {
@@ -114,11 +122,13 @@ pub fn report_within(input: &[u8], limits: &Limits) -> String {
         Ok(started) => started,
         Err(refusal) => return refused(refusal),
     };
+    let numbered = |first: u8, number: u32| hexadecimal(&[&[first], &number.to_be_bytes()[..]].concat());
     let mut text = String::new();
     for (level, &count) in started.distances.counts.iter().enumerate() {
-        text += &hexadecimal(&[&[level as u8], &(count as u32).to_be_bytes()[..]].concat());
+        text += &numbered(level as u8, count as u32);
     }
     text += &hexadecimal(&[0xff, started.distances.deepest() as u8]);
+    text += &numbered(0xfe, started.total());
     for line in later {
         text += &match started.plan(line) {
             Ok(list) => hexadecimal(&[&[list.len() as u8], list.as_slice()].concat()),

@@ -1,7 +1,8 @@
 // Reports with one fault each, made from the right one by a change of what goes in or comes out: the inputs made on purpose must catch each.
 //
 // Not here, as they cannot be told apart: a limit of 65 characters, as 65 are no pairs; any limit of a later frame's characters from 16 up, as
-// one of more than n bytes is refused 16 too; and a limit of N from 46,081 to 362,879, as no N lies there.
+// one of more than n bytes is refused 16 too; a limit of N from 46,081 to 362,879, as no N lies there; and a total that is taken from N, as every
+// stack of a report has a road.
 
 use crate::report::{deliberate, report, report_within, Limits, LIMITS};
 
@@ -134,6 +135,38 @@ const FAULTS: &[(&str, Faulty)] = &[
             Some(if place == Place::Level { format!("{:02x}{}", level + 1, &line[2..]) } else { line.to_string() })
         })
     }),
+    ("the total is lost", |input| edited(input, |place, line| (place != Place::Total).then(|| line.to_string()))),
+    ("the total comes before the deepest level", |input| {
+        let mut deepest = String::new();
+        edited(input, |place, line| match place {
+            Place::Deepest => {
+                deepest = line.to_string();
+                None
+            }
+            Place::Total => Some(format!("{line}\n{deepest}")),
+            _ => Some(line.to_string()),
+        })
+    }),
+    ("the total comes at the end", |input| {
+        let mut total = String::new();
+        edited(input, |place, line| {
+            if place == Place::Total {
+                total = format!("{line}\n");
+            }
+            (place != Place::Total).then(|| line.to_string())
+        }) + &total
+    }),
+    ("the total leaves out the deepest level", |input| {
+        with_total(input, |counts| format!("fe{:08x}", counts[..counts.len() - 1].iter().sum::<u32>()))
+    }),
+    ("the total leaves out level 0", |input| {
+        with_total(input, |counts| format!("fe{:08x}", counts[1..].iter().sum::<u32>()))
+    }),
+    ("the total has three bytes", |input| with_total(input, |counts| format!("fe{:06x}", counts.iter().sum::<u32>()))),
+    ("the total has its low byte first", |input| {
+        with_total(input, |counts| format!("fe{:08x}", counts.iter().sum::<u32>().swap_bytes()))
+    }),
+    ("the total is decimal", |input| with_total(input, |counts| format!("fe{:08}", counts.iter().sum::<u32>()))),
     ("a plan has its turns backwards", |input| {
         edited(input, |place, line| {
             let turns: Vec<&str> = (1..line.len() / 2).rev().map(|i| &line[2 * i..][..2]).collect();
@@ -206,11 +239,13 @@ fn in_order(input: &[u8]) -> Vec<u8> {
 
 // ---- What comes out
 
-// What a line of the report is: a level, the deepest level, a plan, a later frame's refusal, or the first frame's, which is the only line.
+// What a line of the report is: a level, the deepest level, the total, a plan, a later frame's refusal, or the first frame's, which is the
+// only line.
 #[derive(Clone, Copy, PartialEq)]
 enum Place {
     Level,
     Deepest,
+    Total,
     Plan,
     Refused,
     RefusedFirst,
@@ -224,14 +259,26 @@ fn edited(input: &[u8], mut change: impl FnMut(Place, &str) -> Option<String>) -
         let place = match (later, &line[..2]) {
             (false, "ee") => Place::RefusedFirst,
             (false, "ff") => Place::Deepest,
+            (false, "fe") => Place::Total,
             (false, _) => Place::Level,
             (true, "ee") => Place::Refused,
             (true, _) => Place::Plan,
         };
-        later |= place == Place::Deepest;
+        later |= place == Place::Total;
         text.extend(change(place, line).map(|line| line + "\n"));
     }
     text
+}
+
+// The right report with the total's line as it is made of the printed counts.
+fn with_total(input: &[u8], line_of: impl Fn(&[u32]) -> String) -> String {
+    let mut counts = Vec::new();
+    edited(input, |place, line| {
+        if place == Place::Level {
+            counts.push(u32::from_str_radix(&line[2..], 16).expect("four bytes"));
+        }
+        Some(if place == Place::Total { line_of(&counts) } else { line.to_string() })
+    })
 }
 
 // Each fault shows on some input made on purpose.

@@ -1,8 +1,15 @@
--- `frames::output::write_head` meets its contract.
+-- `frames::output::write_head` meets its contract: the levels, and a line after them, and one more.
+use mathlib.Core.Path.{ap, _∙_, subst}
+use mathlib.Core.List.{List, [], _∷_, _++_}
+use Prim.Native.Nat.{ℕ}
 use native.Mathlib.Omega.{arith}
 use borrow.Author.Needs.{needs}
-use Rattle.text.specs.Output.{levelLines, deepestLine}
-use Rattle.text.proofs.Writing.{put-after, levels-most}
+use Rattle.base.specs.Words.{total}
+use Rattle.text.specs.Hex.{lineOf, fourBytes}
+use Rattle.text.specs.Output.{levelCounts, levelLines, deepestLine, totalLine}
+use Rattle.text.specs.Written.{Put}
+use Rattle.text.proofs.HexLaws.{four-wraps}
+use Rattle.text.proofs.Writing.{line-length, put-after, levels-most}
 use Rattle.frames.proofs.output.write_head.Statement.{statement}
 use Rattle.frames.proofs.output.write_head.Tie as tie
 
@@ -18,14 +25,38 @@ put-line-requires c κs =
     let a = c .before .before .before .before .args in
     omega (arith, c .before .put-line-arg .given .0 .1, w .ensures .count, levels-most (a .counts) (a .deepest) (search needs))
 
+total-of-requires : tie.Need-total-of-requires
+total-of-requires c κs = search needs
+
+put-number-requires : tie.Need-put-number-requires
+put-number-requires c κs =
+    let w = c .before .before .before .before .before .write-levels in
+    let a = c .before .before .before .before .before .before .before .args in
+    let l = c .before .before .put-line in
+    omega (
+      arith,
+      c .before .put-number-arg .given .0 .1,
+      l .ensures .end,
+      line-length (255 ∷ a .deepest ∷ []),
+      w .ensures .count,
+      levels-most (a .counts) (a .deepest) (search needs),
+    )
+
 returns : tie.Need-returns
-unfolding deepestLine
+unfolding deepestLine totalLine
 returns c =
-    let w = c .before .before .before .write-levels in
-    let a = c .before .before .before .before .before .args in
-    put-after (levelLines (a .deepest) (a .counts)) (deepestLine (a .deepest)) (a .out .now) (w .last .0) (c .put-line .last .0)
-    (w .result) (c .put-line .result) (w .ensures .count) (w .ensures .front) (c .put-line .ensures)
+    let w = c .before .before .before .before .before .before .write-levels in
+    let a = c .before .before .before .before .before .before .before .before .args in
+    let l = c .before .before .before .put-line in
+    let p = c .put-number in
+    let t = c .before .total-of in
+    let levels = levelLines (a .deepest) (a .counts) in
+    let deepest = deepestLine (a .deepest) in
+    let sum = total (levelCounts (a .deepest) (a .counts)) in
+    let two = put-after levels deepest (a .out .now) (w .last .0) (l .last .0) (w .result) (l .result) (w .ensures .count) (w .ensures .front) (l .ensures) in
+    put-after (levels ++ deepest) (totalLine sum) (a .out .now) (l .last .0) (p .last .0) (l .result) (p .result) (two .count) (two .front)
+    (subst (λ (bs : List ℕ). Put (lineOf (254 ∷ bs)) (l .result) (l .last .0) (p .last .0) (p .result)) (ap fourBytes (t .ensures) ∙ four-wraps sum) (p .ensures))
 
 pub write-head-spec : {M : Type 1} → statement M
 write-head-spec =
-    tie.close (tie.spec write-levels-requires slice-aggregate-put-line put-line-requires returns)
+    tie.close (tie.spec write-levels-requires slice-aggregate-put-line put-line-requires total-of-requires put-number-requires returns)

@@ -26,14 +26,14 @@ loop-holds : tie.Need-loop-holds Inv-loop μ-loop
 unfolding levelsFrom over
 loop-holds c = (omega arith, omega arith, search needs, wrote (levelsFrom 0 []) (c .args .out .now) (c .args .out .now) 0 refl refl)
 
-cast-put-level : tie.Need-cast-put-level Inv-loop μ-loop
-cast-put-level c = search needs
+cast-put-number : tie.Need-cast-put-number Inv-loop μ-loop
+cast-put-number c = search needs
 
-mul-put-level : tie.Need-mul-put-level Inv-loop μ-loop
-mul-put-level c = search needs
+mul-put-number : tie.Need-mul-put-number Inv-loop μ-loop
+mul-put-number c = search needs
 
-array-read-put-level : tie.Need-array-read-put-level Inv-loop μ-loop
-array-read-put-level c = search needs
+array-read-put-number : tie.Need-array-read-put-number Inv-loop μ-loop
+array-read-put-number c = search needs
 
 -- the lines so far are short of the buffer by a line
 lines-fit : (counts out₀ out : List ℕ) (at level : ℕ) → length counts ≡ countPlaces → level < countPlaces → Wrote (levelsFrom 0 (take level counts)) out₀ out at
@@ -41,19 +41,19 @@ lines-fit : (counts out₀ out : List ℕ) (at level : ℕ) → length counts �
 lines-fit counts out₀ out at level w h l =
     omega (arith, l .count, levels-length 0 (take level counts), length-take-le level counts (omega arith))
 
-put-level-requires : tie.Need-put-level-requires Inv-loop μ-loop
-put-level-requires c κs =
+put-number-requires : tie.Need-put-number-requires Inv-loop μ-loop
+put-number-requires c κs =
     let a = c .before .before .before in
-    let long : length (a .loop .out) ≡ textLimit = c .put-level-arg .given .0 .1 in
+    let long : length (a .loop .out) ≡ textLimit = c .put-number-arg .given .0 .1 in
     rw long
     (lines-fit (a .before .args .t2) (a .before .args .out .now) (a .loop .out) (a .loop .at) (a .loop .level) (a .loop .inv .2)
-    (array-read-put-level c) (a .loop .inv .3))
+    (array-read-put-number c) (a .loop .inv .3))
 
 add-level : tie.Need-add-level Inv-loop μ-loop
 add-level c = search needs
 
 loop-less : tie.Need-loop-less Inv-loop μ-loop
-loop-less c = omega (arith, array-read-put-level (c .before))
+loop-less c = omega (arith, array-read-put-number (c .before))
 
 -- a line more
 one-more : (counts out₀ out out′ : List ℕ) (at level r : ℕ) → level < length counts → Wrote (levelsFrom 0 (take level counts)) out₀ out at
@@ -64,14 +64,15 @@ one-more counts out₀ out out′ at level r h l p =
     (put-after (levelsFrom 0 (take level counts)) (levelLine level (getD counts level 0)) out₀ out out′ at r (l .count) (l .front) p)
 
 loop-again : tie.Need-loop-again Inv-loop μ-loop
+unfolding levelLine
 loop-again c =
     let a = c .before .before .before .before in
-    let less = array-read-put-level (c .before) in (
+    let less = array-read-put-number (c .before) in (
       omega (arith, less),
       omega arith,
       a .loop .inv .2,
-      one-more (a .before .args .t2) (a .before .args .out .now) (a .loop .out) (c .put-level .last .0) (a .loop .at) (a .loop .level)
-          (c .put-level .result) (omega (arith, less)) (a .loop .inv .3) (c .put-level .ensures),
+      one-more (a .before .args .t2) (a .before .args .out .now) (a .loop .out) (c .put-number .last .0) (a .loop .at) (a .loop .level)
+          (c .put-number .result) (omega (arith, less)) (a .loop .inv .3) (c .put-number .ensures),
     )
 
 returns : tie.Need-returns Inv-loop μ-loop
@@ -94,10 +95,10 @@ write-levels-spec =
     Inv-loop
     μ-loop
     loop-holds
-    cast-put-level
-    mul-put-level
-    array-read-put-level
-    put-level-requires
+    cast-put-number
+    mul-put-number
+    array-read-put-number
+    put-number-requires
     add-level
     loop-less
     loop-again

@@ -1,9 +1,8 @@
--- `frames::output::put_level` meets its contract.
+-- `frames::output::put_number` meets its contract.
 use borrow.Author.Needs.{needs}
-use Rattle.text.specs.Output.{levelLine}
 use Rattle.text.specs.Hex.{fourBytes}
-use Rattle.frames.proofs.output.put_level.Statement.{statement}
-use Rattle.frames.proofs.output.put_level.Tie as tie
+use Rattle.frames.proofs.output.put_number.Statement.{statement}
+use Rattle.frames.proofs.output.put_number.Tie as tie
 
 cast-t8 : tie.Need-cast-t8
 cast-t8 c = search needs
@@ -27,11 +26,11 @@ same-length : tie.Need-same-length
 same-length c = search needs
 
 returns : tie.Need-returns
-unfolding levelLine fourBytes
+unfolding fourBytes
 returns c = c .before .before .put-line .ensures
 
-pub put-level-spec : {M : Type 1} → statement M
-put-level-spec =
+pub put-number-spec : {M : Type 1} → statement M
+put-number-spec =
     tie.close
     (tie.spec
     cast-t8
