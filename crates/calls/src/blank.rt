@@ -37,7 +37,8 @@ fn blank_entries(kind: u8, n: u8, wanted: [i8; PLACES], size: u32, j: u32, segme
     ensures { λ _. ⌜ now (segment .exit) ≡ blankedBy kind n wanted size j ⌝ }
 {
     entry::blank_bytes(segment);
-    let goal = numbering::rank(kind, n, wanted);
+    let lookup = ones::table();
+    let goal = numbering::rank(kind, n, wanted, &lookup);
     if goal / size != j {
         return;
     }

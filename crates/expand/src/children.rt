@@ -4,21 +4,29 @@ ghost use mathlib.Core.List.{_++_};
 ghost use mathlib.Core.Path.{_≡_};
 ghost use Prim.Native.Nat.{_-_, _<_};
 ghost use lib.ListN.{length, replicate};
+ghost use Rattle.ones.specs.Ones.{onesTable};
 ghost use Rattle.search.specs.Expand.{childrenOf};
 ghost use Rattle.stacks.specs.Stack.{isPaneCount, stackCount};
 ghost use Rattle.stacks.specs.Turn.{isGroupSet, turnsIn};
 ghost use Rattle.perm.specs.Moves.{mostMoves};
+use ones::SETS;
 use perm::groups::MOST_MOVES;
 use perm::kind;
 use perm::numbering;
 
 // The indexes of the children of the stack at an index, by rising k, and zeros after them. The set is halved from turn to turn, and k is the
 // last size that was asked for: a list of its turns costs more for each pane of a child.
-pub(crate) fn children_of(kind: u8, n: u8, groups: u32, index: u32) -> [u32; MOST_MOVES]
-    requires { ⌜ (isPaneCount kind n ≡ true) × (index < stackCount kind n) × (isGroupSet kind n groups ≡ true) ⌝ }
+pub(crate) fn children_of(
+    kind: u8,
+    n: u8,
+    groups: u32,
+    index: u32,
+    lookup: &[u8; SETS],
+) -> [u32; MOST_MOVES]
+    requires { ⌜ (isPaneCount kind n ≡ true) × (index < stackCount kind n) × (isGroupSet kind n groups ≡ true) × (now lookup ≡ onesTable) ⌝ }
     ensures { λ r. ⌜ r ≡ childrenOf kind n (turnsIn kind n groups) index ++ replicate (mostMoves - length (turnsIn kind n groups)) 0 ⌝ }
 {
-    let stack = numbering::unrank(kind, n, index);
+    let stack = numbering::unrank(kind, n, index, lookup);
     let mut children = [0u32; MOST_MOVES];
     let mut k = kind::first_turn(kind) - 1;
     let mut rest = groups >> (k as u32);
@@ -26,7 +34,7 @@ pub(crate) fn children_of(kind: u8, n: u8, groups: u32, index: u32) -> [u32; MOS
     while rest != 0 {
         k += 1;
         if rest % 2 == 1 {
-            children[i] = numbering::rank_turned(kind, n, &stack, index, k);
+            children[i] = numbering::rank_turned(kind, n, &stack, index, k, lookup);
             i += 1;
         }
         rest = rest / 2;

@@ -31,13 +31,20 @@ pub(crate) fn expand_run(
         (running (now (segment .entry)) found (now (log .entry)) (now (waiting .entry)))
         (reachedWith r (now (segment .exit)) (now (log .exit)) (now (waiting .exit))) ⌝ }
 {
+    let lookup = ones::table();
     let base = scan.j * scan.size;
     let segments = scan.segments;
     let mut found = found;
     let mut at = first;
     while at < stacks {
         if entry::get_entry(segment, at) == scan.from {
-            let children = children::children_of(scan.kind, scan.n, scan.groups, base + at);
+            let children = children::children_of(
+                scan.kind,
+                scan.n,
+                scan.groups,
+                base + at,
+                &lookup,
+            );
             let full = logs::full_segment(scan, children, waiting);
             if full < segments {
                 return Reached {

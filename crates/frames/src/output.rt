@@ -20,7 +20,7 @@ const TOTAL_MARK: u8 = 0xfe;
 const REFUSAL_MARK: u8 = 0xee;
 
 // The digits of a line's bytes and its end, from place at on. The answer is the place after them.
-pub(crate) fn put_line(out: &mut [u8], at: usize, bytes: &[u8]) -> usize
+pub fn put_line(out: &mut [u8], at: usize, bytes: &[u8]) -> usize
     requires { ⌜ at + 2 * length (now bytes) < length (now out) ⌝ }
     ensures { λ r. ⌜ Put (lineOf (now (bytes .entry))) at (now (out .entry)) (now (out .exit)) r ⌝ }
 {

@@ -6,15 +6,16 @@ use Prim.Native.Nat.{ℕ, zero, suc, _+_, _-_, _*_, _/_, _%_, _^_, _≤_, _<_, m
 use native.Mathlib.Nat.{mod-eq-of-lt, one-mul, lt-of-le-of-lt, suc-inj}
 use native.Mathlib.Numerals.{add-one}
 use native.Mathlib.Omega.{arith}
-use lib.Count.{ones, onesIn, ones-step}
+use lib.Count.{ones, onesIn}
 use lib.Dec.{eqb, lit<}
-use lib.Pow.{pow-mono, field, mod-mod-pow}
+use lib.Pow.{pow-mono}
 use borrow.Author.Tests.{eq-eqb, ne-eqb}
 use lib.ListN.{length, getD}
 use Rattle.base.specs.Words.{tally, from, without, bit}
-use Rattle.base.proofs.Bits.{bit-zero, put-same, put-other, take-same, take-other, full-in, full-out}
+use Rattle.base.proofs.Bits.{bit-zero, bit-le-one, put-same, put-other, take-same, take-other, full-in, full-out}
 use Rattle.base.proofs.Counting.{tally-true, tally-false, tally-without}
 use Rattle.base.proofs.Tests.{lt-or-ge, eq-or-ne}
+use Rattle.ones.proofs.TableLaws.{ones-mod}
 use Rattle.stacks.specs.Index.{smaller}
 use Rattle.stacks.proofs.Panes.{smaller-suc, smaller-zero, smaller-from}
 
@@ -28,16 +29,6 @@ shifted x h = ap (λ (y : ℕ). y % 4294967296) (one-mul (2 ^ x)) ∙ mod-eq-of-
 
 -- the ones below a bit
 
-pub ones-mod : (k s : ℕ) → ones (s % 2 ^ k) ≡ onesIn k s
-unfolding onesIn ones
-ones-mod zero s = ap ones (let e : s % 1 ≡ 0 = omega arith in e)
-ones-mod (suc k) s =
-    ones-step (s % 2 ^ suc k)
-    ∙ ap (λ (x : ℕ). s % 2 ^ x % 2 + ones (s % 2 ^ x / 2)) (sym (add-one k))
-    ∙ ap (λ (x : ℕ). x + ones (s % 2 ^ (k + 1) / 2)) (mod-mod-pow s k 1)
-    ∙ ap (λ (x : ℕ). s % 2 + ones x) (field s k 1)
-    ∙ ap (λ (x : ℕ). s % 2 + x) (ones-mod k (s / 2))
-
 pub onesIn-top : (k s : ℕ) → onesIn (suc k) s ≡ onesIn k s + bit s k
 unfolding onesIn bit
 onesIn-top zero s = omega arith
@@ -46,6 +37,16 @@ onesIn-top (suc k) s = let r = onesIn-top k (s / 2) in omega arith
 pub ones-up : (s k : ℕ) → ones (s % 2 ^ (k + 1)) ≡ ones (s % 2 ^ k) + bit s k
 ones-up s k =
     ap (λ (x : ℕ). ones (s % 2 ^ x)) (add-one k) ∙ ones-mod (suc k) s ∙ onesIn-top k s ∙ ap (λ (x : ℕ). x + bit s k) (sym (ones-mod k s))
+
+-- j places further stand no fewer ones, and at most j more
+pub ones-further : (s v j : ℕ) → (ones (s % 2 ^ v) ≤ ones (s % 2 ^ (v + j))) × (ones (s % 2 ^ (v + j)) ≤ ones (s % 2 ^ v) + j)
+ones-further s v zero = let e : v + 0 ≡ v = omega arith in rw e (omega arith, omega arith)
+ones-further s v (suc j) =
+    let e : v + suc j ≡ v + j + 1 = omega arith in
+    let up = ones-up s (v + j) in
+    let one = bit-le-one s (v + j) in
+    let r = ones-further s v j in
+    rw e (omega (arith, r .0), omega (arith, r .1))
 
 -- s is the set of the panes of M
 unfoldable pub Holds : ℕ → List ℕ → Type 0

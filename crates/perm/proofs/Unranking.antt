@@ -26,7 +26,7 @@ use Rattle.stacks.proofs.Panes.{smaller-suc, smaller-mono, smaller-ge, smaller-
 use Rattle.stacks.proofs.OrderLaws.{Rising, from-rising, rising-without, rising-place, smaller-without, place-lt, free-length, order-length}
 use Rattle.stacks.proofs.Numbering.{quotient-lt}
 use Rattle.perm.specs.Set.{NthOne}
-use Rattle.perm.proofs.Sets.{Holds, holds-ones, holds-take, holds-full, shifted}
+use Rattle.perm.proofs.Sets.{ones-further, Holds, holds-ones, holds-take, holds-full, shifted}
 
 -- ---- the free panes
 
@@ -59,7 +59,7 @@ module _ (n free : ℕ) (F : List ℕ) (f : Free n free F) (d : ℕ) (l : d < le
       omega (arith, tally-without (eqb x) F d 0 l, tally-true (eqb x) x (without d F) (eq-eqb x x refl))
 
   -- so the set has more than d ones
-  pub free-ones : d < ones free
+  free-ones : d < ones free
   free-ones =
       let x = getD F d 0 in
       let k : ℕ = n + x in
@@ -92,6 +92,18 @@ module _ (n free : ℕ) (F : List ℕ) (f : Free n free F) (d : ℕ) (l : d < le
         real = omega (arith, f .real, tally-without (eqb 0) F d 0 l);
         bound = omega (arith, f .bound);
       }
+
+-- where g panes are gone, more than d are free up to place d + g
+free-within : (n free : ℕ) (F : List ℕ) → Free n free F → (d g : ℕ) → d < length F → length F + g ≡ n → d < ones (free % 2 ^ (d + g + 1))
+free-within n free F f d g l e =
+    let k : ℕ = d + g + 1 in
+    let rest : k + (n - k) ≡ n = omega arith in
+    omega (
+      arith,
+      free-ones n free F f (length F - 1) (omega arith),
+      ap ones (mod-eq-of-lt (f .bound)),
+      rw rest at (ones-further free k (n - k) .1),
+    )
 
 -- ---- the stack as far as it is written
 
@@ -138,8 +150,11 @@ module _ (n coats : ℕ) (whole : List ℤ) (left free : ℕ) (s : List ℤ) (p 
     digit-lt : left / f < length (u .panes)
     digit-lt = rw e (place-lt (n - 1 - p) (u .panes) left (u .many ∙ more) (rw more at (u .low)))
 
-    pub unranked-ones : left / f < ones free
-    unranked-ones = free-ones n free (u .panes) (u .are-free) (left / f) digit-lt
+    pub unranked-room : left / f + p < n
+    unranked-room = omega (arith, digit-lt, u .many)
+
+    pub unranked-within : left / f < ones (free % 2 ^ (left / f + p + 1))
+    unranked-within = free-within n free (u .panes) (u .are-free) (left / f) p digit-lt (omega (arith, u .many))
 
     pub unranked-step : n ≤ 12 → (v : ℕ) → NthOne free (left / f) v → (z : ℤ) → z ≡ paneWith (v + 1) (coats / 2 ^ (n - 1 - p) % 2)
         → Unranked n coats whole (left % f) (free - 1 * 2 ^ v % 4294967296) (set s p z) (p + 1)

@@ -69,7 +69,8 @@ pub fn index_of_stack(kind: u8, n: u8, stack: [i8; PLACES]) -> Indexed
     if refusal != 0 {
         return Indexed { refusal, index: 0 };
     }
-    let index = numbering::rank(kind, n, stack);
+    let lookup = ones::table();
+    let index = numbering::rank(kind, n, stack, &lookup);
     Indexed { refusal: 0, index }
 }
 
@@ -85,7 +86,8 @@ pub fn stack_at_index(kind: u8, n: u8, index: u32) -> Stacked
             stack: none,
         };
     }
-    let stack = numbering::unrank(kind, n, index);
+    let lookup = ones::table();
+    let stack = numbering::unrank(kind, n, index, &lookup);
     Stacked { refusal: 0, stack }
 }
 

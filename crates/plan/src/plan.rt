@@ -84,18 +84,19 @@ pub fn draft_plan(
     if refusal != 0 {
         return no_draft(refusal);
     }
-    if route::entry_of(kind, n, given, table) == 3 {
+    let lookup = ones::table();
+    if route::entry_of(kind, n, given, table, &lookup) == 3 {
         return no_draft(20);
     }
-    if route::entry_of(kind, n, wanted, table) != 0 {
+    if route::entry_of(kind, n, wanted, table, &lookup) != 0 {
         return no_draft(15);
     }
-    let way = route::route_from(kind, n, wanted, given, groups, table);
+    let way = route::route_from(kind, n, wanted, given, groups, table, &lookup);
     let stack = way.stack;
     let turns = way.turns;
     let taken = way.taken;
-    let end = numbering::rank(kind, n, stack);
-    let goal = numbering::rank(kind, n, wanted);
+    let end = numbering::rank(kind, n, stack, &lookup);
+    let goal = numbering::rank(kind, n, wanted, &lookup);
     if end != goal {
         return no_draft(15);
     }

@@ -2,12 +2,14 @@
 ghost use mathlib.Core.Bool.{true};
 ghost use mathlib.Core.Path.{_≡_};
 ghost use lib.ListN.{length};
+ghost use Rattle.ones.specs.Ones.{onesTable};
 ghost use Rattle.stacks.specs.Index.{rankOf};
 ghost use Rattle.stacks.specs.Stack.{isPaneCount, isStack, stackCount};
 ghost use Rattle.stacks.specs.Turn.{turnsIn, turnOf};
 ghost use Rattle.search.specs.Entries.{bytesFor};
 ghost use Rattle.search.specs.Plan.{entryOf, turnTo, routeFrom};
 ghost use Rattle.plan.specs.Routes.{routeOf, StandsAt, LeadsFrom};
+use ones::SETS;
 use perm::groups;
 use perm::kind;
 use perm::numbering;
@@ -29,11 +31,17 @@ pub struct Step {
     pub index: u32,
 }
 
-pub(crate) fn entry_of(kind: u8, n: u8, stack: [i8; PLACES], table: &[u8]) -> u8
-    requires { ⌜ (isPaneCount kind n ≡ true) × (isStack kind n stack ≡ true) × (length (now table) ≡ bytesFor (stackCount kind n)) ⌝ }
+pub(crate) fn entry_of(
+    kind: u8,
+    n: u8,
+    stack: [i8; PLACES],
+    table: &[u8],
+    lookup: &[u8; SETS],
+) -> u8
+    requires { ⌜ (isPaneCount kind n ≡ true) × (isStack kind n stack ≡ true) × (length (now table) ≡ bytesFor (stackCount kind n)) × (now lookup ≡ onesTable) ⌝ }
     ensures { λ r. ⌜ r ≡ entryOf kind n (now (table .entry)) stack ⌝ }
 {
-    let index = numbering::rank(kind, n, stack);
+    let index = numbering::rank(kind, n, stack, lookup);
     entry::get_entry(table, index)
 }
 
@@ -47,15 +55,16 @@ fn turn_to(
     index: u32,
     v: u8,
     table: &[u8],
+    lookup: &[u8; SETS],
 ) -> Step
-    requires { ⌜ StandsAt kind n stack index (now table) ⌝ }
+    requires { ⌜ StandsAt kind n stack index (now table) × (now lookup ≡ onesTable) ⌝ }
     ensures { λ r. ⌜ (r .k ≡ turnTo kind n (now (table .entry)) stack v (turnsIn kind n groups)) × (r .index ≡ rankOf kind n (turnOf kind (r .k) stack)) ⌝ }
 {
     let first = kind::first_turn(kind);
     let mut k = kind::last_turn(kind, n);
     while first <= k {
         if groups::lifts(groups, k) {
-            let child = numbering::rank_turned(kind, n, &stack, index, k);
+            let child = numbering::rank_turned(kind, n, &stack, index, k, lookup);
             if entry::get_entry(table, child) == v {
                 return Step { k, index: child };
             }
@@ -74,13 +83,14 @@ pub(crate) fn route_from(
     given: [i8; PLACES],
     groups: u32,
     table: &[u8],
+    lookup: &[u8; SETS],
 ) -> Route
-    requires { ⌜ LeadsFrom kind n wanted given (now table) ⌝ }
+    requires { ⌜ LeadsFrom kind n wanted given (now table) × (now lookup ≡ onesTable) ⌝ }
     ensures { λ r. ⌜ (routeOf r ≡ routeFrom kind n (now (table .entry)) wanted (turnsIn kind n groups) given) × (length (routeOf r .turns) ≡ r .taken) ⌝ }
 {
-    let goal = numbering::rank(kind, n, wanted);
+    let goal = numbering::rank(kind, n, wanted, lookup);
     let mut stack = given;
-    let mut index = numbering::rank(kind, n, given);
+    let mut index = numbering::rank(kind, n, given, lookup);
     let mut turns = [0u8; PLAN_LIMIT];
     let mut taken: usize = 0;
     while taken < PLAN_LIMIT {
@@ -93,7 +103,7 @@ pub(crate) fn route_from(
             };
         }
         let nearer = entry::next_entry(entry::next_entry(v));
-        let step = turn_to(kind, n, groups, stack, index, nearer, table);
+        let step = turn_to(kind, n, groups, stack, index, nearer, table, lookup);
         let k = step.k;
         if k == 0 {
             return Route {

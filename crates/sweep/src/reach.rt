@@ -1,7 +1,9 @@
 // The search of one stack: whether a turn leads it to a changed stack of the loaded segment.
 ghost use mathlib.Core.Path.{_≡_};
+ghost use Rattle.ones.specs.Ones.{onesTable};
 ghost use Rattle.search.specs.Sweep.{isChanged};
 ghost use Rattle.sweep.specs.Reach.{BitFits, ReachFits, reachedBy};
+use ones::SETS;
 use perm::kind;
 use perm::numbering;
 use twobit::list;
@@ -26,17 +28,18 @@ pub(crate) fn is_reached(
     b: u32,
     list: &[u8],
     index: u32,
+    lookup: &[u8; SETS],
 ) -> bool
-    requires { ⌜ ReachFits kind n groups size b (now list) index ⌝ }
+    requires { ⌜ ReachFits kind n groups size b (now list) index × (now lookup ≡ onesTable) ⌝ }
     ensures { λ r. ⌜ r ≡ reachedBy kind n groups size b (now (list .entry)) index ⌝ }
 {
-    let stack = numbering::unrank(kind, n, index);
+    let stack = numbering::unrank(kind, n, index, lookup);
     let mut k = kind::first_turn(kind) - 1;
     let mut rest = groups >> (k as u32);
     while rest != 0 {
         k += 1;
         if rest % 2 == 1 {
-            let child = numbering::rank_turned(kind, n, &stack, index, k);
+            let child = numbering::rank_turned(kind, n, &stack, index, k, lookup);
             if is_changed(size, b, list, child) {
                 return true;
             }

@@ -29,6 +29,7 @@ pub(crate) fn sweep_run(
     requires { ⌜ RunFits pair stacks «from_found» (now segment) (now list) ⌝ }
     ensures { λ r. ⌜ Sweeps pair stacks (now (list .entry)) (marksOf (now (segment .entry)) «from_found») (marksOf (now (segment .exit)) r) ⌝ }
 {
+    let lookup = ones::table();
     let base = pair.j * pair.size;
     let mut found = from_found;
     let mut at: u32 = 0;
@@ -43,6 +44,7 @@ pub(crate) fn sweep_run(
                 pair.b,
                 list,
                 index,
+                &lookup,
             ) {
                 found = marking::mark_stack(segment, index, at, pair.mark, found);
             }

@@ -12,6 +12,7 @@ pub mod deliberate;
 pub mod exchange;
 pub mod faulty;
 pub mod linked;
+pub mod ones;
 pub mod paper;
 pub mod pipe;
 pub mod report;

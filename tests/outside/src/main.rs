@@ -15,7 +15,7 @@ use outside::compare::{compare, compare_call, Tally};
 use outside::linked::Library;
 use outside::paper::PAPER;
 use outside::system::System;
-use outside::{caught, deliberate, pipe, report_faults};
+use outside::{caught, deliberate, ones, pipe, report_faults};
 
 // A system that is held to the checks, and how far its builds go.
 struct Held {
@@ -145,6 +145,7 @@ fn main() -> ExitCode {
         fine &= report("report", || outside::report::compare(options.seed, 400));
         fine &= report("report's faults", report_faults::caught);
         fine &= report("report by pipe", pipe::conversations);
+        fine &= report("table of ones", ones::compare);
     }
     fine &= comparison(&options, &Library);
     println!("{} in {:.1} s", if fine { "all passed" } else { "FAILED" }, start.elapsed().as_secs_f64());

@@ -16,11 +16,17 @@ use Rattle.calls.proofs.blank.blank_entries.Tie as tie
 blank-bytes-requires : tie.Need-blank-bytes-requires
 blank-bytes-requires c κs = search needs
 
+table-requires : tie.Need-table-requires
+table-requires c κs = search needs
+
 rank-requires : tie.Need-rank-requires
-rank-requires c κs = let s = c .before .before .before .before .before in (s .pre .in-range, s .pre .goal)
+rank-requires c κs =
+    let t = c .before in
+    let s = t .before .before .before .before .before .before in
+    (s .pre .in-range, s .pre .goal, t .table .ensures)
 
 div-if1 : tie.Need-div-if1
-div-if1 c = c .before .before .before .before .before .before .pre .some
+div-if1 c = c .before .before .before .before .before .before .before .before .pre .some
 
 same-length : tie.Need-same-length
 same-length c = search needs
@@ -36,17 +42,17 @@ blanks c =
 returns : tie.Need-returns
 returns c =
     let r = c .before in
-    let b = r .before .before .before in
+    let b = r .before .before .before .before .before in
     let a = b .before .before .before .args in
     blanks b ∙ blanked-other (a .kind) (a .n) (a .wanted) (a .size) (a .j) (r .rank .result) (r .rank .ensures) (c .if1 .taken)
 
 rem-set-entry : tie.Need-rem-set-entry
-rem-set-entry c = c .before .before .before .before .before .before .before .before .pre .some
+rem-set-entry c = c .before .before .before .before .before .before .before .before .before .before .pre .some
 
 set-entry-requires : tie.Need-set-entry-requires
 set-entry-requires c κs =
     let r = c .before .before in
-    let b = r .before .before .before in
+    let b = r .before .before .before .before .before in
     let s = b .before .before .before in
     let a = s .args in
     let m = stackCountIn (stackCount (a .kind) (a .n)) (a .size) (a .j) in
@@ -61,7 +67,7 @@ returns-2 : tie.Need-returns-2
 returns-2 c =
     let e = c .before .before in
     let r = e .before .before .before in
-    let b = r .before .before .before in
+    let b = r .before .before .before .before .before in
     let a = b .before .before .before .args in
     e .set-entry .ensures
     ∙ ap (λ (bytes : List ℕ). setEntry bytes (r .rank .result % a .size) 0) (blanks b)
@@ -72,6 +78,7 @@ blank-entries-spec =
     tie.close
     (tie.spec
     blank-bytes-requires
+    table-requires
     rank-requires
     div-if1
     same-length

@@ -18,16 +18,16 @@ use Rattle.expand.proofs.children.children_of.Statement.{statement}
 use Rattle.expand.proofs.children.children_of.Tie as tie
 
 abbrev Inv-loop : tie.InvT-loop
-Inv-loop kind n groups index stack children₀ k₀ rest₀ i₀ children k rest i =
+Inv-loop kind n groups index lookup stack children₀ k₀ rest₀ i₀ children k rest i =
     (1 ≤ firstTurn kind) × (firstTurn kind ≤ k + 1) × (lastTurn kind n ≤ stackPlaces) × (k ≤ lastTurn kind n) × (groups / 2 ^ lastTurn kind n ≡ 0)
     × (rest ≡ groups / 2 ^ (k + 1 - 1)) × (i ≤ k + 1 - firstTurn kind) × (i ≡ length (named kind n groups index (k + 1)))
     × (children ≡ filledTo kind n groups index (k + 1))
 
 abbrev μ-loop : tie.MeasureT-loop
-μ-loop kind n groups index stack children₀ k₀ rest₀ i₀ children k rest i = rest
+μ-loop kind n groups index lookup stack children₀ k₀ rest₀ i₀ children k rest i = rest
 
 unrank-requires : tie.Need-unrank-requires Inv-loop μ-loop
-unrank-requires c κs = (c .pre .0, c .pre .1)
+unrank-requires c κs = (c .pre .0, c .pre .1, c .pre .3)
 
 first-turn-requires : tie.Need-first-turn-requires Inv-loop μ-loop
 first-turn-requires c κs = search needs
@@ -92,6 +92,7 @@ rank-turned-requires c κs =
       ap (isStack kind n) e ∙ unrank-stack kind n index (s .pre .0) (s .pre .1),
       sym (ap (rankOf kind n) e ∙ rank-unrank kind n index (s .pre .0) (s .pre .1)),
       turn-left l (c .before .before .loop-test .taken),
+      s .pre .3,
     )
 
 mul-children : tie.Need-mul-children Inv-loop μ-loop

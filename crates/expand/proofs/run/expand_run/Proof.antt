@@ -3,6 +3,7 @@ use mathlib.Core.Path.{sym, _∙_}
 use mathlib.Core.Logic.{⊎-elim}
 use Prim.Native.Nat.{_-_}
 use native.Mathlib.Omega.{arith}
+use borrow.Author.Needs.{needs}
 use Rattle.stacks.proofs.KindLaws.{count-fits}
 use Rattle.expand.proofs.Fitting.{scan-facts}
 use Rattle.expand.proofs.Running.{RunTo, base-inside, run-none, run-end, run-same, run-byte, run-inside, run-skipped, run-blocked, run-children, run-placed}
@@ -10,19 +11,22 @@ use Rattle.expand.proofs.run.expand_run.Statement.{statement}
 use Rattle.expand.proofs.run.expand_run.Tie as tie
 
 abbrev Inv-loop : tie.InvT-loop
-Inv-loop scan first stacks segment₀ log₀ waiting₀ base segments found₀ at₀ segment log waiting found at =
+Inv-loop scan first stacks segment₀ log₀ waiting₀ lookup base segments found₀ at₀ segment log waiting found at =
     RunTo scan first stacks segment₀ found₀ log₀ waiting₀ segment found log waiting at
 
 abbrev μ-loop : tie.MeasureT-loop
-μ-loop scan first stacks segment₀ log₀ waiting₀ base segments found₀ at₀ segment log waiting found at = stacks - at
+μ-loop scan first stacks segment₀ log₀ waiting₀ lookup base segments found₀ at₀ segment log waiting found at = stacks - at
+
+table-requires : tie.Need-table-requires Inv-loop μ-loop
+table-requires c κs = search needs
 
 mul-base : tie.Need-mul-base Inv-loop μ-loop
 mul-base c =
-    let s = c .before .before .before in
+    let s = c .before .before .before .before in
     omega (arith, base-inside (s .args .scan) (s .pre .fit), scan-facts (s .args .scan) (s .pre .fit))
 
 loop-holds : tie.Need-loop-holds Inv-loop μ-loop
-loop-holds c = run-none (c .before .before .before .pre)
+loop-holds c = run-none (c .before .before .before .before .pre)
 
 get-entry-requires : tie.Need-get-entry-requires Inv-loop μ-loop
 get-entry-requires c κs = run-byte (c .before .before .loop .inv) (c .before .loop-test .taken)
@@ -31,32 +35,32 @@ add-children-of : tie.Need-add-children-of Inv-loop μ-loop
 add-children-of c =
     let l = c .before .before .before .before in
     let r = l .before .loop .inv in
-    let scan = l .before .before .before .before .before .args .scan in
+    let scan = l .before .before .before .before .before .before .args .scan in
     omega (arith, run-inside r (l .loop-test .taken), count-fits (scan .kind) (scan .n) (r .given .fit .is-pane-count))
 
 children-of-requires : tie.Need-children-of-requires Inv-loop μ-loop
 children-of-requires c κs =
-    let l = c .before .before .before .before in
+    let l = c .before .before .before .before .before in
     let r = l .before .loop .inv in
-    (r .given .fit .is-pane-count, run-inside r (l .loop-test .taken), r .given .fit .set-fits)
+    (r .given .fit .is-pane-count, run-inside r (l .loop-test .taken), r .given .fit .set-fits, l .before .before .before .table .ensures)
 
 full-segment-requires : tie.Need-full-segment-requires Inv-loop μ-loop
 full-segment-requires c κs =
-    let r = c .before .before .before .before .before .before .before .loop .inv in (r .given .fit, r .fits .most)
+    let r = c .before .before .before .before .before .before .before .before .loop .inv in (r .given .fit, r .fits .most)
 
 same-length : tie.Need-same-length Inv-loop μ-loop
 same-length c =
-    let r = c .before .before .before .before .before .before .before .before .before .loop .inv in r .fits .bytes ∙ sym (r .given .lent .bytes)
+    let r = c .before .before .before .before .before .before .before .before .before .before .loop .inv in r .fits .bytes ∙ sym (r .given .lent .bytes)
 
 same-length-2 : tie.Need-same-length-2 Inv-loop μ-loop
 same-length-2 c =
-    let r = c .before .before .before .before .before .before .before .before .before .loop .inv in r .fits .places ∙ sym (r .given .lent .places)
+    let r = c .before .before .before .before .before .before .before .before .before .before .loop .inv in r .fits .places ∙ sym (r .given .lent .places)
 
 returns : tie.Need-returns Inv-loop μ-loop
 returns c =
     let found = c .before in
     let filled = found .before .before in
-    let due = filled .before in
+    let due = filled .before .before in
     let l = due .before .before .before .before in
     run-blocked (l .before .loop .inv) (l .loop-test .taken) (sym (due .before .before .get-entry .ensures) ∙ due .if1 .taken)
     (filled .children-of .ensures)
@@ -68,7 +72,7 @@ place-all-requires c κs =
     let enough = c .before .before .before in
     let found = enough .before in
     let filled = found .before .before in
-    let due = filled .before in
+    let due = filled .before .before in
     let l = due .before .before .before .before in
     run-children (l .before .loop .inv) (l .loop-test .taken) (sym (due .before .before .get-entry .ensures) ∙ due .if1 .taken)
     (filled .children-of .ensures)
@@ -89,11 +93,11 @@ loop-again c =
     let more = l .loop-test .taken in
     ⊎-elim
     (λ w. run-same
-    (run-placed r more (sym (read .get-entry .ensures) ∙ w .0 .taken) (w .1 .ensures) (w .3 .ensures) (w .4 .left) (w .8 .ensures))
-    (w .13)
+    (run-placed r more (sym (read .get-entry .ensures) ∙ w .0 .taken) (w .2 .ensures) (w .4 .ensures) (w .5 .left) (w .9 .ensures))
     (w .14)
     (w .15)
-    (w .16))
+    (w .16)
+    (w .17))
     (λ w. run-same (run-skipped r more (λ e. w .0 .left (read .get-entry .ensures ∙ e))) (w .1) (w .2) (w .3) (w .4))
     (c .if1 .came)
 
@@ -112,6 +116,7 @@ expand-run-spec =
     (tie.spec
     Inv-loop
     μ-loop
+    table-requires
     mul-base
     loop-holds
     get-entry-requires

@@ -18,10 +18,10 @@ use Rattle.perm.proofs.numbering.rank.Statement.{statement}
 use Rattle.perm.proofs.numbering.rank.Tie as tie
 
 abbrev Inv-loop : tie.InvT-loop
-Inv-loop kind n stack top above₀ p₀ above p = (n ≤ 12) × (p ≤ n) × Ranked n stack above p
+Inv-loop kind n lookup stack top above₀ p₀ above p = (n ≤ 12) × (p ≤ n) × Ranked n stack above p
 
 abbrev μ-loop : tie.MeasureT-loop
-μ-loop kind n stack top above₀ p₀ above p = n - p
+μ-loop kind n lookup stack top above₀ p₀ above p = n - p
 
 loop-holds : tie.Need-loop-holds Inv-loop μ-loop
 loop-holds c = (panes-twelve (c .args .kind) (c .args .n) (c .pre .0), omega arith, ranked-start (c .args .n) (c .args .t3))
@@ -39,9 +39,11 @@ rank-place-requires : tie.Need-rank-place-requires Inv-loop μ-loop
 rank-place-requires c κs =
     let a = c .before .before in
     let s = a .before .args .t3 in
-    let x : ℤ = getD s (a .loop .p) (pos 0) in
-    ranked-fits (a .before .args .kind) (a .before .args .n) s (a .before .pre .0) (a .before .pre .1) (a .loop .above) (a .loop .p) (a .loop .inv .2)
-    (c .before .loop-test .taken) (toZ w8 (ofZ w8 x)) (place-back x (c .rank-place-arg .given))
+    let x : ℤ = getD s (a .loop .p) (pos 0) in (
+      ranked-fits (a .before .args .kind) (a .before .args .n) s (a .before .pre .0) (a .before .pre .1) (a .loop .above) (a .loop .p) (a .loop .inv .2)
+          (c .before .loop-test .taken) (toZ w8 (ofZ w8 x)) (place-back x (c .rank-place-arg .given)),
+      a .before .pre .2,
+    )
 
 add-p : tie.Need-add-p Inv-loop μ-loop
 add-p c = search needs

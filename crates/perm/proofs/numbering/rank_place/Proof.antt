@@ -28,13 +28,13 @@ magnitude-requires c κs = search needs
 
 -- the pane's number, as x is read back
 pane-is : (c : tie.After-magnitude) → c .magnitude .result ≡ natAbs (c .before .args .x)
-pane-is c = c .magnitude .ensures ∙ ap natAbs (small-back (c .before .args .x) (c .before .pre .high))
+pane-is c = c .magnitude .ensures ∙ ap natAbs (small-back (c .before .args .x) (c .before .pre .0 .high))
 
 sub-pane : tie.Need-sub-pane
-sub-pane c = omega (arith, pane-is c, c .before .pre .low)
+sub-pane c = omega (arith, pane-is c, c .before .pre .0 .low)
 
 ones-below-requires : tie.Need-ones-below-requires
-ones-below-requires c κs = (c .before .pre .met-room, omega (arith, pane-is c, c .before .pre .high))
+ones-below-requires c κs = (c .before .pre .0 .met-room, omega (arith, pane-is c, c .before .pre .0 .high), c .before .pre .1)
 
 sub-digit : tie.Need-sub-digit
 sub-digit c =
@@ -42,29 +42,29 @@ sub-digit c =
     let met = c .before .before .args .above .met in
     omega (arith, c .ones-below .ensures, ones-le v (met % 2 ^ v) (mod-lt met (pow-pos v)))
 
-shl-t6 : tie.Need-shl-t6
-shl-t6 c = omega (arith, pane-is (c .before), c .before .before .pre .high)
+shl-t7 : tie.Need-shl-t7
+shl-t7 c = omega (arith, pane-is (c .before), c .before .before .pre .0 .high)
 
-add-t7 : tie.Need-add-t7
-add-t7 c =
+add-t8 : tie.Need-add-t8
+add-t8 c =
     let v : ℕ = c .before .before .magnitude .result - 1 in
-    let f = c .before .before .before .pre in
+    let f = c .before .before .before .pre .0 in
     let small : v ≤ 12 = omega (arith, pane-is (c .before .before), f .high) in
     record { fits = omega (arith, shifted v small, pow-twelve v small, f .met-room) }
 
-mul-t8 : tie.Need-mul-t8
+mul-t9 : tie.Need-mul-t9
 unfolding placeRanked
-mul-t8 c = record { fits = omega (arith, c .before .before .before .before .pre .order-room) }
+mul-t9 c = record { fits = omega (arith, c .before .before .before .before .pre .0 .order-room) }
 
-add-t9 : tie.Need-add-t9
+add-t10 : tie.Need-add-t10
 unfolding placeRanked
-add-t9 c =
+add-t10 c =
     let m = c .before .before .before in
-    record { fits = rw (c .before .before .ones-below .ensures, pane-is m) (m .before .pre .order-room) }
+    record { fits = rw (c .before .before .ones-below .ensures, pane-is m) (m .before .pre .0 .order-room) }
 
-mul-t10 : tie.Need-mul-t10
+mul-t11 : tie.Need-mul-t11
 unfolding placeRanked
-mul-t10 c = record { fits = omega (arith, c .before .before .before .before .before .pre .coats-room) }
+mul-t11 c = record { fits = omega (arith, c .before .before .before .before .before .pre .0 .coats-room) }
 
 coat-bit-requires : tie.Need-coat-bit-requires
 coat-bit-requires c κs = search needs
@@ -72,11 +72,11 @@ coat-bit-requires c κs = search needs
 coat-is : (c : tie.After-coat-bit) → c .coat-bit .result ≡ coat (c .before .before .before .before .before .before .args .x)
 coat-is c =
     let s = c .before .before .before .before .before .before in
-    c .coat-bit .ensures ∙ ap coat (small-back (s .args .x) (s .pre .high))
+    c .coat-bit .ensures ∙ ap coat (small-back (s .args .x) (s .pre .0 .high))
 
-add-t12 : tie.Need-add-t12
+add-t13 : tie.Need-add-t13
 unfolding placeRanked
-add-t12 c = record { fits = omega (arith, coat-is c, c .before .before .before .before .before .before .pre .coats-room) }
+add-t13 c = record { fits = omega (arith, coat-is c, c .before .before .before .before .before .before .pre .0 .coats-room) }
 
 returns : tie.Need-returns
 returns c =
@@ -84,7 +84,7 @@ returns c =
     let s = m .before in
     let o = c .before .before .before .before .ones-below in
     placed (s .args .above) (s .args .left) (s .args .x) (m .magnitude .result) (o .result) (c .coat-bit .result)
-    (s .pre .high) (pane-is m) (o .ensures) (coat-is c)
+    (s .pre .0 .high) (pane-is m) (o .ensures) (coat-is c)
 
 pub rank-place-spec : {M : Type 1} → statement M
 rank-place-spec =
@@ -94,11 +94,11 @@ rank-place-spec =
     sub-pane
     ones-below-requires
     sub-digit
-    shl-t6
-    add-t7
-    mul-t8
-    add-t9
-    mul-t10
+    shl-t7
+    add-t8
+    mul-t9
+    add-t10
+    mul-t11
     coat-bit-requires
-    add-t12
+    add-t13
     returns)

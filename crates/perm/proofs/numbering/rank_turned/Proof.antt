@@ -20,11 +20,11 @@ use Rattle.perm.proofs.numbering.rank_turned.Statement.{statement}
 use Rattle.perm.proofs.numbering.rank_turned.Tie as tie
 
 abbrev Inv-loop : tie.InvT-loop
-Inv-loop kind n stack index k top group above₀ p₀ above p =
+Inv-loop kind n stack index k lookup top group above₀ p₀ above p =
     (length stack ≡ 12) × (n ≤ 12) × (k ≤ n) × (p ≤ k) × Ranked n (turnOf kind k stack) above p
 
 abbrev μ-loop : tie.MeasureT-loop
-μ-loop kind n stack index k top group above₀ p₀ above p = k - p
+μ-loop kind n stack index k lookup top group above₀ p₀ above p = k - p
 
 loop-holds : tie.Need-loop-holds Inv-loop μ-loop
 loop-holds c =
@@ -71,9 +71,11 @@ rank-place-requires c κs =
     let kind = a .before .args .kind in
     let n = a .before .args .n in
     let k = a .before .args .k in
-    let s = a .before .args .stack .now in
-    ranked-fits kind n (turnOf kind k s) (a .before .pre .0) (turn-stack kind n (a .before .pre .0) k s (a .before .pre .3) (a .before .pre .1))
-    (a .loop .above) (a .loop .p) (a .loop .inv .4) (omega arith) (toZ w8 (ofZ w8 (c .flipped .result))) (pane-is c)
+    let s = a .before .args .stack .now in (
+      ranked-fits kind n (turnOf kind k s) (a .before .pre .0) (turn-stack kind n (a .before .pre .0) k s (a .before .pre .3) (a .before .pre .1))
+          (a .loop .above) (a .loop .p) (a .loop .inv .4) (omega arith) (toZ w8 (ofZ w8 (c .flipped .result))) (pane-is c),
+      a .before .pre .4,
+    )
 
 add-p : tie.Need-add-p Inv-loop μ-loop
 add-p c = search needs

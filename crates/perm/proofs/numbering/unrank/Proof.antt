@@ -13,15 +13,15 @@ use Rattle.stacks.specs.Index.{stackAt}
 use Rattle.stacks.proofs.KindLaws.{panes-twelve, coatings-pos}
 use Rattle.perm.proofs.Sets.{pow-twelve, shifted}
 use Rattle.perm.proofs.Signed.{pane-back}
-use Rattle.perm.proofs.Unranking.{Unranked, unranked-start, unranked-ones, unranked-step, unranked-end}
+use Rattle.perm.proofs.Unranking.{Unranked, unranked-start, unranked-room, unranked-within, unranked-step, unranked-end}
 use Rattle.perm.proofs.numbering.unrank.Statement.{statement}
 use Rattle.perm.proofs.numbering.unrank.Tie as tie
 
 abbrev Inv-loop : tie.InvT-loop
-Inv-loop kind n index ways coats left₀ top free₀ stack₀ p₀ left free stack p = (n ≤ 12) × (p ≤ n) × Unranked n coats (stackAt kind n index) left free stack p
+Inv-loop kind n index lookup ways coats left₀ top free₀ stack₀ p₀ left free stack p = (n ≤ 12) × (p ≤ n) × Unranked n coats (stackAt kind n index) left free stack p
 
 abbrev μ-loop : tie.MeasureT-loop
-μ-loop kind n index ways coats left₀ top free₀ stack₀ p₀ left free stack p = n - p
+μ-loop kind n index lookup ways coats left₀ top free₀ stack₀ p₀ left free stack p = n - p
 
 -- the stack at the index, and its coats
 abbrev goal : tie.At-loop Inv-loop μ-loop → List ℤ
@@ -70,10 +70,18 @@ div-nth-one c = omega (arith, c .factorial .ensures, fact-pos (c .before .before
 nth-one-requires : tie.Need-nth-one-requires Inv-loop μ-loop
 nth-one-requires c κs =
     let a = c .before .before in
-    let n = a .before .before .args .n in (
-      omega (arith, a .loop .inv .2 .are-free .bound, pow-twelve n (a .loop .inv .0)),
-      unranked-ones n (coats a) (goal a) (a .loop .left) (a .loop .free) (a .loop .stack) (a .loop .p) (a .loop .inv .2)
-          (c .factorial .result) (c .before .loop-test .taken) (c .factorial .ensures),
+    let n = a .before .before .args .n in
+    let u = a .loop .inv .2 in
+    let here = c .before .loop-test .taken in
+    let digit = c .factorial in (
+      omega (arith, u .are-free .bound, pow-twelve n (a .loop .inv .0)),
+      omega (
+        arith,
+        a .loop .inv .0,
+        unranked-room n (coats a) (goal a) (a .loop .left) (a .loop .free) (a .loop .stack) (a .loop .p) u (digit .result) here (digit .ensures),
+      ),
+      unranked-within n (coats a) (goal a) (a .loop .left) (a .loop .free) (a .loop .stack) (a .loop .p) u (digit .result) here (digit .ensures),
+      a .before .before .pre .2,
     )
 
 rem-left : tie.Need-rem-left Inv-loop μ-loop

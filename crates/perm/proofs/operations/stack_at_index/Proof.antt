@@ -17,17 +17,22 @@ returns c =
     let f = c .before .stack-refusal in
     no-stack (stackRefusal (a .kind) (a .n) (a .index)) (f .result) (f .ensures) (stackAt (a .kind) (a .n) (a .index)) (c .if1 .taken)
 
+table-requires : tie.Need-table-requires
+table-requires c κs = search needs
+
 unrank-requires : tie.Need-unrank-requires
 unrank-requires c κs =
-    let a = c .before .before .args in
-    stack-passes (a .kind) (a .n) (a .index) (sym (c .before .stack-refusal .ensures) ∙ c .if1 .left)
+    let e = c .before .before in
+    let a = e .before .before .args in
+    let f = stack-passes (a .kind) (a .n) (a .index) (sym (e .before .stack-refusal .ensures) ∙ e .if1 .left) in
+    (f .0, f .1, c .before .table .ensures)
 
 returns-2 : tie.Need-returns-2
 unfolding stackOf
 returns-2 c =
-    let a = c .before .before .before .args in
-    let f = c .before .before .stack-refusal in
-    a-stack (stackRefusal (a .kind) (a .n) (a .index)) (f .result) (f .ensures) (stackAt (a .kind) (a .n) (a .index)) (c .unrank .result) (c .before .if1 .left) (c .unrank .ensures)
+    let a = c .before .before .before .before .before .args in
+    let f = c .before .before .before .before .stack-refusal in
+    a-stack (stackRefusal (a .kind) (a .n) (a .index)) (f .result) (f .ensures) (stackAt (a .kind) (a .n) (a .index)) (c .unrank .result) (c .before .before .before .if1 .left) (c .unrank .ensures)
 
 pub stack-at-index-spec : {M : Type 1} → statement M
-stack-at-index-spec = tie.close (tie.spec stack-refusal-requires returns unrank-requires returns-2)
+stack-at-index-spec = tie.close (tie.spec stack-refusal-requires returns table-requires unrank-requires returns-2)

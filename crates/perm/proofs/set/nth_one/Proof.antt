@@ -1,97 +1,105 @@
--- `perm::set::nth_one` meets its contract. The loop's invariant: at most d ones stand below v, and c up to v; where c is above d, v is found.
-use mathlib.Core.Path.{_≡_, ap}
-use Prim.Native.Nat.{ℕ, zero, suc, _+_, _-_, _%_, _^_, _≤_, _<_}
-use native.Mathlib.Nat.{mod-eq-of-lt, mod-lt}
+-- `perm::set::nth_one` meets its contract. The loop's invariant: at most d ones stand below v, and more up to v, if a place above it was asked.
+use mathlib.Core.Logic.{_⊎_, inl, inr, ⊎-elim}
+use mathlib.Core.Path.{_≡_, sym, subst}
+use Prim.Native.Nat.{ℕ, _+_, _-_, _%_, _^_, _≤_, _<_}
+use native.Mathlib.Nat.{mod-lt}
 use native.Mathlib.Omega.{arith}
 use lib.Count.{ones, ones-le}
 use lib.Pow.{pow-pos}
 use Rattle.perm.specs.Set.{NthOne}
 use Rattle.base.proofs.Bits.{bit-le-one}
-use Rattle.perm.proofs.Sets.{ones-up}
+use Rattle.base.proofs.Tests.{lt-or-ge}
+use Rattle.perm.proofs.Sets.{ones-up, ones-further}
 use Rattle.perm.proofs.set.nth_one.Statement.{statement}
 use Rattle.perm.proofs.set.nth_one.Tie as tie
 
+-- the places below x were asked: at most d ones stand below v, and more up to v, unless v is the last of them
+record Asked (s d v x : ℕ) : Type 0 where
+  inside : v < x
+  low : ones (s % 2 ^ v) ≤ d
+  high : v + 1 < x → d < ones (s % 2 ^ (v + 1))
+
+asked-none : (s d : ℕ) → Asked s d d (d + 1)
+asked-none s d = record { inside = omega arith; low = ones-le d (s % 2 ^ d) (mod-lt s (pow-pos d)); high = λ h. absurd (omega arith) }
+
+-- up to x stand at most d ones: then they did up to v, which was the last
+asked-low : (s d v x : ℕ) → Asked s d v x → ones (s % 2 ^ x) ≤ d → Asked s d (v + 1) (x + 1)
+asked-low s d v x a h = go (lt-or-ge (v + 1) x)
+  where
+    go : (v + 1 < x) ⊎ (x ≤ v + 1) → Asked s d (v + 1) (x + 1)
+    go (inl l) =
+        let e : v + 1 + (x - (v + 1)) ≡ x = omega arith in
+        absurd (omega (arith, a .high l, rw e at (ones-further s (v + 1) (x - (v + 1)) .0)))
+    go (inr l) =
+        let e : v + 1 ≡ x = omega (arith, a .inside) in
+        record { inside = omega arith; low = rw e h; high = λ k. absurd (omega arith) }
+
+-- up to x stand more
+asked-high : (s d v x : ℕ) → Asked s d v x → d < ones (s % 2 ^ x) → Asked s d v (x + 1)
+asked-high s d v x a h = record { inside = omega (arith, a .inside); low = a .low; high = λ k. go (lt-or-ge (v + 1) x) }
+  where
+    go : (v + 1 < x) ⊎ (x ≤ v + 1) → d < ones (s % 2 ^ (v + 1))
+    go (inl l) = a .high l
+    go (inr l) = let e : v + 1 ≡ x = omega (arith, a .inside) in rw e h
+
+-- so v is the place where more than d ones are reached
+asked-all : (s d v x : ℕ) → Asked s d v x → d < ones (s % 2 ^ x) → x ≤ 12 → NthOne s d v
+asked-all s d v x a h l =
+    let up = ones-up s v in
+    let one = bit-le-one s v in
+    let more = asked-high s d v x a h .high (omega (arith, a .inside)) in
+    record { low = omega (arith, a .inside); is-one = omega (arith, a .low); below = omega (arith, a .low) }
+
 abbrev Inv-loop : tie.InvT-loop
-Inv-loop set d v₀ c₀ v c = (v < 12) × (ones (set % 2 ^ v) ≤ d) × (c ≡ ones (set % 2 ^ (v + 1)))
+Inv-loop set d gone lookup most v₀ x₀ v x = (x ≤ d + gone + 1) × Asked set d v x
 
 abbrev μ-loop : tie.MeasureT-loop
-μ-loop set d v₀ c₀ v c = 12 - v
+μ-loop set d gone lookup most v₀ x₀ v x = d + gone + 1 - x
 
-d-low : (s d : ℕ) → s < 4096 → d < ones s → d < 12
-d-low s d h k = omega (arith, ones-le 12 s h)
+add-most : tie.Need-add-most Inv-loop μ-loop
+add-most c = record { fits = omega (arith, c .pre .1) }
 
-add-ones-below : tie.Need-add-ones-below Inv-loop μ-loop
-add-ones-below c = record { fits = omega (arith, d-low (c .args .set) (c .args .d) (c .pre .0) (c .pre .1)) }
-
-ones-below-requires : tie.Need-ones-below-requires Inv-loop μ-loop
-ones-below-requires c κs = (c .pre .0, omega (arith, d-low (c .args .set) (c .args .d) (c .pre .0) (c .pre .1)))
+add-x : tie.Need-add-x Inv-loop μ-loop
+add-x c = record { fits = omega (arith, c .pre .1) }
 
 loop-holds : tie.Need-loop-holds Inv-loop μ-loop
-loop-holds c =
-    let s = c .before .args .set in
-    let d = c .before .args .d in
-    (d-low s d (c .before .pre .0) (c .before .pre .1), ones-le d (s % 2 ^ d) (mod-lt s (pow-pos d)), c .ones-below .ensures)
+loop-holds c = (omega arith, asked-none (c .args .set) (c .args .d))
 
--- j places further stand at most j ones more
-ones-further : (s v j : ℕ) → ones (s % 2 ^ (v + j)) ≤ ones (s % 2 ^ v) + j
-ones-further s v zero = let e : v + 0 ≡ v = omega arith in rw e (omega arith)
-ones-further s v (suc j) =
-    let e : v + suc j ≡ v + j + 1 = omega arith in
-    rw (e, ones-up s (v + j)) (omega (arith, ones-further s v j, bit-le-one s (v + j)))
-
--- all of a 12-bit set stands below place 12
-whole : (s : ℕ) → s < 4096 → ones (s % 2 ^ 12) ≡ ones s
-whole s h = ap ones (mod-eq-of-lt h)
-
--- a jump over as many places as ones are missing keeps at most d ones below, so it stays inside the set
-jump : (s d v c : ℕ) → s < 4096 → d < ones s → v < 12 → c ≡ ones (s % 2 ^ (v + 1)) → c ≤ d
-    → (v + (d + 1 - c) < 12) × (ones (s % 2 ^ (v + (d + 1 - c))) ≤ d)
-jump s d v c l k b e h =
-    let top : v + 1 + (11 - v) ≡ 12 = omega arith in
-    let next : v + (d + 1 - c) ≡ v + 1 + (d - c) = omega arith in
-    (omega (arith, whole s l, rw top at (ones-further s (v + 1) (11 - v))), rw next (omega (arith, ones-further s (v + 1) (d - c))))
-
-jumped : (c : tie.In-loop Inv-loop μ-loop)
-    → let a = c .before in
-    let g = a .before .before .args in
-    (a .loop .v + (g .d + 1 - a .loop .c) < 12) × (ones (g .set % 2 ^ (a .loop .v + (g .d + 1 - a .loop .c))) ≤ g .d)
-jumped c =
-    let a = c .before in
-    let s = a .before .before in
-    jump (s .args .set) (s .args .d) (a .loop .v) (a .loop .c) (s .pre .0) (s .pre .1) (a .loop .inv .0) (a .loop .inv .2) (c .loop-test .taken)
+ones-below-requires : tie.Need-ones-below-requires Inv-loop μ-loop
+ones-below-requires c κs =
+    let s = c .before .before in
+    (s .pre .0, omega (arith, s .pre .1), s .pre .3)
 
 add-v : tie.Need-add-v Inv-loop μ-loop
-add-v c = let s = c .before .before .before in record { fits = omega (arith, d-low (s .args .set) (s .args .d) (s .pre .0) (s .pre .1)) }
+add-v c =
+    let l = c .before .before in
+    record { fits = omega (arith, l .before .before .pre .1, l .before .loop .inv .1 .inside) }
 
-sub-v : tie.Need-sub-v Inv-loop μ-loop
-sub-v c = omega arith
-
-add-v-2 : tie.Need-add-v-2 Inv-loop μ-loop
-add-v-2 c = record { fits = omega (arith, jumped c .0) }
-
-add-ones-below-2 : tie.Need-add-ones-below-2 Inv-loop μ-loop
-add-ones-below-2 c = record { fits = omega (arith, jumped c .0) }
-
-ones-below-requires-2 : tie.Need-ones-below-requires-2 Inv-loop μ-loop
-ones-below-requires-2 c κs = (c .before .before .before .pre .0, omega (arith, jumped c .0))
+add-x-2 : tie.Need-add-x-2 Inv-loop μ-loop
+add-x-2 c = let l = c .before .before in record { fits = omega (arith, l .before .before .pre .1) }
 
 loop-less : tie.Need-loop-less Inv-loop μ-loop
-loop-less c = omega (arith, jumped (c .before) .0)
+loop-less c = omega arith
 
 loop-again : tie.Need-loop-again Inv-loop μ-loop
-loop-again c = (jumped (c .before) .0, jumped (c .before) .1, c .ones-below2 .ensures)
-
-found : (s d v : ℕ) → v < 12 → ones (s % 2 ^ v) ≤ d → d < ones (s % 2 ^ (v + 1)) → NthOne s d v
-found s d v l h k =
-    let u = ones-up s v in
-    let b = bit-le-one s v in
-    record { low = l; is-one = omega arith; below = omega arith }
+loop-again c =
+    let l = c .before .before in
+    let g = l .before .before .args in
+    let a = l .before .loop in
+    let count = c .before .ones-below .ensures in (
+      omega arith,
+      ⊎-elim
+          (λ w. subst (λ (v : ℕ). Asked (g .set) (g .d) v (a .x + 1)) (sym (w .1)) (asked-low (g .set) (g .d) (a .v) (a .x) (a .inv .1) (rw (← count) (w .0 .taken))))
+          (λ w. subst (λ (v : ℕ). Asked (g .set) (g .d) v (a .x + 1)) (sym (w .1)) (asked-high (g .set) (g .d) (a .v) (a .x) (a .inv .1) (rw (← count) (w .0 .left))))
+          (c .if1 .came),
+    )
 
 returns : tie.Need-returns Inv-loop μ-loop
 returns c =
     let a = c .before in
-    let g = a .before .before .args in
-    found (g .set) (g .d) (a .loop .v) (a .loop .inv .0) (a .loop .inv .1) (rw (← a .loop .inv .2) (c .loop-test .left))
+    let s = a .before in
+    let e : a .loop .x ≡ s .args .d + s .args .gone + 1 = omega (arith, a .loop .inv .0) in
+    asked-all (s .args .set) (s .args .d) (a .loop .v) (a .loop .x) (a .loop .inv .1) (rw e (s .pre .2)) (omega (arith, s .pre .1))
 
 pub nth-one-spec : {M : Type 1} → statement M
 nth-one-spec =
@@ -99,14 +107,12 @@ nth-one-spec =
     (tie.spec
     Inv-loop
     μ-loop
-    add-ones-below
-    ones-below-requires
+    add-most
+    add-x
     loop-holds
+    ones-below-requires
     add-v
-    sub-v
-    add-v-2
-    add-ones-below-2
-    ones-below-requires-2
+    add-x-2
     loop-less
     loop-again
     returns)

@@ -33,8 +33,14 @@ facts c =
     let a = c .before .before .before .args in
     row-facts (a .kind) (a .n) (a .wanted) (a .given) (a .groups) (length (a .table .now)) (a .slots) 0 (sym (c .before .plan-refusal .ensures) ∙ c .if1 .left) .0
 
+table-requires : tie.Need-table-requires
+table-requires c κs = search needs
+
 entry-of-requires : tie.Need-entry-of-requires
-entry-of-requires c κs = (facts c .of-panes, facts c .start, facts c .long)
+entry-of-requires c κs =
+    let t = c .before in
+    let f = facts (t .before) in
+    (f .of-panes, f .start, f .long, t .table .ensures)
 
 no-draft-requires-2 : tie.Need-no-draft-requires-2
 no-draft-requires-2 c κs = search needs
@@ -42,15 +48,16 @@ no-draft-requires-2 c κs = search needs
 returns-2 : tie.Need-returns-2
 returns-2 c =
     let r = c .before .before in
-    let e = r .before in
+    let e = r .before .before .before in
     let a = e .before .before .before .args in
     subst (Drafts (a .kind) (a .n) (a .wanted) (a .given) (a .groups) (a .table .now) (a .slots)) (sym (c .no-draft2 .ensures))
     (draft-unseen (a .kind) (a .n) (a .wanted) (a .given) (a .groups) (a .table .now) (a .slots) (facts e) (r .entry-of .result) (r .entry-of .ensures) (c .before .if2 .taken))
 
 entry-of-requires-2 : tie.Need-entry-of-requires-2
 entry-of-requires-2 c κs =
-    let e = c .before .before in
-    (facts e .of-panes, facts e .goal, facts e .long)
+    let t = c .before .before .before .before in
+    let f = facts (t .before) in
+    (f .of-panes, f .goal, f .long, t .table .ensures)
 
 no-draft-requires-3 : tie.Need-no-draft-requires-3
 no-draft-requires-3 c κs = search needs
@@ -58,34 +65,41 @@ no-draft-requires-3 c κs = search needs
 returns-3 : tie.Need-returns-3
 returns-3 c =
     let w = c .before .before in
-    let r = w .before .before in
-    let e = r .before in
+    let r = w .before .before .before in
+    let e = r .before .before .before in
     let a = e .before .before .before .args in
     subst (Drafts (a .kind) (a .n) (a .wanted) (a .given) (a .groups) (a .table .now) (a .slots)) (sym (c .no-draft3 .ensures))
-    (draft-refused (a .kind) (a .n) (a .wanted) (a .given) (a .groups) (a .table .now) (a .slots) (facts e) (r .entry-of .result) (r .entry-of .ensures) (w .before .if2 .left)
+    (draft-refused (a .kind) (a .n) (a .wanted) (a .given) (a .groups) (a .table .now) (a .slots) (facts e) (r .entry-of .result) (r .entry-of .ensures) (w .before .before .if2 .left)
     (no-plan-root (a .kind) (a .n) (a .table .now) (a .wanted) (turnsIn (a .kind) (a .n) (a .groups)) (a .given) (w .entry-of2 .result) (w .entry-of2 .ensures) (c .before .if3 .taken)))
 
 route-from-requires : tie.Need-route-from-requires
 route-from-requires c κs =
-    let e = c .before .before .before .before in
-    (facts e .of-panes, facts e .goal, facts e .start, facts e .long)
+    let t = c .before .before .before .before .before .before .before in
+    let f = facts (t .before) in
+    ((f .of-panes, f .goal, f .start, f .long), t .table .ensures)
 
 -- the stack that the route has come to
 stack-is : (c : tie.After-route-from)
-    → let a = c .before .before .before .before .before .before .before .before .args in c .route-from .result .stack ≡ routeFrom (a .kind) (a .n) (a .table .now) (a .wanted) (turnsIn (a .kind) (a .n) (a .groups)) (a .given) .stack
+    → let a = c .before .before .before .before .before .before .before .before .before .before .before .before .args in c .route-from .result .stack ≡ routeFrom (a .kind) (a .n) (a .table .now) (a .wanted) (turnsIn (a .kind) (a .n) (a .groups)) (a .given) .stack
 stack-is c = ap (λ (r : Route). r .stack) (c .route-from .ensures .0)
 
 rank-requires : tie.Need-rank-requires
 rank-requires c κs =
-    let w = c .before .before in
-    let e = w .before .before .before .before .before in
-    let a = e .before .before .before .args in
-    (facts e .of-panes, rw (stack-is w) (route-stack (a .kind) (a .n) (a .table .now) (a .wanted) (a .given) (facts e .of-panes) (set-turns (a .kind) (a .n) (facts e .of-panes) (a .groups)) (facts e .start)))
+    let w = c .before .before .before in
+    let t = w .before .before .before .before .before .before .before .before in
+    let f = facts (t .before) in
+    let a = t .before .before .before .before .args in (
+      f .of-panes,
+      rw (stack-is w)
+          (route-stack (a .kind) (a .n) (a .table .now) (a .wanted) (a .given) (f .of-panes) (set-turns (a .kind) (a .n) (f .of-panes) (a .groups)) (f .start)),
+      t .table .ensures,
+    )
 
 rank-requires-2 : tie.Need-rank-requires-2
 rank-requires-2 c κs =
-    let e = c .before .before .before .before .before .before .before .before in
-    (facts e .of-panes, facts e .goal)
+    let t = c .before .before .before .before .before .before .before .before .before .before .before .before .before in
+    let f = facts (t .before) in
+    (f .of-panes, f .goal, t .table .ensures)
 
 no-draft-requires-4 : tie.Need-no-draft-requires-4
 no-draft-requires-4 c κs = search needs
@@ -93,33 +107,33 @@ no-draft-requires-4 c κs = search needs
 returns-4 : tie.Need-returns-4
 returns-4 c =
     let k = c .before .before in
-    let w = k .before .before .before .before in
-    let g = w .before .before in
-    let r = g .before .before in
-    let e = r .before in
+    let w = k .before .before .before .before .before .before in
+    let g = w .before .before .before in
+    let r = g .before .before .before in
+    let e = r .before .before .before in
     let a = e .before .before .before .args in
     subst (Drafts (a .kind) (a .n) (a .wanted) (a .given) (a .groups) (a .table .now) (a .slots)) (sym (c .no-draft4 .ensures))
-    (draft-refused (a .kind) (a .n) (a .wanted) (a .given) (a .groups) (a .table .now) (a .slots) (facts e) (r .entry-of .result) (r .entry-of .ensures) (g .before .if2 .left)
+    (draft-refused (a .kind) (a .n) (a .wanted) (a .given) (a .groups) (a .table .now) (a .slots) (facts e) (r .entry-of .result) (r .entry-of .ensures) (g .before .before .if2 .left)
     (no-plan-route (a .kind) (a .n) (a .table .now) (a .wanted) (turnsIn (a .kind) (a .n) (a .groups)) (a .given) (g .entry-of2 .result) (g .entry-of2 .ensures)
-    (w .route-from .result .stack) (stack-is w) (k .before .rank .result) (k .rank2 .result) (k .before .rank .ensures) (k .rank2 .ensures) (c .before .if4 .taken)))
+    (w .route-from .result .stack) (stack-is w) (k .before .before .rank .result) (k .rank2 .result) (k .before .before .rank .ensures) (k .rank2 .ensures) (c .before .if4 .taken)))
 
 -- the route is within the limit
 few : (c : tie.After-route-from) → c .route-from .result .taken ≤ planLimit
 few c =
-    let a = c .before .before .before .before .before .before .before .before .args in
+    let a = c .before .before .before .before .before .before .before .before .before .before .before .before .args in
     route-taken (a .kind) (a .n) (a .table .now) (a .wanted) (turnsIn (a .kind) (a .n) (a .groups)) (a .given) (routeOf (c .route-from .result)) (c .route-from .result .taken) (c .route-from .ensures .0) (c .route-from .ensures .1)
 
 returns-5 : tie.Need-returns-5
 returns-5 c =
     let k = c .before in
-    let w = k .before .before .before .before in
-    let g = w .before .before in
-    let r = g .before .before in
-    let e = r .before in
+    let w = k .before .before .before .before .before .before in
+    let g = w .before .before .before in
+    let r = g .before .before .before in
+    let e = r .before .before .before in
     let a = e .before .before .before .args in
-    draft-accepted (a .kind) (a .n) (a .wanted) (a .given) (a .groups) (a .table .now) (a .slots) (facts e) (r .entry-of .result) (r .entry-of .ensures) (g .before .if2 .left)
+    draft-accepted (a .kind) (a .n) (a .wanted) (a .given) (a .groups) (a .table .now) (a .slots) (facts e) (r .entry-of .result) (r .entry-of .ensures) (g .before .before .if2 .left)
     (a-plan (a .kind) (a .n) (a .table .now) (a .wanted) (turnsIn (a .kind) (a .n) (a .groups)) (a .given) (g .entry-of2 .result) (g .entry-of2 .ensures)
-    (w .route-from .result .stack) (stack-is w) (k .before .rank .result) (k .rank2 .result) (k .before .rank .ensures) (k .rank2 .ensures) (w .before .if3 .left) (c .if4 .left))
+    (w .route-from .result .stack) (stack-is w) (k .before .before .rank .result) (k .rank2 .result) (k .before .before .rank .ensures) (k .rank2 .ensures) (w .before .before .if3 .left) (c .if4 .left))
     (w .route-from .result .stack) (w .route-from .result .turns) (w .route-from .result .taken) (w .route-from .ensures .0) (w .route-from .ensures .1) (few w)
 
 pub draft-plan-spec : {M : Type 1} → statement M
@@ -129,6 +143,7 @@ draft-plan-spec =
     plan-refusal-requires
     no-draft-requires
     returns
+    table-requires
     entry-of-requires
     no-draft-requires-2
     returns-2

@@ -13,28 +13,28 @@ use Rattle.plan.proofs.route.route_from.Statement.{statement}
 use Rattle.plan.proofs.route.route_from.Tie as tie
 
 abbrev Inv-loop : tie.InvT-loop
-Inv-loop kind n groups table goal stack₀ index₀ turns₀ taken₀ stack index turns taken =
+Inv-loop kind n groups table lookup goal stack₀ index₀ turns₀ taken₀ stack index turns taken =
     Travelled kind n (turnsIn kind n groups) table goal stack₀ stack index turns taken
 
 abbrev μ-loop : tie.MeasureT-loop
-μ-loop kind n groups table goal stack₀ index₀ turns₀ taken₀ stack index turns taken = planLimit - taken
+μ-loop kind n groups table lookup goal stack₀ index₀ turns₀ taken₀ stack index turns taken = planLimit - taken
 
 rank-requires : tie.Need-rank-requires Inv-loop μ-loop
-rank-requires c κs = (c .before .pre .0, c .before .pre .1)
+rank-requires c κs = (c .before .pre .0 .0, c .before .pre .0 .1, c .before .pre .1)
 
 rank-requires-2 : tie.Need-rank-requires-2 Inv-loop μ-loop
-rank-requires-2 c κs = (c .before .before .pre .0, c .before .before .pre .2)
+rank-requires-2 c κs = (c .before .before .pre .0 .0, c .before .before .pre .0 .2, c .before .before .pre .1)
 
 loop-holds : tie.Need-loop-holds Inv-loop μ-loop
 loop-holds c =
     let s = c .before .before .before in
-    travelled-start (s .args .kind) (s .args .n) (turnsIn (s .args .kind) (s .args .n) (s .args .groups)) (s .args .table .now) (c .before .rank .result) (s .args .given) (c .rank2 .result) (replicate planLimit 0) (s .pre .2) (c .rank2 .ensures) refl
+    travelled-start (s .args .kind) (s .args .n) (turnsIn (s .args .kind) (s .args .n) (s .args .groups)) (s .args .table .now) (c .before .rank .result) (s .args .given) (c .rank2 .result) (replicate planLimit 0) (s .pre .0 .2) (c .rank2 .ensures) refl
 
 get-entry-requires : tie.Need-get-entry-requires Inv-loop μ-loop
 get-entry-requires c κs =
     let a = c .before in
     let s = a .before .before .before .before in
-    entry-inside (s .args .kind) (s .args .n) (a .loop .stack) (s .args .table .now) (a .loop .index) (s .pre .0) (a .loop .inv .is-stack) (s .pre .3) (a .loop .inv .at)
+    entry-inside (s .args .kind) (s .args .n) (a .loop .stack) (s .args .table .now) (a .loop .index) (s .pre .0 .0) (a .loop .inv .is-stack) (s .pre .0 .3) (a .loop .inv .at)
 
 returns : tie.Need-returns Inv-loop μ-loop
 returns c =
@@ -57,7 +57,7 @@ turn-to-requires : tie.Need-turn-to-requires Inv-loop μ-loop
 turn-to-requires c κs =
     let a = c .before .before .before .before .before in
     let s = a .before .before .before .before in
-    (s .pre .0, a .loop .inv .is-stack, a .loop .inv .at, s .pre .3)
+    ((s .pre .0 .0, a .loop .inv .is-stack, a .loop .inv .at, s .pre .0 .3), s .pre .1)
 
 -- what is found is the turn that leads one nearer
 found : (c : tie.After-turn-to Inv-loop μ-loop)
@@ -76,7 +76,7 @@ returns-2 : tie.Need-returns-2 Inv-loop μ-loop
 returns-2 c =
     let a = c .before .before .before .before .before .before .before in
     let s = a .before .before .before .before in (
-      travelled-stuck (s .args .kind) (s .args .n) (a .loop .inv) (set-turns (s .args .kind) (s .args .n) (s .pre .0) (s .args .groups))
+      travelled-stuck (s .args .kind) (s .args .n) (a .loop .inv) (set-turns (s .args .kind) (s .args .n) (s .pre .0 .0) (s .args .groups))
           (c .before .turn-to .result .k) (c .before .before .before .before .if1 .left) (found (c .before)) (c .if2 .taken) (s .args .wanted) (a .before .before .rank .ensures),
       travelled-length (s .args .kind) (s .args .n) (a .loop .inv),
     )
@@ -85,9 +85,9 @@ turned-requires : tie.Need-turned-requires Inv-loop μ-loop
 turned-requires c κs =
     let a = c .before .before .before .before .before .before .before in
     let s = a .before .before .before .before in (
-      s .pre .0,
+      s .pre .0 .0,
       a .loop .inv .is-stack,
-      turn-low (s .args .kind) (s .args .n) (s .args .table .now) (a .loop .stack) (c .before .before .next-entry2 .result) (set-turns (s .args .kind) (s .args .n) (s .pre .0) (s .args .groups))
+      turn-low (s .args .kind) (s .args .n) (s .args .table .now) (a .loop .stack) (c .before .before .next-entry2 .result) (set-turns (s .args .kind) (s .args .n) (s .pre .0 .0) (s .args .groups))
           (c .before .turn-to .result .k) (c .before .turn-to .ensures .0) (c .if2 .left),
     )
 
@@ -105,8 +105,8 @@ loop-again c =
     let a = c .before .before .before .before .before .before .before .before in
     let s = a .before .before .before .before in
     let step = c .before .before .turn-to in
-    travelled-step (s .args .kind) (s .args .n) (a .loop .inv) (set-turns (s .args .kind) (s .args .n) (s .pre .0) (s .args .groups))
-    (step .result .k) (c .before .before .before .before .before .if1 .left) (found (c .before .before)) (s .pre .0)
+    travelled-step (s .args .kind) (s .args .n) (a .loop .inv) (set-turns (s .args .kind) (s .args .n) (s .pre .0 .0) (s .args .groups))
+    (step .result .k) (c .before .before .before .before .before .if1 .left) (found (c .before .before)) (s .pre .0 .0)
     (omega (arith, array-write-turns c)) (c .before .if2 .left) (c .turned .result) (c .turned .ensures) (step .result .index) (step .ensures .1)
 
 returns-3 : tie.Need-returns-3 Inv-loop μ-loop

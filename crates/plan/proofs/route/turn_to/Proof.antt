@@ -12,10 +12,10 @@ use Rattle.plan.proofs.route.turn_to.Statement.{statement}
 use Rattle.plan.proofs.route.turn_to.Tie as tie
 
 abbrev Inv-loop : tie.InvT-loop
-Inv-loop kind n groups index v table stack first k₀ k = (k ≤ n) × NoneAbove kind n groups table stack v k
+Inv-loop kind n groups index v table lookup stack first k₀ k = (k ≤ n) × NoneAbove kind n groups table stack v k
 
 abbrev μ-loop : tie.MeasureT-loop
-μ-loop kind n groups index v table stack first k₀ k = k
+μ-loop kind n groups index v table lookup stack first k₀ k = k
 
 first-turn-requires : tie.Need-first-turn-requires Inv-loop μ-loop
 first-turn-requires c κs = search needs
@@ -33,21 +33,21 @@ lifts-requires c κs =
     let l = c .before in
     let s = l .before .before .before .before in (
       omega (arith, l .loop .inv .0, l .before .before .first-turn .ensures, first-pos (s .args .kind)),
-      omega (arith, l .loop .inv .0, panes-twelve (s .args .kind) (s .args .n) (s .pre .0)),
+      omega (arith, l .loop .inv .0, panes-twelve (s .args .kind) (s .args .n) (s .pre .0 .0)),
     )
 
 rank-turned-requires : tie.Need-rank-turned-requires Inv-loop μ-loop
 rank-turned-requires c κs =
     let l = c .before .before .before .before in
     let s = l .before .before .before .before in
-    (s .pre .0, s .pre .1, s .pre .2, omega (arith, l .loop .inv .0))
+    (s .pre .0 .0, s .pre .0 .1, s .pre .0 .2, omega (arith, l .loop .inv .0), s .pre .1)
 
 get-entry-requires : tie.Need-get-entry-requires Inv-loop μ-loop
 get-entry-requires c κs =
     let l = c .before .before .before .before .before in
     let s = l .before .before .before .before in
-    entry-inside (s .args .kind) (s .args .n) _ (s .args .table .now) (c .rank-turned .result) (s .pre .0)
-    (turn-stack (s .args .kind) (s .args .n) (s .pre .0) _ (s .args .t4) (omega (arith, l .loop .inv .0)) (s .pre .1)) (s .pre .3) (c .rank-turned .ensures)
+    entry-inside (s .args .kind) (s .args .n) _ (s .args .table .now) (c .rank-turned .result) (s .pre .0 .0)
+    (turn-stack (s .args .kind) (s .args .n) (s .pre .0 .0) _ (s .args .t4) (omega (arith, l .loop .inv .0)) (s .pre .0 .1)) (s .pre .0 .3) (c .rank-turned .ensures)
 
 returns : tie.Need-returns Inv-loop μ-loop
 returns c =
@@ -88,7 +88,7 @@ returns-2 c =
     let l = c .before in
     let s = l .before .before .before .before in (
       tried-all (s .args .kind) (s .args .n) (s .args .groups) (s .args .table .now) (s .args .t4) (s .args .v) (l .loop .k) (l .loop .inv .1) (omega (arith, l .before .before .first-turn .ensures)),
-      no-turn (s .args .kind) (s .args .n) (s .args .t4) (s .args .index) (s .pre .2),
+      no-turn (s .args .kind) (s .args .n) (s .args .t4) (s .args .index) (s .pre .0 .2),
     )
 
 pub turn-to-spec : {M : Type 1} → statement M

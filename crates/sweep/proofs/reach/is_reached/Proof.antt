@@ -17,15 +17,15 @@ use Rattle.sweep.proofs.reach.is_reached.Statement.{statement}
 use Rattle.sweep.proofs.reach.is_reached.Tie as tie
 
 abbrev Inv-loop : tie.InvT-loop
-Inv-loop kind n groups size b list index stack k₀ rest₀ k rest =
+Inv-loop kind n groups size b list index lookup stack k₀ rest₀ k rest =
     (1 ≤ firstTurn kind) × (firstTurn kind ≤ k + 1) × (lastTurn kind n ≤ stackPlaces) × (k ≤ lastTurn kind n) × (groups / 2 ^ lastTurn kind n ≡ 0)
     × (rest ≡ groups / 2 ^ (k + 1 - 1)) × Unreached kind n groups size b list index (k + 1)
 
 abbrev μ-loop : tie.MeasureT-loop
-μ-loop kind n groups size b list index stack k₀ rest₀ k rest = rest
+μ-loop kind n groups size b list index lookup stack k₀ rest₀ k rest = rest
 
 unrank-requires : tie.Need-unrank-requires Inv-loop μ-loop
-unrank-requires c κs = (c .before .pre .is-pane-count, c .before .pre .below)
+unrank-requires c κs = (c .before .pre .0 .is-pane-count, c .before .pre .0 .below, c .before .pre .1)
 
 first-turn-requires : tie.Need-first-turn-requires Inv-loop μ-loop
 first-turn-requires c κs = search needs
@@ -42,8 +42,8 @@ shr-rest c =
     omega (
       arith,
       c .first-turn .ensures,
-      first-last (s .args .kind) (s .args .n) (s .pre .is-pane-count),
-      last-twelve (s .args .kind) (s .args .n) (s .pre .is-pane-count),
+      first-last (s .args .kind) (s .args .n) (s .pre .0 .is-pane-count),
+      last-twelve (s .args .kind) (s .args .n) (s .pre .0 .is-pane-count),
     )
 
 loop-holds : tie.Need-loop-holds Inv-loop μ-loop
@@ -55,12 +55,12 @@ loop-holds c =
     let groups = a .groups in
     let k = c .first-turn .result - 1 in
     let first : k + 1 ≡ firstTurn kind = omega (arith, c .first-turn .ensures, first-pos kind) in
-    let low = last-twelve kind n (s .pre .is-pane-count) in (
+    let low = last-twelve kind n (s .pre .0 .is-pane-count) in (
       first-pos kind,
       omega arith,
       low,
-      omega (arith, first-last kind n (s .pre .is-pane-count)),
-      set-left kind n groups low (s .pre .set-fits) (search needs),
+      omega (arith, first-last kind n (s .pre .0 .is-pane-count)),
+      set-left kind n groups low (s .pre .0 .set-fits) (search needs),
       ap (λ (j : ℕ). groups / 2 ^ j) (let e : k ≡ k + 1 - 1 = omega arith in e),
       subst (Unreached kind n groups (a .size) (a .b) (a .list .now) (a .index)) (sym first)
           (unreached-none kind n groups (a .size) (a .b) (a .list .now) (a .index)),
@@ -86,10 +86,11 @@ rank-turned-requires c κs =
     let n = s .args .n in
     let index = s .args .index in
     let e = l .before .before .unrank .ensures in (
-      s .pre .is-pane-count,
-      ap (isStack kind n) e ∙ unrank-stack kind n index (s .pre .is-pane-count) (s .pre .below),
-      sym (ap (rankOf kind n) e ∙ rank-unrank kind n index (s .pre .is-pane-count) (s .pre .below)),
+      s .pre .0 .is-pane-count,
+      ap (isStack kind n) e ∙ unrank-stack kind n index (s .pre .0 .is-pane-count) (s .pre .0 .below),
+      sym (ap (rankOf kind n) e ∙ rank-unrank kind n index (s .pre .0 .is-pane-count) (s .pre .0 .below)),
       turn-left l (c .before .before .loop-test .taken),
+      s .pre .1,
     )
 
 is-changed-requires : tie.Need-is-changed-requires Inv-loop μ-loop
@@ -98,7 +99,7 @@ is-changed-requires c κs =
     let t = c .before .before .before in
     let l = t .before in
     let s = l .before .before .before .before in
-    child-bit (s .pre) (l .loop .k + 1) (c .rank-turned .result) (l .before .before .unrank .result) (turn-left l (t .loop-test .taken))
+    child-bit (s .pre .0) (l .loop .k + 1) (c .rank-turned .result) (l .before .before .unrank .result) (turn-left l (t .loop-test .taken))
     (l .before .before .unrank .ensures)
     (c .rank-turned .ensures)
 

@@ -3,22 +3,26 @@ use mathlib.Core.Path.{_∙_}
 use mathlib.Core.Logic.{⊎-elim}
 use Prim.Native.Nat.{_-_}
 use native.Mathlib.Omega.{arith}
+use borrow.Author.Needs.{needs}
 use Rattle.sweep.proofs.Running.{SweptTo, swept-none, base-fits, swept-same, swept-end, stack-fits, stack-byte, reach-fits, mark-fits, swept-seen, swept-unreached, swept-reached}
 use Rattle.sweep.proofs.run.sweep_run.Statement.{statement}
 use Rattle.sweep.proofs.run.sweep_run.Tie as tie
 
 abbrev Inv-loop : tie.InvT-loop
-Inv-loop pair stacks segment₀ list base found₀ at₀ segment found at =
+Inv-loop pair stacks segment₀ list lookup base found₀ at₀ segment found at =
     SweptTo pair stacks segment₀ found₀ list segment found at
 
 abbrev μ-loop : tie.MeasureT-loop
-μ-loop pair stacks segment₀ list base found₀ at₀ segment found at = stacks - at
+μ-loop pair stacks segment₀ list lookup base found₀ at₀ segment found at = stacks - at
+
+table-requires : tie.Need-table-requires Inv-loop μ-loop
+table-requires c κs = search needs
 
 mul-base : tie.Need-mul-base Inv-loop μ-loop
-mul-base c = record { fits = base-fits (c .before .before .before .pre) }
+mul-base c = record { fits = base-fits (c .before .before .before .before .pre) }
 
 loop-holds : tie.Need-loop-holds Inv-loop μ-loop
-loop-holds c = swept-none (c .before .before .before .pre)
+loop-holds c = swept-none (c .before .before .before .before .pre)
 
 get-entry-requires : tie.Need-get-entry-requires Inv-loop μ-loop
 get-entry-requires c κs = stack-byte (c .before .before .loop .inv) (c .before .loop-test .taken)
@@ -27,10 +31,12 @@ add-index : tie.Need-add-index Inv-loop μ-loop
 add-index c = let t = c .before .before .before in record { fits = stack-fits (t .before .loop .inv) (t .loop-test .taken) }
 
 is-reached-requires : tie.Need-is-reached-requires Inv-loop μ-loop
-is-reached-requires c κs = let t = c .before .before .before in reach-fits (t .before .loop .inv) (t .loop-test .taken)
+is-reached-requires c κs =
+    let t = c .before .before .before .before in
+    (reach-fits (t .before .loop .inv) (t .loop-test .taken), t .before .before .before .table .ensures)
 
 mark-stack-requires : tie.Need-mark-stack-requires Inv-loop μ-loop
-mark-stack-requires c κs = let t = c .before .before .before .before .before .before in mark-fits (t .before .loop .inv) (t .loop-test .taken)
+mark-stack-requires c κs = let t = c .before .before .before .before .before .before .before in mark-fits (t .before .loop .inv) (t .loop-test .taken)
 
 add-at : tie.Need-add-at Inv-loop μ-loop
 add-at c = omega arith
@@ -44,8 +50,8 @@ loop-again c =
     let t = read .before .before in
     let r = t .before .loop .inv in
     let more = t .loop-test .taken in
-    ⊎-elim (λ w. swept-same (swept-reached r more (w .1 .ensures) (w .2 .taken) (w .4 .ensures)) (w .7) (w .8))
-    (⊎-elim (λ w. swept-same (swept-unreached r more (w .1 .ensures) (w .2 .left)) (w .3) (w .4))
+    ⊎-elim (λ w. swept-same (swept-reached r more (w .2 .ensures) (w .3 .taken) (w .5 .ensures)) (w .8) (w .9))
+    (⊎-elim (λ w. swept-same (swept-unreached r more (w .2 .ensures) (w .3 .left)) (w .4) (w .5))
     (λ w. swept-same (swept-seen r more (λ e. w .0 .left (read .get-entry .ensures ∙ e))) (w .1) (w .2)))
     (c .if1 .came)
 
@@ -61,6 +67,7 @@ sweep-run-spec =
     (tie.spec
     Inv-loop
     μ-loop
+    table-requires
     mul-base
     loop-holds
     get-entry-requires

@@ -1,0 +1,2 @@
+-- Laws of the text of a table in lines.
+pub mod TextLaws

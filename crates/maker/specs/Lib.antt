@@ -1,0 +1,2 @@
+-- The text of the table of ones.
+pub mod OnesText
