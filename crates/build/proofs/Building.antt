@@ -18,7 +18,7 @@ use Rattle.search.proofs.Coherence.{given-begin}
 use Rattle.search.proofs.Terms.{termsWith}
 use Rattle.search.proofs.WholeTable.{Accepts, Driving, driving-begins, driving-ends}
 
--- a Begin of zeros answers a job of zeros, refused or not
+-- a Begin of zeros answers the same job, refused or not
 pub begin-zeros : beginOf 0 0 (replicate stackPlaces (pos 0)) 0 0 0 .job ≡ begun 0 0 (replicate stackPlaces (pos 0)) 0 0 0
 unfolding beginOf
 begin-zeros = go (eqb (beginRefusal 0 0 (replicate stackPlaces (pos 0)) 0 0 0) 0)

@@ -46,7 +46,7 @@ fn build_refusal(
     0
 }
 
-// The job that Begin answers: a new one, or one of zeros where it refuses.
+// The job that Begin answers: a new one, or where it refuses the one that no call accepts.
 fn begun_job(kind: u8, n: u8, wanted: [i8; PLACES], groups: u32, size: u32, room: u32) -> Job
     ensures { λ r. ⌜ r ≡ (beginOf kind n wanted groups size room) .job ⌝ }
 {
@@ -86,7 +86,7 @@ fn has_ended(job: Job) -> bool
 }
 
 // A build from Begin to its end, in a table, a log area and a changed list of the right lengths. Refused, they are as they were, and the job is
-// one of zeros.
+// that of a refused Begin.
 pub fn build_table(
     kind: u8,
     n: u8,

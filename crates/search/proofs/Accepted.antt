@@ -1,7 +1,7 @@
 -- What each accepted call was given, as named facts, and what it leaves; a refused one leaves what it was lent.
 use mathlib.Core.Path.{_≡_, refl, sym, ap, _∙_}
 use mathlib.Core.Logic.{_⊎_, inl, inr}
-use mathlib.Core.Bool.{Bool, true, false, not}
+use mathlib.Core.Bool.{Bool, true, false, not, cond}
 use mathlib.Core.List.{List}
 use Prim.Native.Nat.{ℕ, _<_}
 use lib.Dec.{ltb, eqb}
@@ -10,7 +10,7 @@ use borrow.Author.Tests.{ltb-true, lt-ltb, eqb-true, eq-eqb, ne-eqb, not-true}
 use Rattle.base.specs.Words.{unless, all}
 use Rattle.base.proofs.Tests.{unless-zero, and-left, and-right, and-both, never, eq-or-ne}
 use Rattle.search.specs.Blank.{blankRefusal, blanked, blankOf}
-use Rattle.search.specs.Close.{isReady, isPastLast, closeRefusal, closed, closeOf}
+use Rattle.search.specs.Close.{isReady, isPastLast, closeRefusal, nextPhase, closed, closeOf}
 use Rattle.search.specs.Entries.{bytesFor}
 use Rattle.search.specs.Expand.{expandRefusal, expansion, expandedJob, expandOf}
 use Rattle.search.specs.JobState.{lastLevel, isCoherent, isBlanking, isLevel, isReverse, inForward, inReverse, isFinished, levelOf, segmentCountOf, stackCountAt, logLength, passedOf, countOf, isLoaded, isSwept, progressed, directed}
@@ -399,3 +399,11 @@ module _ (job : Job) (way : Way) where
   pub close-refused : (closeRefusal job ≡ 0 → ⊥) → closeOf job way ≡ record { refusal = closeRefusal job; job = job }
   unfolding closeOf
   close-refused h = rw (ne-eqb (closeRefusal job) 0 h)
+
+  pub close-phase : closeOf job way .job .phase ≡ cond (eqb (closeRefusal job) 0) (nextPhase (job .counts) (job .phase)) (job .phase)
+  unfolding closeOf closed directed progressed
+  close-phase = go (eqb (closeRefusal job) 0)
+    where
+      go : (t : Bool) → cond t (closed job way) job .phase ≡ cond t (nextPhase (job .counts) (job .phase)) (job .phase)
+      go true = refl
+      go false = refl

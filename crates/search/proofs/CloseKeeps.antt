@@ -32,7 +32,7 @@ use Rattle.search.specs.declared.Phase.{Phase}
 use Rattle.search.specs.declared.Phase.the-variants.{Blanking, Level, Finished}
 use Rattle.search.specs.declared.Way.{Way}
 use Rattle.search.proofs.Accepted.{reverse-level, level-reverse, CloseFacts, past-facts, close-facts, close-accepted}
-use Rattle.search.proofs.EntryLaws.{get-set-same, get-set-other, blank-length, blank-entry, byte-inside, spare-inside}
+use Rattle.search.proofs.EntryLaws.{set-bytes, get-set-same, get-set-other, blank-length, blank-bytes, blank-entry, byte-inside, spare-inside}
 use Rattle.search.proofs.Invariant.{Shaped, Spares, Blanks, Searches, Ended, Invariant, entryIn, Looked, Logged, InPhase, blanking, searching, ended}
 use Rattle.search.proofs.PairLaws.{none-swept}
 use Rattle.search.proofs.SegmentLaws.{segment-some, stack-segment, stack-offset}
@@ -54,6 +54,14 @@ module _ (job : Job) (j : ℕ) where
           get-set-other (blank (stackCountAt job j)) (goalOf job % job .size) i 0 (omega arith) (away (eqb-true (goalOf job / job .size) j e))
           ∙ blank-entry (stackCountAt job j) i h
       go false e = blank-entry (stackCountAt job j) i h
+
+  blanked-bytes : (k : ℕ) → getD (blanked job j) k 0 < 256
+  unfolding blanked
+  blanked-bytes k = go (eqb (goalOf job / job .size) j)
+    where
+      go : (t : Bool) → getD (cond t (setEntry (blank (stackCountAt job j)) (goalOf job % job .size) 0) (blank (stackCountAt job j))) k 0 < 256
+      go true = set-bytes (blank (stackCountAt job j)) (goalOf job % job .size) 0 (omega arith) (blank-bytes (stackCountAt job j)) k
+      go false = blank-bytes (stackCountAt job j) k
 
   blanked-goal : (i : ℕ) → i / 4 < bytesFor (stackCountAt job j) → goalOf job / job .size ≡ j → i ≡ goalOf job % job .size
       → entryAt (blanked job j) i ≡ 0
@@ -197,6 +205,7 @@ module _ {terms : Terms} (given : Given terms) where
       unfolding closedWorld
       blank-spares =
           record {
+            byte = λ j k h. rw (all-blanked j h) (blanked-bytes (w .job) j k);
             spare = λ j i h l k. ap (λ (bytes : List ℕ). entryAt bytes i) (all-blanked j h)
                 ∙ blanked-entry (w .job) j i (rw (stacks-is shaped j) (spare-inside i (m terms j) k))
                 (λ e q. omega (
@@ -257,7 +266,7 @@ module _ {terms : Terms} (given : Given terms) where
     pub ready-reverse : isReverse (w .job .way) ≡ true → (b j : ℕ) → b < G terms → j < G terms → isSwept (w .job) b j ≡ true
     ready-reverse reverse = ready-swept shaped ready (level-reverse (w .job) levelled reverse)
 
-    all-settled : (j : ℕ) → waitingOf (w .job) j ≡ 0
+    pub all-settled : (j : ℕ) → waitingOf (w .job) j ≡ 0
     all-settled j = go (test-cases (isReverse (w .job .way))) (lt-or-ge j (G terms))
       where
         go : (isReverse (w .job .way) ≡ true) ⊎ (isReverse (w .job .way) ≡ false) → (j < G terms) ⊎ (G terms ≤ j) → waitingOf (w .job) j ≡ 0
@@ -334,7 +343,7 @@ module _ {terms : Terms} (given : Given terms) where
     -- with the way that Close is told
     module _ (way : Way) where
       -- a level's Close leaves the counts of the levels up to it, and 0 above
-      pub closed-counts : (i : ℕ) → i ≤ d → countOf (closedWorld w way .job) i ≡ levelCount terms i
+      closed-counts : (i : ℕ) → i ≤ d → countOf (closedWorld w way .job) i ≡ levelCount terms i
       unfolding closedWorld closed progressed directed countOf nextCounts
       closed-counts i l = ap (λ (p : Phase). getD (nextCounts (w .job .counts) p) i 0) (search .phase-is) ∙ go (eq-or-ne i d)
         where
@@ -342,13 +351,13 @@ module _ {terms : Terms} (given : Given terms) where
           go (inl e) = subst (λ (x : ℕ). countOf (w .job) x ≡ levelCount terms x) (sym e) count-whole
           go (inr ne) = search .counts-below i (omega arith)
 
-      pub closed-above : (i : ℕ) → d < i → countOf (closedWorld w way .job) i ≡ 0
+      closed-above : (i : ℕ) → d < i → countOf (closedWorld w way .job) i ≡ 0
       unfolding closedWorld closed progressed directed countOf nextCounts
       closed-above i l = ap (λ (p : Phase). getD (nextCounts (w .job .counts) p) i 0) (search .phase-is) ∙ search .counts-above i l
 
       level-spares : Spares terms (closedWorld w way)
       unfolding closedWorld
-      level-spares = record { spare = search .spares .spare }
+      level-spares = record { byte = search .spares .byte; spare = search .spares .spare }
 
       closed-next : isPastLast (w .job) ≡ false → (countOf (w .job) d ≡ 0 → ⊥) → Searches terms (closedWorld w way) (suc d)
       unfolding closedWorld closed progressed directed nextPhase countOf

@@ -381,7 +381,7 @@ rechanged {terms} {w} invariant changed same = record { shaped = shaped; phase =
           entries = s .entries;
           unreached = s .unreached;
           greatest = s .greatest;
-          spares = record { spare = s .spares .spare };
+          spares = record { byte = s .spares .byte; spare = s .spares .spare };
           counts = s .counts;
           counts-past = s .counts-past;
           deepest = s .deepest;

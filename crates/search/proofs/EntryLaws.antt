@@ -1,5 +1,5 @@
--- Laws of the two-bit entries: a digit of a byte and an entry of a list of bytes, each read after it is set; blank entries; the entry
--- that follows.
+-- Laws of the two-bit entries: a digit of a byte and an entry of a list of bytes, each read after it is set; that the entries tell the bytes;
+-- blank entries; the entry that follows.
 use mathlib.Core.Path.{_≡_, refl, sym, ap, _∙_}
 use mathlib.Core.Logic.{_⊎_, inl, inr}
 use mathlib.Core.List.{List}
@@ -7,9 +7,9 @@ use Prim.Native.Nat.{ℕ, zero, suc, _+_, _-_, _*_, _/_, _%_, _^_, _<_, _≤_}
 use native.Mathlib.Nat.{mod-lt, mod-add-mod, div-add-mod', div-div-eq-div-mul, div-lt-iff-lt-mul, mul-add-div-right, mul-add-mod-self-right, add-assoc, add-mul, mul-assoc, mul-comm, pow-suc, pow-succ', one-le-pow}
 use native.Mathlib.Omega.{arith}
 use lib.Arith.{digits-lt, digits-div, digits-mod}
-use lib.ListN.{length, getD, length-set, length-replicate, getD-replicate}
+use lib.ListN.{length, getD, replicate, length-set, length-replicate, getD-replicate, List·getD-eq-default}
 use lib.Pow.{pow-add}
-use lib.Seq.{getD-set-same, getD-set-other, set-out}
+use lib.Seq.{getD-set-same, getD-set-other, set-out, ext-getD}
 use Rattle.base.proofs.Tests.{lt-or-ge, eq-or-ne}
 use Rattle.search.specs.Entries.{digit, withDigit, entryAt, setEntry, nextEntry, bytesFor, blank}
 
@@ -162,9 +162,58 @@ get-set-other bytes i l v h ne = go (eq-or-ne (l / 4) (i / 4)) (lt-or-ge (i / 4)
         (ap (λ (b : ℕ). digit b (l % 4)) (set-byte-same bytes i v m)
         ∙ digit-other (getD bytes (i / 4) 0) (i % 4) (l % 4) v h (λ q. ne (omega arith)))
 
+-- bytes stay bytes
+pub set-bytes : (bytes : List ℕ) (i v : ℕ) → v < 4 → ((k : ℕ) → getD bytes k 0 < 256) → (k : ℕ) → getD (setEntry bytes i v) k 0 < 256
+set-bytes bytes i v h below k = go (eq-or-ne k (i / 4)) (lt-or-ge (i / 4) (length bytes))
+  where
+    go : (k ≡ i / 4) ⊎ (k ≡ i / 4 → ⊥) → (i / 4 < length bytes) ⊎ (length bytes ≤ i / 4) → getD (setEntry bytes i v) k 0 < 256
+    go (inr ne) s = rw (set-byte-other bytes i v k ne) (below k)
+    go (inl e) (inr m) = rw (set-past bytes i v m) (below k)
+    go (inl e) (inl m) =
+        rw (e, set-byte-same bytes i v m) (withDigit-byte (getD bytes (i / 4) 0) (i % 4) v (below (i / 4)) (omega arith) h)
+
+-- the four digits tell the byte, and the entries the bytes
+of-digits : (b : ℕ) → b < 256 → b ≡ digit b 3 * 64 + digit b 2 * 16 + digit b 1 * 4 + digit b 0
+unfolding digit
+of-digits b h =
+    let one : b ≡ b / 4 * 4 + b / 1 % 4 = omega arith in
+    let two : b / 4 ≡ b / 16 * 4 + b / 4 % 4 = sym (div-add-mod' (b / 4) 4) ∙ ap (λ (q : ℕ). q * 4 + b / 4 % 4) (div-div-eq-div-mul b 4 4) in
+    let three : b / 16 ≡ b / 64 * 4 + b / 16 % 4 = sym (div-add-mod' (b / 16) 4) ∙ ap (λ (q : ℕ). q * 4 + b / 16 % 4) (div-div-eq-div-mul b 16 4) in
+    let four : b / 64 ≡ b / 64 % 4 = omega arith in
+    sum b (b / 4) (b / 16) (b / 64) (b / 1 % 4) (b / 4 % 4) (b / 16 % 4) (b / 64 % 4) one two three four
+  where
+    sum : (b p q r e f g h : ℕ) → b ≡ p * 4 + e → p ≡ q * 4 + f → q ≡ r * 4 + g → r ≡ h → b ≡ h * 64 + g * 16 + f * 4 + e
+    sum b p q r e f g h one two three four = omega arith
+
+byte-digits : (b c : ℕ) → b < 256 → c < 256 → ((k : ℕ) → k < 4 → digit b k ≡ digit c k) → b ≡ c
+byte-digits b c h l same =
+    of-digits b h
+    ∙ (λ i. same 3 (omega arith) i * 64 + same 2 (omega arith) i * 16 + same 1 (omega arith) i * 4 + same 0 (omega arith) i)
+    ∙ sym (of-digits c l)
+
+entry-digit : (bytes : List ℕ) (k r : ℕ) → r < 4 → entryAt bytes (k * 4 + r) ≡ digit (getD bytes k 0) r
+unfolding entryAt
+entry-digit bytes k r h =
+    ap (λ (x : ℕ). digit (getD bytes x 0) ((k * 4 + r) % 4)) (digits-div k h) ∙ ap (digit (getD bytes k 0)) (digits-mod k h)
+
+pub entries-same : (bs cs : List ℕ) → length bs ≡ length cs → ((k : ℕ) → getD bs k 0 < 256) → ((k : ℕ) → getD cs k 0 < 256)
+    → ((i : ℕ) → i < 4 * length bs → entryAt bs i ≡ entryAt cs i) → bs ≡ cs
+entries-same bs cs long b c same =
+    ext-getD 0 bs cs long
+    (λ k h. byte-digits (getD bs k 0) (getD cs k 0) (b k) (c k)
+    (λ r l. sym (entry-digit bs k r l) ∙ same (k * 4 + r) (omega arith) ∙ entry-digit cs k r l))
+
 pub blank-length : (m : ℕ) → length (blank m) ≡ bytesFor m
 unfolding blank
 blank-length m = length-replicate (bytesFor m) _
+
+pub blank-bytes : (m k : ℕ) → getD (blank m) k 0 < 256
+unfolding blank
+blank-bytes m k = go (lt-or-ge k (bytesFor m))
+  where
+    go : (k < bytesFor m) ⊎ (bytesFor m ≤ k) → getD {A = ℕ} (replicate (bytesFor m) 255) k 0 < 256
+    go (inl h) = rw (getD-replicate {A = ℕ} (bytesFor m) k 255 0 h) (omega arith)
+    go (inr h) = rw (List·getD-eq-default {A = ℕ} (replicate (bytesFor m) 255) 0 {n = k} (omega (arith, blank-length m))) (omega arith)
 
 digit-ones : (k : ℕ) → k < 4 → digit 255 k ≡ 3
 unfolding digit

@@ -1,21 +1,23 @@
 -- Expand gives a coherent job: it passes no more than the segment has, marks no more than are unseen, and logs no more than there is room for.
+-- In the log area it writes only what it appends.
 use mathlib.Core.Path.{_≡_, refl, sym, ap, _∙_, subst}
 use mathlib.Core.Logic.{_⊎_, inl, inr}
 use mathlib.Core.Bool.{true, false, cond}
 use mathlib.Core.List.{List, [], _∷_}
 use Prim.Native.Nat.{ℕ, zero, suc, _+_, _-_, _*_, _/_, _%_, _≤_, _<_}
+use native.Mathlib.Nat.{le-refl}
 use native.Mathlib.Omega.{arith}
 use lib.Dec.{ltb, eqb}
-use lib.ListN.{length, getD, set}
-use lib.Seq.{getD-set-other}
+use lib.ListN.{length, getD, set, length-set}
+use lib.Seq.{getD-set-same, getD-set-other, set-out}
 use borrow.Author.Tests.{lt-ltb}
-use Rattle.base.proofs.Tests.{eq-or-ne}
+use Rattle.base.proofs.Tests.{lt-or-ge, eq-or-ne}
 use Rattle.graph.proofs.Tally.{tally-le}
 use Rattle.search.specs.Entries.{entryAt, bytesFor}
 use Rattle.search.specs.Expand.{Expansion, placeChild, placeAll, passOne, waitFor, expandNext, expandRun, expansion, expandedJob, expandRefusal, expandOf}
 use Rattle.search.specs.JobState.{countLimit, levelOf, segmentCountOf, stackCountAt, stackCountOf, movesOf, passedOf, waitingOf, countOf, isCoherent, progressed, sweptOf, isLoaded, loadedFits}
 use Rattle.search.specs.Segments.{segmentLimit}
-use Rattle.search.specs.Logs.{logOne, fallingIn, lacksRoom}
+use Rattle.search.specs.Logs.{Logs, logOne, fallingIn, lacksRoom}
 use Rattle.search.specs.Marks.{marksFrom}
 use Rattle.search.specs.declared.Expanded.{Expanded}
 use Rattle.search.specs.declared.Job.{Job}
@@ -28,7 +30,22 @@ use Rattle.search.proofs.Terms.{termsOf, Given, laws}
 use Rattle.search.proofs.MarkLaws.{mark-length}
 use Rattle.search.proofs.SegmentLaws.{SegmentSizeFacts, segment-size-facts, segment-stack, stack-segment, stack-offset}
 
-module _ (job : Job) (coherent : isCoherent job ≡ true) (j : ℕ) (inside : j < segmentCountOf job) where
+-- a number that is raised by one, among others
+raised : (xs : List ℕ) (u t : ℕ) → getD xs t 0 ≤ getD (set xs u (getD xs u 0 + 1)) t 0
+raised xs u t = go (eq-or-ne t u) (lt-or-ge u (length xs))
+  where
+    go : (t ≡ u) ⊎ (t ≡ u → ⊥) → (u < length xs) ⊎ (length xs ≤ u) → getD xs t 0 ≤ getD (set xs u (getD xs u 0 + 1)) t 0
+    go (inl e) (inl h) = rw e (omega (arith, getD-set-same xs u (getD xs u 0 + 1) 0 h))
+    go (inl e) (inr h) = rw (set-out xs u (getD xs u 0 + 1) h) (le-refl (getD xs t 0))
+    go (inr ne) h = rw (getD-set-other xs u t (getD xs u 0 + 1) 0 ne) (le-refl (getD xs t 0))
+
+-- place p is none of those at which a call appends, that comes to these waiting numbers
+abbrev pub Untouched : Job → List ℕ → ℕ → Type 0
+Untouched job waiting p =
+    (t i : ℕ) → t < segmentCountOf job → waitingOf job t ≤ i → i < getD waiting t 0 → p ≡ t * job .room + i → ⊥
+
+-- log is what the log area held before
+module _ (job : Job) (coherent : isCoherent job ≡ true) (j : ℕ) (inside : j < segmentCountOf job) (log : List ℕ) where
   facts : Coherent job
   facts = coherent-facts job coherent
 
@@ -46,12 +63,20 @@ module _ (job : Job) (coherent : isCoherent job ≡ true) (j : ℕ) (inside : j 
   abbrev logBound : ℕ → ℕ
   logBound t = cond (ltb t (segmentCountOf job)) (job .room) 0
 
+  -- a call that has appended to the logs, and written nowhere else
+  record Appending (logs : Logs) : Type 0 where
+    log-long : length (logs .log) ≡ length log
+    places : length (logs .waiting) ≡ length (job .waiting)
+    more : (t : ℕ) → waitingOf job t ≤ getD (logs .waiting) t 0
+    kept : segmentLimit ≤ length (job .waiting) → (p : ℕ) → Untouched job (logs .waiting) p → getD (logs .log) p 0 ≡ getD log p 0
+
   -- how far a call may have come: total is what was counted and what was unseen when it began
   record Fitting (total : ℕ) (e : Expansion) : Type 0 where
     bytes : length (e .marks .segment) ≡ bytesFor (stackCountAt job j)
     budget : e .marks .count + unseenIn (stackCountAt job j) (e .marks .segment) ≡ total
     at-fits : e .at ≤ stackCountAt job j
     waiting : (t : ℕ) → t < segmentLimit → getD (e .logs .waiting) t 0 ≤ logBound t
+    appending : Appending (e .logs)
 
   -- every other log has room for the children that fall there
   record Room (children : List ℕ) (e : Expansion) : Type 0 where
@@ -81,6 +106,7 @@ module _ (job : Job) (coherent : isCoherent job ≡ true) (j : ℕ) (inside : j 
             budget = mark-budget S d c (stackCountAt job j) (e .marks) fits (fitting .bytes) ∙ fitting .budget;
             at-fits = fitting .at-fits;
             waiting = fitting .waiting;
+            appending = fitting .appending;
           },
           record { free = λ t l ne. omega (arith, room .free t l ne, falling-elsewhere (job .size) t c children (λ q. ne (sym q ∙ h))) },
         )
@@ -100,10 +126,27 @@ module _ (job : Job) (coherent : isCoherent job ≡ true) (j : ℕ) (inside : j 
             waiting = λ t l. set-fits old u (getD old u 0 + 1) t (logBound t)
                 (λ q. rw (q, lt-ltb u (segmentCountOf job) home) (omega arith))
                 (fitting .waiting t l);
+            appending = appended;
           },
           record { free = λ t l other. after t (room .free t l other) (eq-or-ne t u) },
         )
       where
+        -- the new entry stands at a place of its own
+        appended : Appending (logOne (job .room) (c / job .size) (c % job .size) (e .logs))
+        appended =
+            let u = c / job .size in
+            let old = e .logs .waiting in
+            let was = fitting .appending in
+            record {
+              log-long = length-set (e .logs .log) (u * job .room + getD old u 0) (c % job .size) ∙ was .log-long;
+              places = length-set old u (getD old u 0 + 1) ∙ was .places;
+              more = λ t. omega (arith, was .more t, raised old u t);
+              kept = λ wide p free.
+                  let new = getD-set-same old u (getD old u 0 + 1) 0 (omega (arith, few u home, was .places)) in
+                  getD-set-other (e .logs .log) (u * job .room + getD old u 0) p (c % job .size) 0 (free u (getD old u 0) home (was .more u) (omega arith))
+                  ∙ was .kept wide p (λ t i l m g. free t i l m (omega (arith, raised old u t)));
+            }
+
         after : (t : ℕ) → getD (e .logs .waiting) t 0 + fallingIn (job .size) t (c ∷ children) ≤ job .room
             → (t ≡ c / job .size) ⊎ (t ≡ c / job .size → ⊥)
             → getD (set (e .logs .waiting) (c / job .size) (getD (e .logs .waiting) (c / job .size) 0 + 1)) t 0 + fallingIn (job .size) t children ≤ job .room
@@ -159,12 +202,24 @@ module _ (job : Job) (coherent : isCoherent job ≡ true) (j : ℕ) (inside : j 
   passed-fits : (total : ℕ) (e : Expansion) → e .at < stackCountAt job j → Fitting total e → Fitting total (passOne job j e)
   unfolding passOne
   passed-fits total e h fitting =
-      record { bytes = fitting .bytes; budget = fitting .budget; at-fits = omega arith; waiting = fitting .waiting }
+      record {
+        bytes = fitting .bytes;
+        budget = fitting .budget;
+        at-fits = omega arith;
+        waiting = fitting .waiting;
+        appending = fitting .appending;
+      }
 
   waited-fits : (total t : ℕ) (e : Expansion) → Fitting total e → Fitting total (waitFor job j t e)
   unfolding waitFor
   waited-fits total t e fitting =
-      record { bytes = fitting .bytes; budget = fitting .budget; at-fits = fitting .at-fits; waiting = fitting .waiting }
+      record {
+        bytes = fitting .bytes;
+        budget = fitting .budget;
+        at-fits = fitting .at-fits;
+        waiting = fitting .waiting;
+        appending = fitting .appending;
+      }
 
   next-fitting : (total : ℕ) (e : Expansion) → e .at < stackCountAt job j → Fitting total e → Fitting total (expandNext job j e)
   unfolding stackCountAt stackCountOf
@@ -197,7 +252,7 @@ module _ (job : Job) (coherent : isCoherent job ≡ true) (j : ℕ) (inside : j 
       fits (inl i) = omega arith
       fits (inr i) = omega arith
 
-  module _ (segment log : List ℕ) (long : length segment ≡ bytesFor (stackCountAt job j)) where
+  module _ (segment : List ℕ) (long : length segment ≡ bytesFor (stackCountAt job j)) where
     end-fitting : Fitting (countOf job (levelOf (job .phase)) + unseenIn (stackCountAt job j) segment) (expansion job j segment log)
     unfolding expansion waitingOf
     end-fitting =
@@ -213,7 +268,13 @@ module _ (job : Job) (coherent : isCoherent job ≡ true) (j : ℕ) (inside : j 
           logs = record { log = log; waiting = job .waiting };
         })
         (omega arith)
-        (record { bytes = long; budget = refl; at-fits = passed; waiting = facts .waiting-fits })
+        (record {
+          bytes = long;
+          budget = refl;
+          at-fits = passed;
+          waiting = facts .waiting-fits;
+          appending = record { log-long = refl; places = refl; more = λ t. le-refl (getD (job .waiting) t 0); kept = λ wide p free. refl };
+        })
 
     expanded-coherent : countOf job (levelOf (job .phase)) + stackCountAt job j ≤ countLimit
         → isCoherent (expandedJob job j (expansion job j segment log)) ≡ true
@@ -243,5 +304,22 @@ expand-coherent job coherent j segment log room = go (eq-or-ne (expandRefusal jo
     go (inl e) =
         let f = expand-facts job j (length segment) (length log) e .0 in
         ap (λ (o : List ℕ × List ℕ × Expanded). isCoherent (o .2 .job)) (expand-accepted job j segment log e)
-        ∙ expanded-coherent job coherent j (f .called .inside) segment log (f .long) room
+        ∙ expanded-coherent job coherent j (f .called .inside) log segment (f .long) room
     go (inr ne) = ap (λ (o : List ℕ × List ℕ × Expanded). isCoherent (o .2 .job)) (expand-refused job j segment log ne) ∙ coherent
+
+-- what an Expand writes in the log area, accepted or refused
+pub record Written (job : Job) (log : List ℕ) (out : List ℕ × List ℕ × Expanded) : Type 0 where
+  pub long : length (out .1) ≡ length log
+  pub kept : segmentLimit ≤ length (job .waiting) → (p : ℕ) → Untouched job (out .2 .job .waiting) p → getD (out .1) p 0 ≡ getD log p 0
+
+pub expand-writes : (job : Job) (j : ℕ) (segment log : List ℕ) → Written job log (expandOf job j segment log)
+unfolding expandedJob progressed
+expand-writes job j segment log = go (eq-or-ne (expandRefusal job j (length segment) (length log)) 0)
+  where
+    go : (expandRefusal job j (length segment) (length log) ≡ 0) ⊎ (expandRefusal job j (length segment) (length log) ≡ 0 → ⊥)
+        → Written job log (expandOf job j segment log)
+    go (inl e) =
+        let f = expand-facts job j (length segment) (length log) e .0 in
+        let end = end-fitting job (f .called .coherent) j (f .called .inside) log segment (f .long) .appending in
+        subst (Written job log) (sym (expand-accepted job j segment log e)) (record { long = end .log-long; kept = end .kept })
+    go (inr ne) = subst (Written job log) (sym (expand-refused job j segment log ne)) (record { long = refl; kept = λ wide p free. refl })

@@ -59,8 +59,9 @@ module _ (terms : Terms) where
     pub loaded-fits : (w .job .loaded ≡ noSegment) ⊎ (w .job .loaded < G terms)
     pub swept-fits : (b : ℕ) → sweptOf (w .job) b < cond (ltb b (G terms)) (2 ^ G terms) 1
 
-  -- the spare entries of each segment's last byte are 3
+  -- each byte of a segment is a byte, and the spare entries of its last one are 3
   pub record Spares (w : World) : Type 0 where
+    pub byte : (j k : ℕ) → j < G terms → getD (getD (w .segments) j []) k 0 < 256
     pub spare : (j i : ℕ) → j < G terms → m terms j ≤ i → i < 4 * bytesFor (m terms j) → entryAt (getD (w .segments) j []) i ≡ 3
 
   pub record Blanks (w : World) : Type 0 where

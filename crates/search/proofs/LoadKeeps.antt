@@ -20,7 +20,8 @@ use Rattle.search.specs.declared.Job.{Job}
 use Rattle.search.proofs.Accepted.{load-facts, load-accepted}
 use Rattle.search.proofs.ChangedLaws.{list-length, list-bit, list-spare}
 use Rattle.search.proofs.Invariant.{Listing, Looked, entryIn, isDue}
-use Rattle.search.proofs.SegmentLaws.{segment-stack, segment-stack-div, segment-stack-mod}
+use Rattle.search.proofs.MarkLaws.{entry-own}
+use Rattle.search.proofs.SegmentLaws.{segment-stack}
 use Rattle.search.proofs.Shapes.{segments-is, stacks-is}
 use Rattle.search.proofs.Staging.{Searching, redirect, redirected}
 use Rattle.search.proofs.Terms.{Terms, Given, N, G, m, D, some}
@@ -71,9 +72,7 @@ module _ {terms : Terms} (given : Given terms) {w : World} {d : ℕ} (search : S
       count = stacks-is (search .shaped) b
 
       place : (i : ℕ) → i < m terms b → entryIn (terms .S) (w .segments) (b * terms .S + i) ≡ entryAt segment i
-      place i l =
-          ap (λ (x : ℕ). entryAt (getD (w .segments) x []) ((b * terms .S + i) % terms .S)) (segment-stack-div (N terms) (terms .S) (some given) b i l)
-          ∙ ap (entryAt segment) (segment-stack-mod (N terms) (terms .S) (some given) b i l)
+      place = entry-own (N terms) (terms .S) (some given) (w .segments) b
 
       bit-is : (i : ℕ) → i < m terms b → bitAt (changedOf (w .job) b segment) i ≡ isDue d (D terms (b * terms .S + i))
       bit-is i l =

@@ -16,7 +16,7 @@ use Rattle.graph.proofs.Levels.{Level, Marked, marked-seen}
 use Rattle.search.specs.Entries.{entryAt, setEntry, bytesFor, unseen}
 use Rattle.search.specs.Segments.{stackCountIn}
 use Rattle.search.specs.Marks.{Marks, markOne, markAll}
-use Rattle.search.proofs.EntryLaws.{set-length, get-set-same, get-set-other, byte-inside}
+use Rattle.search.proofs.EntryLaws.{set-length, set-bytes, get-set-same, get-set-other, byte-inside}
 use Rattle.search.proofs.Invariant.{entryIn}
 use Rattle.search.proofs.SegmentLaws.{segment-stack-div, segment-stack-mod, stack-offset}
 
@@ -36,6 +36,13 @@ module _ (S d v : ℕ) (marks : Marks) where
       go : (entryAt (marks .segment) (v % S) ≡ 3) ⊎ (entryAt (marks .segment) (v % S) ≡ 3 → ⊥) → length (markOne S d v marks .segment) ≡ length (marks .segment)
       go (inl h) = rw (mark-unseen h) (set-length (marks .segment) (v % S) (d % 3))
       go (inr h) = rw (mark-seen h)
+
+  pub mark-bytes : ((k : ℕ) → getD (marks .segment) k 0 < 256) → (k : ℕ) → getD (markOne S d v marks .segment) k 0 < 256
+  mark-bytes below k = go (eq-or-ne (entryAt (marks .segment) (v % S)) 3)
+    where
+      go : (entryAt (marks .segment) (v % S) ≡ 3) ⊎ (entryAt (marks .segment) (v % S) ≡ 3 → ⊥) → getD (markOne S d v marks .segment) k 0 < 256
+      go (inl h) = rw (mark-unseen h) (set-bytes (marks .segment) (v % S) (d % 3) (omega arith) below k)
+      go (inr h) = rw (mark-seen h) (below k)
 
   pub mark-other : (l : ℕ) → (l ≡ v % S → ⊥) → entryAt (markOne S d v marks .segment) l ≡ entryAt (marks .segment) l
   mark-other l ne = go (eq-or-ne (entryAt (marks .segment) (v % S)) 3)
@@ -79,11 +86,18 @@ module _ (S : ℕ) (segments : List (List ℕ)) (j : ℕ) (segment : List ℕ) w
   unfolding entryIn
   entry-elsewhere v ne = ap (λ (bytes : List ℕ). entryAt bytes (v % S)) (getD-set-other segments j (v / S) segment [] ne)
 
+-- the entry of stack i of segment j
+pub entry-own : (N S : ℕ) → 0 < S → (segments : List (List ℕ)) (j i : ℕ) → i < stackCountIn N S j
+    → entryIn S segments (j * S + i) ≡ entryAt (getD segments j []) i
+unfolding entryIn
+entry-own N S some segments j i h =
+    ap (λ (x : ℕ). entryAt (getD segments x []) ((j * S + i) % S)) (segment-stack-div N S some j i h)
+    ∙ ap (entryAt (getD segments j [])) (segment-stack-mod N S some j i h)
+
 module _ (N S : ℕ) (some : 0 < S) (segments : List (List ℕ)) (j : ℕ) (inside : j < length segments) where
   pub entry-place : (segment : List ℕ) (i : ℕ) → i < stackCountIn N S j → entryIn S (set segments j segment) (j * S + i) ≡ entryAt segment i
   entry-place segment i h =
-      entry-here S segments j segment inside (j * S + i) (segment-stack-div N S some j i h)
-      ∙ ap (entryAt segment) (segment-stack-mod N S some j i h)
+      entry-own N S some (set segments j segment) j i h ∙ ap (λ (bytes : List ℕ). entryAt bytes i) (getD-set-same segments j segment [] inside)
 
   module _ (d v : ℕ) (marks : Marks) (fits : v < N) (here : v / S ≡ j) (bytes : length (marks .segment) ≡ bytesFor (stackCountIn N S j)) where
     -- the entry of the stack, among all segments and in its own

@@ -1,26 +1,36 @@
--- A refused call leaves the world as it was; in a build whose buffers have their right lengths, every call that is lent another buffer is
--- refused.
+-- A refused call leaves the world as it was, and each operation what it was lent; in a build whose buffers have their right lengths, every
+-- call that names no segment, or is lent another buffer or a list of a wrong length, is refused.
 use mathlib.Core.Path.{_≡_, refl, sym, ap, _∙_}
-use mathlib.Core.Bool.{Bool, true, false, _&&_, cond}
+use mathlib.Core.Logic.{_⊎_, inl, inr}
+use mathlib.Core.Bool.{Bool, true, false, not, _&&_, cond, true≢false}
 use mathlib.Core.List.{List, []}
 use Prim.Native.Nat.{ℕ}
-use lib.Dec.{eqb}
+use lib.Dec.{ltb, eqb}
 use lib.ListN.{length, getD, set}
 use lib.Seq.{set-getD}
-use borrow.Author.Tests.{eqb-false, ne-eqb}
-use Rattle.base.proofs.Tests.{and-both}
-use Rattle.search.specs.Blank.{blankRefusal}
+use borrow.Author.Tests.{eqb-true, eqb-false, ne-eqb}
+use Rattle.base.specs.Words.{unless, all}
+use Rattle.base.proofs.Tests.{test-cases, and-both}
+use Rattle.stacks.specs.Operations.{indexRefusal, stackRefusal, turnRefusal, indexOf, stackOf, turnedOf}
+use Rattle.search.specs.Begin.{beginOf}
+use Rattle.search.specs.Blank.{blankRefusal, blankOf}
 use Rattle.search.specs.Build.{World, withJob, withSegment, withLog, withChanged, Lengths, Lent, Listed, Call, own, other, ownList, otherList, doBlank, doExpand, doSettle, doLook, doLoad, doSweep, doClose, lent, kept, lentList, isOwn, isLentOwn, outcome}
 use Rattle.search.specs.Close.{closeRefusal, closeOf}
+use Rattle.search.specs.Drive.{buildRefusal, buildOf}
 use Rattle.search.specs.Entries.{bytesFor}
-use Rattle.search.specs.Expand.{expandRefusal}
-use Rattle.search.specs.JobState.{stackCountAt, logLength}
+use Rattle.search.specs.Expand.{expandRefusal, expandOf}
+use Rattle.search.specs.JobState.{beginRefusal, isCoherent, isBlanking, inForward, inReverse, segmentCountOf, stackCountAt, passedOf, logLength, isLoaded, isSwept}
+use Rattle.search.specs.Logs.{pending}
 use Rattle.search.specs.Look.{lookRefusal, lookOf}
+use Rattle.search.specs.Plan.{planRefusal, planOf}
 use Rattle.search.specs.Promise.{rightBytes, rightWords}
+use Rattle.search.specs.PromiseCalls.{RefusedSame, StandsAlone, noBuild, givenBack, noStack, RefusedKeeps, isInside, wrongRefusal, RefusesWrong}
+use Rattle.search.specs.Read.{readRefusal, readOf}
 use Rattle.search.specs.Changed.{listBytes}
-use Rattle.search.specs.Load.{loadRefusal}
-use Rattle.search.specs.Settle.{settleRefusal}
-use Rattle.search.specs.Sweep.{sweepRefusal}
+use Rattle.search.specs.Load.{loadRefusal, loadOf}
+use Rattle.search.specs.Refusals.{callRefusal, segmentRefusal, levelRefusal}
+use Rattle.search.specs.Settle.{settleRefusal, settleOf}
+use Rattle.search.specs.Sweep.{sweepRefusal, sweepOf}
 use Rattle.search.specs.declared.Answer.{Answer}
 use Rattle.search.specs.declared.Expanded.{Expanded}
 use Rattle.search.specs.declared.Job.{Job}
@@ -98,6 +108,64 @@ module _ {right : Lengths} (w : World) where
   pub refused-same : (call : Call right) → (outcome w call .refusal ≡ 0 → ⊥) → outcome w call .world ≡ w
   refused-same call h = same-world call (λ e. h (refusal-is call ∙ e))
 
+-- as the promises name it: in any world, and each operation by itself
+pub refused-leaves : RefusedSame
+unfolding RefusedSame
+refused-leaves right w call h = refused-same w call h
+
+-- an outcome by a test of its row of refusals
+pub alone : {X : Type 0} (refusal : X → ℕ) (beside : ℕ → X) (r : ℕ) (out : X)
+    → (eqb r 0 ≡ true → refusal out ≡ 0) → (eqb r 0 ≡ false → out ≡ beside r) → refusal (beside r) ≡ r → StandsAlone refusal beside out
+alone refusal beside r out done kept names h = go (test-cases (eqb r 0))
+  where
+    go : (eqb r 0 ≡ true) ⊎ (eqb r 0 ≡ false) → out ≡ beside (refusal out)
+    go (inl e) = absurd (h (done e))
+    go (inr e) = kept e ∙ ap beside (sym (ap refusal (kept e) ∙ names))
+
+pub refused-keeps : RefusedKeeps
+unfolding indexOf stackOf turnedOf beginOf blankOf expandOf settleOf lookOf loadOf sweepOf closeOf readOf planOf buildOf
+refused-keeps =
+    record {
+      index = λ kind n s.
+          let r = indexRefusal kind n s in
+          alone (λ a. a .refusal) (λ q. record { refusal = q; index = 0 }) r (indexOf kind n s) (eqb-true r 0) (λ h. rw h) refl;
+      stack = λ kind n i.
+          let r = stackRefusal kind n i in alone (λ a. a .refusal) noStack r (stackOf kind n i) (eqb-true r 0) (λ h. rw h) refl;
+      turn = λ kind n s k.
+          let r = turnRefusal kind n s k in alone (λ a. a .refusal) noStack r (turnedOf kind n s k) (eqb-true r 0) (λ h. rw h) refl;
+      begin = λ kind n wanted groups S C.
+          let r = beginRefusal kind n wanted groups S C in
+          alone (λ a. a .refusal) noBuild r (beginOf kind n wanted groups S C) (eqb-true r 0) (λ h. rw h) refl;
+      blank = λ job j segment.
+          alone (λ o. o .1 .refusal) (λ q. (segment, givenBack job q)) (blankRefusal job j (length segment)) (blankOf job j segment)
+          (λ h. rw h refl) (λ h. rw h) refl;
+      expand = λ job j segment log.
+          alone (λ o. o .2 .refusal) (λ q. (segment, log, record { refusal = q; waits = false; on = 0; job = job }))
+          (expandRefusal job j (length segment) (length log)) (expandOf job j segment log) (λ h. rw h refl) (λ h. rw h) refl;
+      settle = λ job j segment log.
+          alone (λ o. o .1 .refusal) (λ q. (segment, givenBack job q)) (settleRefusal job j (length segment) log) (settleOf job j segment log)
+          (λ h. rw h refl) (λ h. rw h) refl;
+      look = λ job j log.
+          let r = lookRefusal job j (length log) in alone (λ o. o .1) (λ q. ([], q)) r (lookOf job j log) (eqb-true r 0) (λ h. rw h) refl;
+      load = λ job b segment list.
+          alone (λ o. o .1 .refusal) (λ q. (list, givenBack job q)) (loadRefusal job b (length segment) (length list)) (loadOf job b segment list)
+          (λ h. rw h refl) (λ h. rw h) refl;
+      sweep = λ job j segment list.
+          alone (λ o. o .1 .refusal) (λ q. (segment, givenBack job q)) (sweepRefusal job j (length segment) (length list))
+          (sweepOf job j segment list) (λ h. rw h refl) (λ h. rw h) refl;
+      close = λ job way. alone (λ a. a .refusal) (givenBack job) (closeRefusal job) (closeOf job way) (eqb-true (closeRefusal job) 0) (λ h. rw h) refl;
+      read = λ kind n table i.
+          let r = readRefusal kind n (length table) i in
+          alone (λ e. e .refusal) (λ q. record { refusal = q; entry = 0 }) r (readOf kind n table i) (eqb-true r 0) (λ h. rw h) refl;
+      plan = λ kind n wanted given groups table list.
+          alone (λ o. o .1 .refusal) (λ q. (list, record { refusal = q; turns = 0 })) (planRefusal kind n wanted given groups table (length list) 0)
+          (planOf kind n wanted given groups table list) (λ h. rw h refl) (λ h. rw h) refl;
+      build = λ kind n wanted groups S C table log list.
+          alone (λ o. o .3 .refusal) (λ q. (table, log, list, noBuild q))
+          (buildRefusal kind n wanted groups S C (length table) (length log) (length list)) (buildOf kind n wanted groups S C table log list)
+          (λ h. rw h refl) (λ h. rw h) refl;
+    }
+
 -- ---- wrong arguments are refused
 
 -- a list of the right length is the build's own
@@ -149,3 +217,113 @@ module _ {terms : Terms} {w : World} (shaped : Shaped terms w) where
   -- a call lent another buffer is refused
   pub accepted-own : (call : Call (lengthsOf terms)) → outcome w call .refusal ≡ 0 → isLentOwn call ≡ true
   accepted-own call h = own-accepted call (sym (refusal-is w call) ∙ h)
+
+-- ---- by which number
+
+-- a length that is wrong is refused 10, also behind another that may be
+ten : (a b rest : ℕ) → (a ≡ b → ⊥) → unless (eqb a b) 10 rest ≡ 10
+ten a b rest wrong = ap (λ (t : Bool). unless t 10 rest) (ne-eqb a b wrong)
+
+ten-after : (ok : Bool) (rest : ℕ) → rest ≡ 10 → unless ok 10 rest ≡ 10
+ten-after true rest e = e
+ten-after false rest e = refl
+
+module _ {terms : Terms} {w : World} (shaped : Shaped terms w) (coherent : isCoherent (w .job) ≡ true) where
+  -- where a call on segment j names none, or is refused by the rest of its row
+  row : (inPhase : Bool) (j rest x : ℕ) → (ltb j (segmentCountOf (w .job)) ≡ false) ⊎ (rest ≡ x)
+      → callRefusal inPhase (w .job) j rest ≡ unless inPhase 8 (unless (ltb j (segmentCountOf (w .job))) 9 x)
+  unfolding callRefusal
+  row inPhase j rest x (inl out) = rw (coherent, out)
+  row inPhase j rest x (inr e) = rw (coherent, e)
+
+  row-outside : (call : Call (lengthsOf terms)) → isInside (segmentCountOf (w .job)) call ≡ false → refusalOf w call ≡ wrongRefusal (w .job) call
+  unfolding refusalOf isInside wrongRefusal blankRefusal expandRefusal settleRefusal lookRefusal loadRefusal sweepRefusal levelRefusal segmentRefusal
+  row-outside (doBlank j segment) out = row (isBlanking (w .job .phase)) j _ 10 (inl out)
+  row-outside (doExpand j segment log) out = row (inForward (w .job)) j _ 10 (inl out)
+  row-outside (doSettle j segment log) out = row (inForward (w .job)) j _ 10 (inl out)
+  row-outside (doLook j log) out = row true j _ 10 (inl out)
+  row-outside (doLoad b segment list) out = row (inReverse (w .job)) b _ 10 (inl out)
+  row-outside (doSweep j segment list) out = row (inReverse (w .job)) j _ (unless (isLoaded (w .job)) 22 10) (inl out)
+  row-outside (doClose way) out = absurd (true≢false out)
+
+  -- a buffer of a wrong length
+  wrong-segment : (j rest : ℕ) (xs : List ℕ) → (length xs ≡ lengthsOf terms .bytes j → ⊥)
+      → unless (eqb (length xs) (bytesFor (stackCountAt (w .job) j))) 10 rest ≡ 10
+  unfolding rightBytes
+  wrong-segment j rest xs wrong = ten (length xs) (bytesFor (stackCountAt (w .job) j)) rest (λ e. wrong (e ∙ ap bytesFor (stacks-is shaped j)))
+
+  wrong-log : (rest : ℕ) (xs : List ℕ) → (length xs ≡ lengthsOf terms .words → ⊥) → unless (eqb (length xs) (logLength (w .job))) 10 rest ≡ 10
+  unfolding rightWords
+  wrong-log rest xs wrong = ten (length xs) (logLength (w .job)) rest (λ e. wrong (e ∙ area-is shaped))
+
+  -- behind the segment's
+  row-log : (j bytes rest : ℕ) (xs : List ℕ) → (length xs ≡ lengthsOf terms .words → ⊥)
+      → levelRefusal (w .job) j bytes (length xs) rest ≡ unless (inForward (w .job)) 8 (unless (ltb j (segmentCountOf (w .job))) 9 10)
+  unfolding levelRefusal segmentRefusal
+  row-log j bytes rest xs wrong =
+      let words : ℕ = unless (eqb (length xs) (logLength (w .job))) 10 rest in
+      let long : Bool = eqb bytes (bytesFor (stackCountAt (w .job) j)) in
+      row (inForward (w .job)) j (unless long 10 words) 10 (inr (ten-after long words (wrong-log rest xs wrong)))
+
+  row-buffers : (call : Call (lengthsOf terms)) → isLentOwn call ≡ false → refusalOf w call ≡ wrongRefusal (w .job) call
+  unfolding refusalOf isLentOwn isOwn lent wrongRefusal blankRefusal expandRefusal settleRefusal lookRefusal loadRefusal sweepRefusal levelRefusal segmentRefusal
+  row-buffers (doBlank j own) not-own = absurd (true≢false not-own)
+  row-buffers (doBlank j (other xs wrong)) not-own = row (isBlanking (w .job .phase)) j _ 10 (inr (wrong-segment j _ xs wrong))
+  row-buffers (doExpand j own own) not-own = absurd (true≢false not-own)
+  row-buffers (doExpand j own (other xs wrong)) not-own =
+      row-log j (length (getD (w .segments) j [])) (unless (ltb (passedOf (w .job) j) (stackCountAt (w .job) j)) 11 0) xs wrong
+  row-buffers (doExpand j (other xs wrong) log) not-own = row (inForward (w .job)) j _ 10 (inr (wrong-segment j _ xs wrong))
+  row-buffers (doSettle j own own) not-own = absurd (true≢false not-own)
+  row-buffers (doSettle j own (other xs wrong)) not-own =
+      row-log j (length (getD (w .segments) j [])) (unless (all (λ i. ltb i (stackCountAt (w .job) j)) (pending (w .job) j xs)) 12 0) xs wrong
+  row-buffers (doSettle j (other xs wrong) log) not-own = row (inForward (w .job)) j _ 10 (inr (wrong-segment j _ xs wrong))
+  row-buffers (doLook j own) not-own = absurd (true≢false not-own)
+  row-buffers (doLook j (other xs wrong)) not-own = row true j _ 10 (inr (wrong-log _ xs wrong))
+  row-buffers (doLoad b own list) not-own = absurd (true≢false not-own)
+  row-buffers (doLoad b (other xs wrong) list) not-own = row (inReverse (w .job)) b _ 10 (inr (wrong-segment b _ xs wrong))
+  row-buffers (doSweep j own list) not-own = absurd (true≢false not-own)
+  row-buffers (doSweep j (other xs wrong) list) not-own =
+      row (inReverse (w .job)) j _ (unless (isLoaded (w .job)) 22 10) (inr (ap (unless (isLoaded (w .job)) 22) (wrong-segment j _ xs wrong)))
+  row-buffers (doClose way) not-own = absurd (true≢false not-own)
+
+  -- a list of a wrong length, behind the segment
+  row-load : (b bytes listed : ℕ) → (listed ≡ listBytes (stackCountAt (w .job) b) → ⊥)
+      → loadRefusal (w .job) b bytes listed ≡ unless (inReverse (w .job)) 8 (unless (ltb b (segmentCountOf (w .job))) 9 10)
+  unfolding loadRefusal segmentRefusal
+  row-load b bytes listed wrong =
+      let right : ℕ = listBytes (stackCountAt (w .job) b) in
+      let long : Bool = eqb bytes (bytesFor (stackCountAt (w .job) b)) in
+      row (inReverse (w .job)) b (unless long 10 (unless (eqb listed right) 10 0)) 10
+      (inr (ten-after long (unless (eqb listed right) 10 0) (ten listed right 0 wrong)))
+
+  row-sweep : (j bytes listed : ℕ) → (listed ≡ listBytes (stackCountAt (w .job) (w .job .loaded)) → ⊥)
+      → sweepRefusal (w .job) j bytes listed
+      ≡ unless (inReverse (w .job)) 8 (unless (ltb j (segmentCountOf (w .job))) 9 (unless (isLoaded (w .job)) 22 10))
+  unfolding sweepRefusal
+  row-sweep j bytes listed wrong =
+      let right : ℕ = listBytes (stackCountAt (w .job) (w .job .loaded)) in
+      let long : Bool = eqb bytes (bytesFor (stackCountAt (w .job) j)) in
+      let left : ℕ = unless (not (isSwept (w .job) (w .job .loaded) j)) 11 0 in
+      row (inReverse (w .job)) j (unless (isLoaded (w .job)) 22 (unless long 10 (unless (eqb listed right) 10 left))) (unless (isLoaded (w .job)) 22 10)
+      (inr (ap (unless (isLoaded (w .job)) 22) (ten-after long (unless (eqb listed right) 10 left) (ten listed right left wrong))))
+
+  -- another list is lent as it is
+  wrong-list : (list : List ℕ) → (length list ≡ listBytes (stackCountAt (w .job) (w .job .loaded)) → ⊥)
+      → length (lentList (w .job) (otherList list) (w .changed)) ≡ listBytes (stackCountAt (w .job) (w .job .loaded)) → ⊥
+  unfolding lentList
+  wrong-list list wrong e =
+      wrong
+      (sym (ap (λ (t : Bool). length (cond t (w .changed) list)) (ne-eqb (length list) (listBytes (stackCountAt (w .job) (w .job .loaded))) wrong)) ∙ e)
+
+  pub refuses-wrong : RefusesWrong (lengthsOf terms) w
+  unfolding refusalOf wrongRefusal
+  refuses-wrong =
+      record {
+        outside = λ call out. refusal-is w call ∙ row-outside call out;
+        buffers = λ call not-own. refusal-is w call ∙ row-buffers call not-own;
+        loads = λ b segment list wrong. refusal-is w (doLoad b segment list)
+            ∙ row-load b (length (lent segment (getD (w .segments) b []))) (length list) wrong;
+        sweeps = λ j segment list wrong. refusal-is w (doSweep j segment (otherList list))
+            ∙ row-sweep j (length (lent segment (getD (w .segments) j []))) (length (lentList (w .job) (otherList list) (w .changed)))
+            (wrong-list list wrong);
+      }

@@ -1,5 +1,5 @@
 -- A build in the midst of a call on segment j, and each step of Expand, Settle and Sweep that keeps the invariant of the search.
---   MarksFit    the segment's bytes have their right length, and its spare entries are 3
+--   MarksFit    the segment's bytes are bytes and as many as is right, and its spare entries are 3
 --   LogsFit     what waits fits the logs, and is an offset of its segment
 --   stage       the world that a call on segment j of w has come to
 --   Staged      what holds of it
@@ -29,12 +29,13 @@ use Rattle.search.specs.Segments.{segmentLimit}
 use Rattle.search.specs.Marks.{Marks, markOne, markAll}
 use Rattle.search.specs.Logs.{Logs, logOne}
 use Rattle.search.proofs.Invariant.{Shaped, Searches, Listing, Looked, Logged, entryIn}
-use Rattle.search.proofs.MarkLaws.{mark-length, mark-other, mark-marked, mark-count, marked-before, marked-after}
+use Rattle.search.proofs.MarkLaws.{mark-length, mark-bytes, mark-other, mark-marked, mark-count, marked-before, marked-after}
 use Rattle.search.proofs.SegmentLaws.{stack-segment, stack-offset}
 use Rattle.search.proofs.Terms.{Terms, Given, N, G, m, moves, step, D, some, few}
 
 pub record MarksFit (terms : Terms) (j : ℕ) (marks : Marks) : Type 0 where
   pub bytes : length (marks .segment) ≡ bytesFor (m terms j)
+  pub byte : (k : ℕ) → getD (marks .segment) k 0 < 256
   pub spare : (i : ℕ) → m terms j ≤ i → i < 4 * bytesFor (m terms j) → entryAt (marks .segment) i ≡ 3
 
 pub record LogsFit (terms : Terms) (logs : Logs) : Type 0 where
@@ -59,6 +60,7 @@ pub mark-fits : (terms : Terms) (j d v : ℕ) (marks : Marks) → v % terms .S <
 mark-fits terms j d v marks h fit =
     record {
       bytes = mark-length (terms .S) d v marks ∙ fit .bytes;
+      byte = mark-bytes (terms .S) d v marks (fit .byte);
       spare = λ l g k. mark-other (terms .S) d v marks l (λ e. omega arith) ∙ fit .spare l g k;
     }
 
@@ -196,7 +198,11 @@ module _ {terms : Terms} (given : Given terms) {w : World} {d : ℕ} (search : S
   stage-start =
       record {
         at-fits = search .searches .passed-fits j;
-        marks-fit = record { bytes = search .shaped .segment-bytes j inside; spare = λ i. search .searches .spares .spare j i inside };
+        marks-fit = record {
+          bytes = search .shaped .segment-bytes j inside;
+          byte = λ k. search .searches .spares .byte j k inside;
+          spare = λ i. search .searches .spares .spare j i inside;
+        };
         logs-fit = record {
           waiting-length = search .shaped .waiting-length;
           log-length = search .shaped .log-length;
@@ -354,7 +360,7 @@ module _ {terms : Terms} (given : Given terms) {w : World} {d : ℕ} (search : S
             waiting-beyond = staged .logs-fit .waiting-beyond;
             offsets = staged .logs-fit .offsets;
             level = staged .level;
-            spares = record { spare = λ t i h. spare t i h (eq-or-ne t j) };
+            spares = record { byte = λ t k h. byte t k h (eq-or-ne t j); spare = λ t i h. spare t i h (eq-or-ne t j) };
             counts-below = λ i h. getD-set-other (w .job .counts) d i (marks .count) 0 (λ e. omega arith) ∙ search .searches .counts-below i h;
             counts-here = getD-set-same (w .job .counts) d (marks .count) 0 counted ∙ staged .count;
             counts-above = λ i h. getD-set-other (w .job .counts) d i (marks .count) 0 (λ e. omega arith) ∙ search .searches .counts-above i h;
@@ -371,6 +377,10 @@ module _ {terms : Terms} (given : Given terms) {w : World} {d : ℕ} (search : S
         passed : (t : ℕ) → (t ≡ j) ⊎ (t ≡ j → ⊥) → getD (set (w .job .passed) j at) t 0 ≤ m terms t
         passed t (inl e) = rw (passed-here at t e, e) (staged .at-fits)
         passed t (inr ne) = rw (getD-set-other (w .job .passed) j t at 0 ne) (search .searches .passed-fits t)
+
+        byte : (t k : ℕ) → t < G terms → (t ≡ j) ⊎ (t ≡ j → ⊥) → getD (getD (set (w .segments) j (marks .segment)) t []) k 0 < 256
+        byte t k h (inl e) = rw (e, getD-set-same (w .segments) j (marks .segment) [] listed) (staged .marks-fit .byte k)
+        byte t k h (inr ne) = rw (getD-set-other (w .segments) j t (marks .segment) [] ne) (search .searches .spares .byte t k h)
 
         spare : (t i : ℕ) → t < G terms → (t ≡ j) ⊎ (t ≡ j → ⊥) → m terms t ≤ i → i < 4 * bytesFor (m terms t)
             → entryAt (getD (set (w .segments) j (marks .segment)) t []) i ≡ 3
@@ -456,7 +466,7 @@ redirected search loaded swept changed low long fits level listed =
         waiting-beyond = search .searches .waiting-beyond;
         offsets = search .searches .offsets;
         level = level;
-        spares = record { spare = search .searches .spares .spare };
+        spares = record { byte = search .searches .spares .byte; spare = search .searches .spares .spare };
         counts-below = search .searches .counts-below;
         counts-here = search .searches .counts-here;
         counts-above = search .searches .counts-above;

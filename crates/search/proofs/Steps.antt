@@ -1,4 +1,4 @@
--- Every call, accepted or refused, keeps the invariant, and so does every list of calls.
+-- Every call, accepted or refused, keeps the invariant, and so does every list of calls; so in every build what is lent wrong is refused.
 use mathlib.Core.Path.{_≡_, sym, ap, _∙_, subst}
 use mathlib.Core.Logic.{_⊎_, inl, inr}
 use mathlib.Core.Bool.{true, false≢true}
@@ -8,12 +8,15 @@ use lib.ListN.{length, getD}
 use Rattle.base.proofs.Tests.{never, eq-or-ne}
 use Rattle.search.specs.Build.{World, Call, own, other, doBlank, doExpand, doSettle, doLook, doLoad, doSweep, doClose, lent, kept, lentList, isOwn, isLentOwn, outcome, after}
 use Rattle.search.specs.JobState.{isLevel}
+use Rattle.search.specs.PromiseCalls.{WrongRefused}
 use Rattle.search.proofs.Accepted.{forward-level, reverse-level, expand-facts, settle-facts, load-facts, sweep-facts}
-use Rattle.search.proofs.BlankKeeps.{blank-world, blank-keeps}
+use Rattle.search.proofs.BlankKeeps.{begun-invariant, blank-world, blank-keeps}
+use Rattle.search.proofs.BuildCoherent.{invariant-coherent}
 use Rattle.search.proofs.CloseKeeps.{close-world, close-keeps}
+use Rattle.search.proofs.Coherence.{begin-given}
 use Rattle.search.proofs.ExpandKeeps.{expand-keeps}
 use Rattle.search.proofs.Invariant.{Invariant, InPhase, blanking, searching, ended}
-use Rattle.search.proofs.Refused.{refusalOf, refusal-is, refused-same, accepted-own}
+use Rattle.search.proofs.Refused.{refusalOf, refusal-is, refused-same, accepted-own, refuses-wrong}
 use Rattle.search.proofs.LoadKeeps.{load-keeps}
 use Rattle.search.proofs.SettleKeeps.{settle-keeps}
 use Rattle.search.proofs.SweepKeeps.{sweep-keeps}
@@ -81,3 +84,10 @@ module _ {terms : Terms} (given : Given terms) where
   unfolding after
   after-keeps invariant [] = invariant
   after-keeps {w} invariant (call ∷ calls) = after-keeps (step-keeps invariant call) calls
+
+pub wrong-refused : WrongRefused
+unfolding WrongRefused
+wrong-refused kind n wanted groups S C segments log changed accepted buffers calls =
+    let given = begin-given kind n wanted groups S C accepted in
+    let invariant = after-keeps given (begun-invariant kind n wanted groups S C segments log changed buffers) calls in
+    refuses-wrong (invariant .shaped) (invariant-coherent given invariant)

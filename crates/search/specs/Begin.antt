@@ -32,8 +32,11 @@ begun kind n wanted groups S C =
       counts = replicate countPlaces 0;
     }
 
--- refused, a job of zeros, of which every later call says 7
+-- beside a refusal: Begin's job of nothing, 0 in every field but loaded, which is none; every later call says 7 of it
+abbrev pub noJob : Job
+noJob = begun 0 0 (replicate stackPlaces (pos 0)) 0 0 0
+
 unfoldable pub beginOf : ℕ → ℕ → List ℤ → ℕ → ℕ → ℕ → Answer
 beginOf kind n wanted groups S C =
     let r = beginRefusal kind n wanted groups S C in
-    record { refusal = r; job = cond (eqb r 0) (begun kind n wanted groups S C) (begun 0 0 (replicate stackPlaces (pos 0)) 0 0 0) }
+    record { refusal = r; job = cond (eqb r 0) (begun kind n wanted groups S C) noJob }

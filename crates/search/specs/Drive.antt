@@ -12,11 +12,11 @@ use mathlib.Core.Bool.{Bool, true, not, _&&_, _||_, cond}
 use mathlib.Core.List.{List, map, _++_}
 use Prim.Native.Nat.{ℕ, zero, suc, _+_, _-_, _*_, _/_}
 use lib.Dec.{leb, ltb, eqb}
-use lib.IntN.{ℤ, pos}
-use lib.ListN.{length, take, drop, replicate}
+use lib.IntN.{ℤ}
+use lib.ListN.{length, take, drop}
 use Rattle.base.specs.Words.{unless, from, firstFrom, total}
-use Rattle.stacks.specs.Stack.{stackPlaces, stackCount}
-use Rattle.search.specs.Begin.{begun}
+use Rattle.stacks.specs.Stack.{stackCount}
+use Rattle.search.specs.Begin.{begun, noJob}
 use Rattle.search.specs.Build.{World, Lengths, Call, own, ownList, doBlank, doExpand, doSettle, doLoad, doSweep, doClose, outcome}
 use Rattle.search.specs.Changed.{listBytes}
 use Rattle.search.specs.Close.{isSweptWhole, closeRefusal}
@@ -164,14 +164,14 @@ module _ (kind n : ℕ) (wanted : List ℤ) (groups S C : ℕ) (table log list :
   unfoldable pub built : World
   built = held ended
 
-  -- refused, the buffers as they were, and the job of zeros that a refused Begin answers
+  -- refused, the buffers as they were, and the job that a refused Begin answers
   unfoldable pub buildOf : List ℕ × List ℕ × List ℕ × Answer
   buildOf =
       let r = buildRefusal kind n wanted groups S C (length table) (length log) (length list) in
       let end = ended in
       cond (eqb r 0)
       (end .table, end .log, end .list, record { refusal = 0; job = end .job })
-      (table, log, list, record { refusal = r; job = begun 0 0 (replicate stackPlaces (pos 0)) 0 0 0 })
+      (table, log, list, record { refusal = r; job = noJob })
 
   -- not refused, it ends: in a finished build, or at the other end where some stack needs exactly 255 turns; the buffers keep their lengths
   pub record Builds : Type 0 where

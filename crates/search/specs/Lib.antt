@@ -21,3 +21,4 @@ pub mod Promise
 pub mod PromiseBy
 pub mod EitherWay
 pub mod Drive
+pub mod PromiseCalls

@@ -25,10 +25,11 @@ use Rattle.search.specs.declared.Planned.{Planned}
 use Rattle.search.proofs.Accepted.{names-refusal}
 use Rattle.search.proofs.Finishing.{plan-accepted, plan-refused, plan-refusal-is}
 use Rattle.search.proofs.PlanLaws.{plan-facts, plan-goes-on, plan-refuses, route-arrives}
+use Rattle.search.proofs.Refused.{alone}
 use Rattle.search.proofs.Turning.{Moves, set-turns}
 use Rattle.search.proofs.WholeBuild.{whole-build-by}
 use Rattle.tariff.specs.Price.{costOf, priceRefusal, priceOf}
-use Rattle.tariff.specs.Promise.{PlanFirst, unpriced, PricePlans, priceIn, Prices, PriceFinished, OnePriceEach, PricedTurns, PricedAlike}
+use Rattle.tariff.specs.Promise.{PlanFirst, PriceKeeps, unpriced, PricePlans, priceIn, Prices, PriceFinished, OnePriceEach, PricedTurns, PricedAlike}
 use Rattle.tariff.specs.Tariffs.{tariffLines, tariffRefusal, priceAt}
 use Rattle.tariff.specs.declared.Priced.{Priced}
 use Rattle.tariff.specs.declared.Tariff.{Tariff}
@@ -77,6 +78,13 @@ unfolding PlanFirst
 plan-first kind n wanted given groups table list tariff =
     price-refusal-is kind n wanted given groups table list tariff
     ∙ rw (plan-refusal-is kind n wanted given groups table list) (refusal-order kind n wanted given groups table list tariff)
+
+pub price-keeps : PriceKeeps
+unfolding PriceKeeps priceOf
+price-keeps kind n wanted given groups table list tariff =
+    alone (λ o. o .1 .refusal) (λ r. (list, record { refusal = r; turns = 0; pennies = 0 }))
+    (priceRefusal kind n wanted given groups table (length list) tariff) (priceOf kind n wanted given groups table list tariff)
+    (λ h. rw h refl) (λ h. rw h) refl
 
 pub price-plans : PricePlans
 unfolding PricePlans priceRefusal

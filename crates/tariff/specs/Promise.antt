@@ -1,5 +1,6 @@
 -- What we promise of Price and of tariffs, besides that Price is what its definition gives.
 --   PlanFirst        Plan's refusals come first, then 17, 18, 19
+--   PriceKeeps       a refused Price leaves the list as it was, and answers its number alone
 --   PricePlans       the plan is Plan's
 --   PriceFinished    after a finished build Price of a stack that has a road is refused for its tariff alone, and its plan is shortest
 --   OnePriceEach     a tariff that is not refused gives each size exactly one price
@@ -23,6 +24,7 @@ use Rattle.search.specs.JobState.{beginRefusal, isFinished}
 use Rattle.search.specs.Plan.{planLimit, planOf}
 use Rattle.search.specs.Promise.{rightLengths, Buffers}
 use Rattle.search.specs.PromiseBy.{RoadIn, FewestIn, NoRoad}
+use Rattle.search.specs.PromiseCalls.{StandsAlone}
 use Rattle.search.specs.Segments.{joined}
 use Rattle.search.specs.declared.Planned.{Planned}
 use Rattle.tariff.specs.Price.{costOf, priceOf}
@@ -39,6 +41,11 @@ PlanFirst =
     (kind n : ℕ) (wanted given : List ℤ) (groups : ℕ) (table list : List ℕ) (tariff : Tariff)
     → (let r = planOf kind n wanted given groups table list .1 .refusal in
     priceOf kind n wanted given groups table list tariff .1 .refusal ≡ cond (eqb r 0) (tariffRefusal (lastTurn kind n) tariff) r)
+
+unfoldable pub PriceKeeps : Type 0
+PriceKeeps =
+    (kind n : ℕ) (wanted given : List ℤ) (groups : ℕ) (table list : List ℕ) (tariff : Tariff)
+    → StandsAlone (λ o. o .1 .refusal) (λ r. (list, record { refusal = r; turns = 0; pennies = 0 })) (priceOf kind n wanted given groups table list tariff)
 
 -- an outcome of Price without the price
 abbrev pub unpriced : List ℕ × Priced → List ℕ × Planned

@@ -8,7 +8,7 @@ ghost use Rattle.twobit.specs.Mark.{Marked};
 // The entry of a stack that no level has found yet.
 pub const UNSEEN: u8 = 3;
 
-// A match on a number must have a default, the `_`: the contract lets nothing above 3 come to it.
+// A case for each entry. A match on a number must have a default besides: nothing comes to it, as the contract lets nothing above 3 by.
 pub fn next_entry(v: u8) -> u8
     requires { ⌜ v < 4 ⌝ }
     ensures { λ r. ⌜ r ≡ nextEntry v ⌝ }
@@ -17,7 +17,8 @@ pub fn next_entry(v: u8) -> u8
         0 => 1,
         1 => 2,
         2 => 0,
-        3 | _ => 1,
+        3 => 1,
+        _ => 1,
     }
 }
 

@@ -7,4 +7,3 @@ pub mod Pricing
 pub mod Limited
 pub mod Succession
 pub mod Reverse
-pub mod Cited

@@ -3,19 +3,19 @@ use mathlib.Core.Path.{_≡_, refl, ap}
 use mathlib.Core.Logic.{inl, inr}
 use mathlib.Core.Bool.{true}
 use mathlib.Core.List.{List, [], _∷_}
-use Prim.Native.Nat.{ℕ}
+use Prim.Native.Nat.{ℕ, _≤_}
 use native.Mathlib.Nat.{mod-lt}
 use native.Mathlib.Omega.{arith}
 use lib.IntN.{ℤ}
-use lib.ListN.{replicate}
+use lib.ListN.{length, replicate}
 use Rattle.stacks.specs.Stack.{isStack}
 use Rattle.stacks.specs.Index.{rankOf}
 use Rattle.search.specs.Build.{World}
 use Rattle.search.specs.Drive.{built, Builds}
 use Rattle.search.specs.Entries.{entryAt}
 use Rattle.search.specs.JobState.{levelOf, lastLevel}
-use Rattle.search.specs.Plan.{planLimit}
-use Rattle.search.specs.PromiseBy.{FewestIn, NoRoad, EntryBy, Needs, FinishesBy}
+use Rattle.search.specs.Plan.{planLimit, planOf}
+use Rattle.search.specs.PromiseBy.{FewestIn, CountsIn, NoRoad, EntryBy, Needs, FinishesBy}
 use Rattle.search.specs.Segments.{joined}
 use Rattle.search.proofs.WholeTable.{build-ends}
 use Rattle.worked.specs.Cases.{plain, ordered, anyList}
@@ -54,6 +54,18 @@ unfolding all-open
 one-turn =
     finishes .plans near (anyList (λ i. 0) planLimit) refl (omega arith) (2 ∷ []) (record { turns = refl; arrives = refl }) .shortest
 
+refused : (list : List ℕ) → 254 ≤ length list → planOf plain 3 (ordered 3) given only-2 (0xdc ∷ 0xff ∷ []) list .1 .refusal ≡ 20
+unfolding all-open
+refused list long = finishes .refuses given list refl long roadless
+
+counted : CountsIn plain 3 only-2 (ordered 3) 1 1
+unfolding all-open
+counted = finishes .counts 1 (omega arith)
+
+greatest : (s : List ℤ) (d : ℕ) → isStack plain 3 s ≡ true → FewestIn plain 3 only-2 s (ordered 3) d → d ≤ 1
+unfolding all-open
+greatest = finishes .greatest
+
 pub limited : (slots : ℕ → ℕ) → Limited slots
 unfolding all-open
 limited slots =
@@ -82,4 +94,7 @@ limited slots =
       set-first-in-plan = refl;
       no-road = roadless;
       fewest = one-turn;
+      refused = refused;
+      at-1 = counted;
+      greatest = greatest;
     }

@@ -3,14 +3,16 @@
 --   limited     Build the whole table for the ordered stack by a set, in one segment
 --   planned     Plan for the ordered stack
 use mathlib.Core.Path.{_≡_}
+use mathlib.Core.Bool.{true}
 use mathlib.Core.List.{List, [], _∷_}
-use Prim.Native.Nat.{ℕ}
+use Prim.Native.Nat.{ℕ, _≤_}
 use lib.IntN.{ℤ}
-use lib.ListN.{take, replicate}
+use lib.ListN.{length, take, replicate}
+use Rattle.stacks.specs.Stack.{isStack}
 use Rattle.search.specs.Drive.{buildOf}
 use Rattle.search.specs.JobState.{beginRefusal}
 use Rattle.search.specs.Plan.{planLimit, planOf}
-use Rattle.search.specs.PromiseBy.{FewestIn, NoRoad}
+use Rattle.search.specs.PromiseBy.{FewestIn, CountsIn, NoRoad}
 use Rattle.search.specs.declared.Answer.{Answer}
 use Rattle.search.specs.declared.Phase.the-variants.{Finished}
 use Rattle.search.specs.declared.Planned.{Planned}
@@ -63,3 +65,7 @@ module _ (slots : ℕ → ℕ) where
     -- what the theorem says of this build: no turns of the set lead from 3 1 2 to the ordered stack, and one does from 2 1 3
     pub no-road : NoRoad plain 3 only-2 (ordered 3) given
     pub fewest : FewestIn plain 3 only-2 near (ordered 3) 1
+    -- 20 into any turn list that is long enough, one stack at one turn, and none at more
+    pub refused : (list : List ℕ) → 254 ≤ length list → planOf plain 3 (ordered 3) given only-2 (0xdc ∷ 0xff ∷ []) list .1 .refusal ≡ 20
+    pub at-1 : CountsIn plain 3 only-2 (ordered 3) 1 1
+    pub greatest : (s : List ℤ) (d : ℕ) → isStack plain 3 s ≡ true → FewestIn plain 3 only-2 s (ordered 3) d → d ≤ 1

@@ -2,17 +2,19 @@
 --   mixed    the calls to level 2. Some are refused: a Sweep before a Load, a pair twice, a Close with a pair unswept, Expand in a reverse level
 --   onward   the rest, to the end
 --   forward  the calls of a build that is forward only, to level 2
+--   searched, straight   the worlds of the two lists before their last Close, with level 1 searched whole
 use mathlib.Core.Path.{_≡_}
 use mathlib.Core.List.{[], _∷_, _++_}
-use Prim.Native.Nat.{ℕ, _<_}
+use Prim.Native.Nat.{ℕ}
 use lib.ListN.{take}
-use Rattle.search.specs.Build.{World, own, ownList, otherList, doBlank, doExpand, doSettle, doLoad, doSweep, doClose, after}
-use Rattle.search.specs.Entries.{entryAt}
+use Rattle.search.specs.Build.{World, own, ownList, otherList, doBlank, doExpand, doSettle, doLoad, doSweep, doClose, outcome, after}
 use Rattle.search.specs.JobState.{noSegment}
+use Rattle.search.specs.Promise.{rightLengths}
 use Rattle.search.specs.Segments.{joined}
 use Rattle.search.specs.declared.Phase.the-variants.{Level, Finished}
+use Rattle.search.specs.declared.Way.{Way}
 use Rattle.search.specs.declared.Way.the-variants.{Forward, Reverse}
-use Rattle.worked.specs.Cases.{tooLong, refusals, blankAll, searchLevel, sweepLevel}
+use Rattle.worked.specs.Cases.{plain, tooLong, refusals, blankAll, searchLevel, sweepLevel}
 use Rattle.worked.specs.PlainThree.{Calls, start}
 
 unfoldable pub mixed : Calls
@@ -67,6 +69,12 @@ module _ (first second : ℕ) (words : ℕ → ℕ) where
   abbrev pub end : World
   end = after half onward
 
+  abbrev pub searched : World
+  searched = after (start first second words) (take 22 mixed)
+
+  abbrev pub straight : World
+  straight = after (start first second words) (take 7 forward)
+
   pub record Reversed : Type 0 where
     pub answers : refusals (start first second words) mixed
         ≡ 0 ∷ 8 ∷ 0 ∷ 0 ∷ 8 ∷ 8 ∷ 22 ∷ 9 ∷ 22 ∷ 9 ∷ 10 ∷ 10 ∷ 0 ∷ 10 ∷ 0 ∷ 11 ∷ 0 ∷ 13 ∷ 0 ∷ 0 ∷ 13 ∷ 0 ∷ 0 ∷ []
@@ -85,5 +93,14 @@ module _ (first second : ℕ) (words : ℕ → ℕ) where
     pub leaves : joined (end .segments) ≡ 0x90 ∷ 0xf6 ∷ []
     pub counts : take 5 (end .job .counts) ≡ 1 ∷ 2 ∷ 2 ∷ 1 ∷ 0 ∷ []
     pub keeps : end .job .way ≡ Reverse
-    -- what the theorem says of level 1, which the two lists have just closed: equal entries
-    pub alike : (v : ℕ) → v < 6 → entryAt (joined (half .segments)) v ≡ entryAt (joined (after (start first second words) forward .segments)) v
+    -- what the theorem says of level 1, searched whole by either way: equal segments and counts, and Close does the same
+    pub alike : searched .segments ≡ straight .segments
+    pub counted : searched .job .counts ≡ straight .job .counts
+    pub answered : (way way′ : Way) → outcome {right = rightLengths plain 3 4 16} searched (doClose way) .refusal
+        ≡ outcome {right = rightLengths plain 3 4 16} straight (doClose way′) .refusal
+    pub leads : (way way′ : Way) → outcome {right = rightLengths plain 3 4 16} searched (doClose way) .world .job .phase
+        ≡ outcome {right = rightLengths plain 3 4 16} straight (doClose way′) .world .job .phase
+    -- and when the two lists have just closed it
+    pub closed : half .segments ≡ after (start first second words) forward .segments
+    pub closed-counts : half .job .counts ≡ after (start first second words) forward .job .counts
+    pub closed-phase : half .job .phase ≡ after (start first second words) forward .job .phase

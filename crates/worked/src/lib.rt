@@ -1,2 +1,2 @@
 // Worked cases: document 01's starred ones as a group, a whole table, a build of plain 3 of which the whole-build theorem is drawn, and document
-// 02's price. The theorems that the documents name are used here by name. No code, only specs/ and proofs/.
+// 02's price. No code, only specs/ and proofs/.

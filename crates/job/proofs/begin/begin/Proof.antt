@@ -1,4 +1,4 @@
--- `job::begin::begin` meets its contract: the refusal's number with a job of zeros, or the new job.
+-- `job::begin::begin` meets its contract: the refusal's number with the job that no call accepts, or the new job.
 use borrow.Author.Needs.{needs}
 use lib.IntN.{pos}
 use lib.ListN.{replicate}

@@ -20,5 +20,9 @@ returns-4 : tie.Need-returns-4
 unfolding nextEntry
 returns-4 c = search needs
 
+-- nothing comes to the default
+returns-5 : tie.Need-returns-5
+returns-5 c = absurd (search needs)
+
 pub next-entry-spec : {M : Type 1} → statement M
-next-entry-spec = tie.close (tie.spec returns returns-2 returns-3 returns-4)
+next-entry-spec = tie.close (tie.spec returns returns-2 returns-3 returns-4 returns-5)
