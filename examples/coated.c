@@ -71,6 +71,10 @@ int main(void)
 {
     HokrundStack wanted = {{1, 2, 3, 4}}, coats_down = {{-1, -2, -3, -4}}, exchanged = {{1, 3, 2, 4}};
     uint32_t every = HOKRUND_ALL_GROUPS(KIND, PANES), not_three = every & ~(1u << 2);
+    if (hokrund_version() != HOKRUND_VERSION) {
+        printf("the archive is of another version\n");
+        return 1;
+    }
     HokrundJob job = build(wanted, every);
     for (int d = 0; d <= job.level; d++)
         printf("level %d: %lu\n", d, (unsigned long)job.counts[d]);

@@ -79,6 +79,10 @@ static void build(HokrundStack wanted)
 int main(void)
 {
     HokrundStack wanted = {{1, 2, 3}}, given[] = {{{3, 1, 2}}, {{1, 3, 2}}, {{1, 2, 3}}, {{1, 1, 3}}};
+    if (hokrund_version() != HOKRUND_VERSION) {
+        printf("the archive is of another version\n");
+        return 1;
+    }
     build(wanted);
     for (int i = 0; i < 4; i++) {
         uint8_t turns[HOKRUND_TURN_LIST];

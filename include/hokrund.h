@@ -1,14 +1,15 @@
 /* hokrund: numbers stacks of panes, builds the two-bit table of a breadth-first search in segments, plans turns from it, and prices a plan.
  *
  * Who owns what. The caller owns everything. The library allocates nothing, keeps no state between calls and no pointer after a call; calls on
- * different jobs and buffers may run at the same time. A job is a plain value: copy, move or save it as you like, and go on from the job
- * that the last call returned. Buffers are lent for one call. Each is a pointer and then its length, in elements. The pointer is never
- * null, not even beside a length of 0; the elements may be read, and where the pointer is not const written, for that length; and two
- * buffers of one call do not overlap where one of them is written. That is the caller's part, and nothing checks it.
+ * different jobs and buffers may run at the same time. A job is a plain value: copy, move, compare or save it as you like, and go on from the
+ * job that the last call returned. Buffers are lent for one call. Each is a pointer and then its length, in elements. The pointer is never
+ * null, not even beside a length of 0, and aligned as its elements are: log areas to 4 bytes, all others anywhere. The elements may be read,
+ * and where the pointer is not const written, for that length; and two buffers of one call do not overlap where one of them is written. That
+ * is the caller's part, and nothing checks it.
  *
  * What a call answers. Every other argument may have any value: the call does its work, or gives the first refusal that applies, in the
  * order stated, as refusal. That number is HOKRUND_ACCEPTED where the call did its work. A refusal changes nothing: what is lent stays as
- * it was, and the job comes back as it was given. Every other number of a refused answer is 0, but for one of begin's job.
+ * it was, and the job comes back as it was given, its reserved bytes 0. Every other number of a refused answer is 0, but for one of begin's job.
  *
  * A build, by hokrund_build_table alone, or call by call: begin; blank each segment; close; then for each level expand each segment, settle
  * a segment for which expand waits and expand on, settle every segment, and close, until the phase is HOKRUND_FINISHED or, by a set that is
@@ -18,8 +19,16 @@
  * examples/coated.c builds by the one call, examples/plan3.c call by call. The segments in order are the table that read_entry, plan and price
  * take.
  *
- * The archive is target/staticlib/libhokrund.a. `rt staticlib hokrund` proves the library and makes it; the gate, .ci/run, clears target/
- * and leaves none. x86-64; C99 or later, or C++98 or later. */
+ * Saving. Between two calls a build may be saved: the job, the segments, the log area and, in a reverse level, the changed list (or load once
+ * more instead). Go on only from a job together with all of these as they were when that job was returned. A call that did not return leaves
+ * what it was lent to be written in no promised state, and what it has marked is counted in no job: going on over such a segment or log from
+ * an older job may give wrong counts and a wrong table. So where segments are written in place, in a file or in shared memory, keep
+ * those of the last save apart, and after a call that was cut short go back to them all. A saved job is good for one HOKRUND_VERSION: save
+ * that number with it. As bytes, copy it back into a HokrundJob, which is aligned to 8.
+ *
+ * The archive is target/staticlib/libhokrund.a. `rt staticlib hokrund` proves the library and makes it; the gate, .ci/run, leaves there the
+ * one that it has tested. x86-64, with the System V calling convention of Linux: structs travel by value, and those over 16 bytes, as the job
+ * and its answers, in memory. C99 or later, or C++98 or later. */
 #ifndef HOKRUND_H
 #define HOKRUND_H
 
@@ -33,8 +42,8 @@
 extern "C" {
 #endif
 
-/* Rises with every change of a function, of what it does, of a struct or of a number that is declared here. */
-#define HOKRUND_VERSION 5
+/* Rises with every change of a function, of what it does, of a struct or of a number that is declared here; interface.txt has a line for each. */
+#define HOKRUND_VERSION 6
 
 /* Kinds: plain panes 1 to n, with n from 1 to 12; coated panes, minus for coat down, with n from 1 to 10. */
 #define HOKRUND_PLAIN 0
@@ -63,7 +72,11 @@ extern "C" {
 #define HOKRUND_TURN_LIST 254
 #define HOKRUND_MOST_PRICE 1000000
 
-/* Refusals. */
+/* The most bytes of the call stack that a call needs, with its arguments and its answer, as measured. That is build_table; any other needs less than
+ * half of it. */
+#define HOKRUND_STACK_BYTES 49152
+
+/* Refusals. 16 is none of a call: by it the report's program refuses a line that is no frame. */
 #define HOKRUND_ACCEPTED 0              /* no refusal */
 #define HOKRUND_REFUSED_KIND 1          /* the kind is none */
 #define HOKRUND_REFUSED_PANES 2         /* n is outside its kind's range */
@@ -107,9 +120,10 @@ extern "C" {
     (HOKRUND_STACKS(kind, n) == 0 ? (uint32_t)0                                                                       \
      : (((uint32_t)1 << ((n) & 15)) - 1) & ((kind) == HOKRUND_PLAIN ? ~(uint32_t)1 : ~(uint32_t)0))
 
-/* G, the segments of N stacks by an S above 0. m, the stacks of segment j: those with index from j x S to just below the lesser of
+/* G, the segments of N stacks by S; 0 where S is 0. m, the stacks of segment j: those with index from j x S to just below the lesser of
  * (j + 1) x S and N; 0 from segment G up. */
-#define HOKRUND_SEGMENT_COUNT(N, S) (((uint64_t)(N) + (uint64_t)(S) - 1) / (uint64_t)(S))
+#define HOKRUND_SEGMENT_COUNT(N, S)                                                                                   \
+    ((S) == 0 ? (uint64_t)0 : ((uint64_t)(N) + (uint64_t)(S) - 1) / ((S) == 0 ? (uint64_t)1 : (uint64_t)(S)))
 #define HOKRUND_SEGMENT_STACKS(N, S, j)                                                                               \
     ((uint64_t)(j) >= HOKRUND_SEGMENT_COUNT(N, S) ? (uint64_t)0                                                       \
      : (uint64_t)(j) + 1 == HOKRUND_SEGMENT_COUNT(N, S) ? (uint64_t)(N) - (uint64_t)(j) * (uint64_t)(S)               \
@@ -135,7 +149,8 @@ typedef struct HokrundStack {
  *   passed is at most m of its segment and waiting at most C, and both are 0 from segment G up;
  *   swept names no segment of G or above, and is 0 from segment G up;
  *   each count is at most 2^60.
- * The job of an accepted begin is coherent, and so is every job that the calls after it give. Two bytes before groups belong to no field. */
+ * The job of an accepted begin is coherent, and so is every job that the calls after it give. Every byte belongs to a field, so that equal jobs
+ * are equal as bytes. */
 typedef struct HokrundJob {
     uint8_t kind;
     uint8_t n;
@@ -144,6 +159,7 @@ typedef struct HokrundJob {
     uint8_t way;                        /* as the last close was told, HOKRUND_FORWARD or HOKRUND_REVERSE; begin's is forward */
     uint8_t loaded;                     /* the segment that was loaded last in this level, or HOKRUND_NO_SEGMENT */
     HokrundStack wanted;
+    uint8_t reserved[2];                /* 0 in every job that a call gives; in one that it is given, not looked at */
     uint32_t groups;                    /* the set of group sizes that the frame lifts */
     uint32_t size;                      /* S, the stacks of a segment */
     uint32_t room;                      /* C, the places of a log */
@@ -213,6 +229,10 @@ typedef struct HokrundPriced {
     uint32_t pennies;
 } HokrundPriced;
 
+/* The HOKRUND_VERSION of the archive. Another one behind this header links all the same, and then goes wrong without a word: a program's first
+ * call sees that hokrund_version() == HOKRUND_VERSION. */
+uint32_t hokrund_version(void);
+
 /* Index of a stack: its place from 0 in the order of all N. The order is lexicographic, from the top: plain 1 2 3, 1 3 2, 2 1 3, 2 3 1,
  * 3 1 2, 3 2 1 are 0 to 5. Coated stacks are ordered by their panes without the coats first, and then by the coats, as bits of which the
  * top pane's is the highest, 1 for coat down: +2 -1 is 5.
@@ -227,8 +247,8 @@ HokrundStacked hokrund_stack_at_index(uint8_t kind, uint8_t n, uint32_t index);
  * Refused 1, 2, 3, 4. */
 HokrundStacked hokrund_turn(uint8_t kind, uint8_t n, HokrundStack stack, uint8_t k);
 
-/* Begin: a job in Blanking, forward, with nothing passed, waiting, loaded, swept or counted. Beside a refusal stands a job of zeros, in which
- * loaded is HOKRUND_NO_SEGMENT and which every call refuses 7.
+/* Begin: a job in Blanking, forward, with nothing passed, waiting, loaded, swept or counted. Beside a refusal stands one in which
+ * loaded is HOKRUND_NO_SEGMENT and all else 0, which every call refuses 7.
  * Only the turns that groups names make children; HOKRUND_ALL_GROUPS(kind, n) names them all.
  * Refused 1, 2, 3 for wanted, 21, 5, 6. */
 HokrundAnswer hokrund_begin(uint8_t kind, uint8_t n, HokrundStack wanted, uint32_t groups, uint32_t size, uint32_t room);
@@ -305,10 +325,10 @@ HokrundPlanned hokrund_plan(uint8_t kind, uint8_t n, HokrundStack wanted, Hokrun
 HokrundPriced hokrund_price(uint8_t kind, uint8_t n, HokrundStack wanted, HokrundStack given, uint32_t groups, const uint8_t *table,
                             size_t length, uint8_t *list, size_t slots, HokrundTariff tariff);
 
-/* The layout that the library was compiled for. An array that may not be declared, as C99 and C++98 have no other assertion. */
-#define HOKRUND_ASSERT(test) extern const char hokrund_layout[(test) ? 1 : -1]
-#define HOKRUND_ASSERT_SIZE(type, bytes) HOKRUND_ASSERT(sizeof(type) == (bytes))
-#define HOKRUND_ASSERT_FIELD(type, field, offset) HOKRUND_ASSERT(offsetof(type, field) == (offset))
+/* The layout that the library was compiled for: array types that may not be declared else, as C99 and C++98 have no other assertion. */
+#define HOKRUND_ASSERT_SIZE(type, bytes) typedef char hokrund_size_of_##type[sizeof(type) == (bytes) ? 1 : -1]
+#define HOKRUND_ASSERT_FIELD(type, field, offset) \
+    typedef char hokrund_place_of_##type##_##field[offsetof(type, field) == (offset) ? 1 : -1]
 HOKRUND_ASSERT_SIZE(size_t, 8);
 HOKRUND_ASSERT_SIZE(bool, 1);
 HOKRUND_ASSERT_SIZE(HokrundStack, 12);
@@ -319,6 +339,7 @@ HOKRUND_ASSERT_FIELD(HokrundJob, level, 3);
 HOKRUND_ASSERT_FIELD(HokrundJob, way, 4);
 HOKRUND_ASSERT_FIELD(HokrundJob, loaded, 5);
 HOKRUND_ASSERT_FIELD(HokrundJob, wanted, 6);
+HOKRUND_ASSERT_FIELD(HokrundJob, reserved, 18);
 HOKRUND_ASSERT_FIELD(HokrundJob, groups, 20);
 HOKRUND_ASSERT_FIELD(HokrundJob, size, 24);
 HOKRUND_ASSERT_FIELD(HokrundJob, room, 28);
@@ -352,7 +373,6 @@ HOKRUND_ASSERT_SIZE(HokrundTariff, 100);
 HOKRUND_ASSERT_FIELD(HokrundPriced, turns, 4);
 HOKRUND_ASSERT_FIELD(HokrundPriced, pennies, 8);
 HOKRUND_ASSERT_SIZE(HokrundPriced, 12);
-#undef HOKRUND_ASSERT
 #undef HOKRUND_ASSERT_SIZE
 #undef HOKRUND_ASSERT_FIELD
 

@@ -1,8 +1,9 @@
 /* What the header says of the library beside its declarations, met by calls: every refusal by its name, the limits of a coherent job, of a set
- * of sizes, of a plan and of a tariff, the order of the stacks, where an entry stands, and levels by either way. C99 and C++98. */
+ * of sizes, of a plan and of a tariff, the order of the stacks, where an entry stands, levels by either way, and jobs as bytes. C99 and C++98. */
 #include "hokrund.h"
 #include <stdio.h>
 #include <stdlib.h>
+#include <string.h>
 
 #define KIND HOKRUND_PLAIN
 #define PANES 3
@@ -288,6 +289,65 @@ static void level_255(uint32_t groups, uint8_t first, unsigned long brought)
     same("expanded at level 255", hokrund_expand(job, 0, table, 1, logs, WORDS).refusal, HOKRUND_REFUSED_PASSED);
 }
 
+/* Each call on a job, by its place in the header, over the same bytes. */
+static HokrundAnswer called(int call, HokrundJob job)
+{
+    HokrundAnswer answer = {0, job};
+    HokrundExpanded e;
+    table[0] = 0xfc;
+    table[1] = 0xff;
+    memset(logs, 0, sizeof logs);
+    changed[0] = 1;
+    switch (call) {
+    case 0:
+        return hokrund_blank(job, 0, table, 1);
+    case 1:
+        e = hokrund_expand(job, 0, table, 1, logs, WORDS);
+        answer.refusal = e.refusal;
+        answer.job = e.job;
+        return answer;
+    case 2:
+        return hokrund_settle(job, 0, table, 1, logs, WORDS);
+    case 3:
+        return hokrund_close(job, HOKRUND_REVERSE);
+    case 4:
+        return hokrund_load(job, 1, table + 1, 1, changed, LIST_BYTES);
+    case 5:
+        return hokrund_sweep(job, 0, table, 1, changed, LIST_BYTES);
+    default:
+        answer.refusal = hokrund_look(job, 0, logs, WORDS).refusal;
+        return answer;
+    }
+}
+
+/* What is reserved in a job that is given changes no byte of the one that is answered, and is 0 there: where the call is accepted or refused, and
+ * where the job is not coherent or no phase at all. */
+static void reserved(void)
+{
+    HokrundJob jobs[] = {begun(), in_phase(HOKRUND_LEVEL, 1), passed_at(1), reverse_at(1), swept(reverse_at(1)), reverse_at(2), begun(), begun()};
+    bool met[6][2] = {{false, false}};
+    jobs[5].loaded = 0;
+    jobs[6].room = 15;
+    jobs[7].phase = HOKRUND_FINISHED + 1;
+    for (size_t i = 0; i < sizeof jobs / sizeof jobs[0]; i++)
+        for (int call = 0; call < 7; call++) {
+            HokrundJob marked = jobs[i];
+            marked.reserved[0] = 1;
+            marked.reserved[1] = 255;
+            HokrundAnswer right = called(call, jobs[i]), answer = called(call, marked);
+            same("reserved, refusal", answer.refusal, right.refusal);
+            if (call == 6)
+                continue;
+            same("reserved, job", memcmp(&answer.job, &right.job, sizeof answer.job) == 0, true);
+            same("reserved, as given", answer.refusal == 0 || memcmp(&answer.job, &jobs[i], sizeof answer.job) == 0, true);
+            same("reserved", answer.job.reserved[0] + answer.job.reserved[1], 0);
+            met[call][answer.refusal != 0] = true;
+        }
+    for (int call = 0; call < 6; call++)
+        same("reserved, accepted and refused", met[call][0] && met[call][1], true);
+    same("reserved, begin", begun().reserved[0] + begun().reserved[1], 0);
+}
+
 /* Every size by itself and beside the others: begin takes those that are turns. */
 static void sets(uint8_t kind, uint8_t n)
 {
@@ -535,11 +595,13 @@ static void prices(void)
 
 int main(void)
 {
+    same("version", hokrund_version(), HOKRUND_VERSION);
     stack_refusals();
     job_refusals();
     coherence();
     last_levels();
     ways();
+    reserved();
     reverse_level();
     reverse_build();
     level_255(GROUPS, 0xce, 2);

@@ -134,6 +134,26 @@ static void constants(void)
     same("the last m as a constant", 1, 10, 55, ARRAY(LARGEST_STACKS(LARGEST_COUNT - 1)), all % 67108864);
 }
 
+/* No segments by an S of 0, as a constant of any width and as a number; nothing is divided by it. */
+static void no_size(void)
+{
+    uint32_t size = 0;
+    uint64_t wide = 0;
+    for (int n = 0; n <= 13; n++) {
+        same("G of S 0", 0, n, 0, HOKRUND_SEGMENT_COUNT(HOKRUND_STACKS(0, n), 0), 0);
+        same("G of S 0u", 0, n, 0, HOKRUND_SEGMENT_COUNT(HOKRUND_STACKS(0, n), (uint32_t)0), 0);
+        same("G of a size 0", 0, n, 0, HOKRUND_SEGMENT_COUNT(HOKRUND_STACKS(0, n), size), 0);
+        same("G of a wide size 0", 0, n, 0, HOKRUND_SEGMENT_COUNT(HOKRUND_STACKS(0, n), wide), 0);
+        for (uint32_t j = 0; j <= 65; j++) {
+            same("m of S 0", 0, n, j, HOKRUND_SEGMENT_STACKS(HOKRUND_STACKS(0, n), 0, j), 0);
+            same("m of a size 0", 0, n, j, HOKRUND_SEGMENT_STACKS(HOKRUND_STACKS(0, n), size, j), 0);
+            same("start of S 0", 0, n, j, HOKRUND_SEGMENT_START(size, j), 0);
+        }
+    }
+    same("G of S 0 as a constant", 0, 0, 0, ARRAY(HOKRUND_SEGMENT_COUNT(24, 0) + 1), 1);
+    same("m of S 0 as a constant", 0, 0, 0, ARRAY(HOKRUND_SEGMENT_STACKS(24, 0, 0) + 1), 1);
+}
+
 /* What the structs hold, and the least turn list; the changed lists of few stacks. */
 static void held(void)
 {
@@ -145,6 +165,7 @@ static void held(void)
     same("pairs", 0, 0, 0, 8 * sizeof job->swept, 64 * 64);
     same("no segment", 0, 0, 0, HOKRUND_NO_SEGMENT, HOKRUND_SEGMENTS);
     same("places", 0, 0, 0, sizeof job->wanted.places, 12);
+    same("reserved", 0, 0, 0, sizeof job->reserved, 2);
     same("turn list", 0, 0, 0, HOKRUND_TURN_LIST, 254);
 }
 
@@ -155,6 +176,7 @@ int main(void)
         for (int n = 1; n <= most_panes(kind); n++)
             sizes(kind, n);
     constants();
+    no_size();
     held();
     return differences != 0;
 }

@@ -4,7 +4,7 @@ use std::fmt;
 use std::time::Instant;
 
 use outside::build::{chosen_way, ordered, size_for, Build, Fields, FORWARD_RISING};
-use outside::linked::{Library, JOB_BYTES};
+use outside::linked::{JOB_BYTES, LIBRARY};
 use outside::rng::Rng;
 use outside::system::*;
 
@@ -40,7 +40,7 @@ impl Method {
     // The operations of document 01 by this method.
     pub fn system(self) -> Option<Box<dyn System>> {
         match self {
-            Method::Library => Some(Box::new(Library)),
+            Method::Library => Some(Box::new(LIBRARY)),
             Method::Fast => Some(Box::new(Fast)),
             Method::Queue => None,
         }

@@ -1,19 +1,43 @@
--- A call that tests its mirror for a phase and a way, and goes on with the job that it holds, answers for the job whose mirror it is.
-use mathlib.Core.Path.{_≡_, refl, sym, _∙_}
+-- A call that tests its mirror for a phase and a way, and goes on with the job that it holds, answers for the job whose mirror it is, and one that
+-- takes no mirror as the operation does; refused, both answer what stands beside the number.
+use mathlib.Core.Path.{_≡_, refl, sym, ap, _∙_}
 use mathlib.Core.Bool.{Bool, true, false, cond}
+use mathlib.Core.List.{[], _∷_}
+use Prim.Native.Nat.{ℕ}
+use Rattle.search.specs.PromiseCalls.{StandsAlone}
 use Rattle.search.specs.declared.Job.{Job}
-use Rattle.hokrund.specs.Mirror.{isJob, jobOf, mirrorOf}
+use Rattle.hokrund.specs.Mirror.{isJob, cleared, jobOf, mirrorOf}
 use Rattle.hokrund.specs.declared.mirror.HokrundJob.{HokrundJob}
-use Rattle.hokrund.proofs.MirrorLaws.{job-mirror, mirror-is, mirror-job}
-use Rattle.exports.specs.Mirrored.{Mirrored}
+use Rattle.hokrund.proofs.MirrorLaws.{job-mirror, mirror-is, mirror-job, cleared-is, cleared-job}
+use Rattle.exports.specs.Mirrored.{Mirrored, Given}
 
-module _ {X : Type 0} (m : HokrundJob) (done : Job → X) (none r : X) (e : r ≡ cond (isJob m) (done (jobOf m)) none) where
-  of-job : (job : Job) → m ≡ mirrorOf job → r ≡ done job
-  of-job job h = e ∙ rw (h, mirror-is job, job-mirror job)
+-- what stands alone does so by any other name
+renamed : {X : Type 0} (refusal : X → ℕ) (beside : ℕ → X) (out r : X) → r ≡ out → StandsAlone refusal beside out → StandsAlone refusal beside r
+renamed refusal beside out r e keeps h = e ∙ keeps (λ z. h (ap refusal e ∙ z)) ∙ ap (λ x. beside (refusal x)) (sym e)
 
-  of-none : (t : Bool) → isJob m ≡ t → ((job : Job) → m ≡ mirrorOf job → ⊥) → r ≡ none
+pub given : {X : Type 0} (done : X) (refusal : X → ℕ) (beside : ℕ → X) (r : X) → r ≡ done → StandsAlone refusal beside done
+    → Given done refusal beside r
+given done refusal beside r e keeps = record { same = e; refused = renamed refusal beside done r e keeps }
+
+module _ {X : Type 0} (m : HokrundJob) (done : Job → X) (refusal : X → ℕ) (beside : ℕ → X) (r : X) (e : r ≡ cond (isJob m) (done (jobOf m)) (beside 7)) where
+  of-job : (job : Job) → cleared m ≡ mirrorOf job → r ≡ done job
+  of-job job h =
+      let is : isJob m ≡ true = sym (cleared-is m) ∙ ap isJob h ∙ mirror-is job in
+      let same : jobOf m ≡ job = sym (cleared-job m) ∙ ap jobOf h ∙ job-mirror job in
+      e ∙ rw (is, same)
+
+  of-none : (t : Bool) → isJob m ≡ t → ((job : Job) → cleared m ≡ mirrorOf job → ⊥) → r ≡ beside 7
   of-none true h without = absurd (without (jobOf m) (sym (mirror-job m h)))
   of-none false h without = e ∙ rw h
 
-  pub mirrored : Mirrored m done none r
-  mirrored = record { of-job = of-job; of-none = of-none (isJob m) refl }
+  pub mirrored : StandsAlone refusal beside (cond (isJob m) (done (jobOf m)) (beside 7)) → Mirrored m done refusal beside r
+  mirrored keeps = record { of-job = of-job; of-none = of-none (isJob m) refl; refused = renamed refusal beside _ r e keeps }
+
+-- the reserved bytes are two, and 0 in every mirror that goes out
+pub cleared-zeros : (m : HokrundJob) → cleared m .reserved ≡ 0 ∷ 0 ∷ []
+unfolding cleared
+cleared-zeros m = refl
+
+pub mirror-zeros : (job : Job) → mirrorOf job .reserved ≡ 0 ∷ 0 ∷ []
+unfolding mirrorOf
+mirror-zeros job = refl

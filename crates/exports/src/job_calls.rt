@@ -1,9 +1,6 @@
 // Begin, and the calls on a job.
-ghost use mathlib.Core.Path.{_≡_};
 ghost use lib.ListN.{take, drop};
-ghost use Rattle.search.specs.Begin.{beginOf};
-ghost use Rattle.hokrund.specs.Mirror.{answerOf};
-ghost use Rattle.exports.specs.Outcomes.{Blanks, Expands, Settles, Loads, Sweeps, Looks, Closes};
+ghost use Rattle.exports.specs.Outcomes.{Begins, Blanks, Expands, Settles, Loads, Sweeps, Looks, Closes};
 use hokrund::job_calls;
 use hokrund::mirror::HokrundAnswer;
 use hokrund::mirror::HokrundExpanded;
@@ -19,7 +16,7 @@ pub fn begin(
     size: u32,
     room: u32,
 ) -> HokrundAnswer
-    ensures { λ r. ⌜ r ≡ answerOf (beginOf kind n (wanted .places) groups size room) ⌝ }
+    ensures { λ r. ⌜ Begins kind n wanted groups size room r ⌝ }
 {
     job_calls::hokrund_begin(kind, n, wanted, groups, size, room)
 }

@@ -1,10 +1,8 @@
 // Build the whole table, Read an entry, Plan, and Price.
 ghost use mathlib.Core.Path.{_≡_};
-ghost use Rattle.search.specs.Drive.{buildOf};
-ghost use Rattle.search.specs.Plan.{planOf};
 ghost use Rattle.search.specs.Read.{readOf};
-ghost use Rattle.tariff.specs.Price.{priceOf};
-ghost use Rattle.hokrund.specs.Mirror.{answerOf, entryReadOf, plannedOf, pricedOf, oneLent, threeLent};
+ghost use Rattle.hokrund.specs.Mirror.{entryReadOf};
+ghost use Rattle.exports.specs.Outcomes.{Builds, Plans, Prices};
 use hokrund::mirror::HokrundAnswer;
 use hokrund::mirror::HokrundEntry;
 use hokrund::mirror::HokrundPlanned;
@@ -24,7 +22,7 @@ pub fn build_table(
     log: &mut [u32],
     list: &mut [u8],
 ) -> HokrundAnswer
-    ensures { λ r. ⌜ (now (table .exit), now (log .exit), now (list .exit), r) ≡ threeLent answerOf (buildOf kind n (wanted .places) groups size room (now (table .entry)) (now (log .entry)) (now (list .entry))) ⌝ }
+    ensures { λ r. ⌜ Builds kind n wanted groups size room (now (table .entry)) (now (log .entry)) (now (list .entry)) (now (table .exit), now (log .exit), now (list .exit), r) ⌝ }
 {
     table_calls::hokrund_build_table(kind, n, wanted, groups, size, room, table, log, list)
 }
@@ -44,7 +42,7 @@ pub fn plan(
     table: &[u8],
     list: &mut [u8],
 ) -> HokrundPlanned
-    ensures { λ r. ⌜ (now (list .exit), r) ≡ oneLent plannedOf (planOf kind n (wanted .places) (given .places) groups (now (table .entry)) (now (list .entry))) ⌝ }
+    ensures { λ r. ⌜ Plans kind n wanted given groups (now (table .entry)) (now (list .entry)) (now (list .exit), r) ⌝ }
 {
     table_calls::hokrund_plan(kind, n, wanted, given, groups, table, list)
 }
@@ -59,7 +57,7 @@ pub fn price(
     list: &mut [u8],
     tariff: Tariff,
 ) -> HokrundPriced
-    ensures { λ r. ⌜ (now (list .exit), r) ≡ oneLent pricedOf (priceOf kind n (wanted .places) (given .places) groups (now (table .entry)) (now (list .entry)) tariff) ⌝ }
+    ensures { λ r. ⌜ Prices kind n wanted given groups (now (table .entry)) (now (list .entry)) tariff (now (list .exit), r) ⌝ }
 {
     table_calls::hokrund_price(kind, n, wanted, given, groups, table, list, tariff)
 }

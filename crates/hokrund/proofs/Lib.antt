@@ -1,5 +1,5 @@
--- Laws of the mirror, of what is refused and of Look's part, then what the proofs of the calls share.
+-- Laws of the mirror, of Look's part and of what is refused, then what the proofs of the calls share.
 pub mod MirrorLaws
-pub mod Refused
 pub mod LookLaws
+pub mod Refused
 pub mod Wrapped

@@ -1,4 +1,5 @@
--- The two conversions of the mirror undo each other: of every job, and of every mirror whose numbers are those of a phase and of a way.
+-- The two conversions of the mirror undo each other: of every job, and of every mirror whose numbers are those of a phase and of a way, but for what
+-- is reserved in it, which plays no part.
 use mathlib.Core.Path.{_≡_, refl, sym}
 use mathlib.Core.Bool.{true}
 use Prim.Native.Nat.{ℕ, zero, suc}
@@ -11,7 +12,7 @@ use Rattle.search.specs.declared.Way.{Way}
 use Rattle.search.specs.declared.Way.the-variants.{Forward, Reverse}
 use borrow.Author.Tests.{eqb-true, le-ltb}
 use Rattle.base.proofs.Tests.{and-left, and-right, and-both, never}
-use Rattle.hokrund.specs.Mirror.{phaseNumber, phaseOf, isPhase, wayNumber, wayOf, isWay, isJob, jobOf, mirrorOf}
+use Rattle.hokrund.specs.Mirror.{phaseNumber, phaseOf, isPhase, wayNumber, wayOf, isWay, isJob, cleared, jobOf, mirrorOf}
 use Rattle.hokrund.specs.declared.mirror.HokrundJob.{HokrundJob}
 
 phase-number : (p : Phase) → phaseOf (phaseNumber p) (levelOf p) ≡ p
@@ -58,8 +59,17 @@ pub mirror-is : (job : Job) → isJob (mirrorOf job) ≡ true
 unfolding isJob mirrorOf
 mirror-is job = and-both _ _ (number-is-phase (job .phase)) (number-is-way (job .way))
 
-pub mirror-job : (m : HokrundJob) → isJob m ≡ true → mirrorOf (jobOf m) ≡ m
-unfolding isJob jobOf mirrorOf
+-- what is reserved plays no part
+pub cleared-is : (m : HokrundJob) → isJob (cleared m) ≡ isJob m
+unfolding isJob cleared
+cleared-is m = refl
+
+pub cleared-job : (m : HokrundJob) → jobOf (cleared m) ≡ jobOf m
+unfolding jobOf cleared
+cleared-job m = refl
+
+pub mirror-job : (m : HokrundJob) → isJob m ≡ true → mirrorOf (jobOf m) ≡ cleared m
+unfolding isJob cleared jobOf mirrorOf
 mirror-job m h =
     let e = number-phase (m .phase) (m .level) (and-left (isPhase (m .phase) (m .level)) (isWay (m .way)) h) in
     let w = number-way (m .way) (and-right (isPhase (m .phase) (m .level)) (isWay (m .way)) h) in

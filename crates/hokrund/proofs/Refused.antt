@@ -1,105 +1,122 @@
--- A refusal changes nothing: what is lent stays as it was, and the mirror comes back as it was given.
+-- A refusal from C stands alone, as that of the operation does: what is lent stays as it was, the mirror comes back as it was given but for what is
+-- reserved, and every other number is 0.
 use mathlib.Core.Path.{_≡_, refl, ap, _∙_}
 use mathlib.Core.Bool.{Bool, true, false, cond}
-use mathlib.Core.List.{List}
-use Prim.Native.Nat.{ℕ}
-use lib.Dec.{eqb}
-use lib.ListN.{length}
-use Rattle.search.proofs.Accepted.{blank-refused, blank-refusal, expand-refused, expand-refusal, settle-refused, settle-refusal, load-refused, load-refusal, sweep-refused, sweep-refusal, close-refused}
-use Rattle.search.specs.Blank.{blankOf}
-use Rattle.search.specs.Close.{closeOf}
-use Rattle.search.specs.Drive.{buildRefusal, buildOf}
-use Rattle.search.specs.Load.{loadOf}
-use Rattle.search.specs.Plan.{planRefusal, planOf}
-use Rattle.search.specs.Settle.{settleOf}
-use Rattle.search.specs.Sweep.{sweepOf}
+use mathlib.Core.List.{List, []}
+use Prim.Native.Nat.{ℕ, _*_}
+use borrow.Author.Tests.{ne-eqb}
+use Rattle.search.specs.Begin.{noJob, beginOf}
+use Rattle.search.specs.Look.{lookOf}
+use Rattle.search.specs.PromiseCalls.{StandsAlone}
+use Rattle.search.specs.PromiseCalls as calls
 use Rattle.search.specs.declared.Answer.{Answer}
-use Rattle.search.specs.declared.Expanded.{Expanded}
-use Rattle.search.specs.declared.Planned.{Planned}
-use Rattle.tariff.specs.Price.{priceRefusal, priceOf}
-use Rattle.tariff.specs.declared.Priced.{Priced}
+use Rattle.search.proofs.Refused.{refused-keeps}
+use Rattle.tariff.specs.Promise.{PriceKeeps}
 use Rattle.tariff.specs.declared.Tariff.{Tariff}
-use Rattle.hokrund.specs.Calls.{noJob, blankCall, expandCall, settleCall, loadCall, sweepCall, closeCall, buildCall, planCall, priceCall}
-use Rattle.hokrund.specs.Mirror.{wayOf, isJob, jobOf, mirrorOf, answerOf, expandedOf, plannedOf, pricedOf, oneLent}
+use Rattle.tariff.proofs.PriceLaws as laws
+use Rattle.hokrund.specs.Calls.{givenBack, blankCall, expandCall, settleCall, loadCall, sweepCall, lookCall, closeCall, buildCall, planCall, priceCall}
+use Rattle.hokrund.specs.Mirror.{wayOf, isJob, cleared, jobOf, mirrorOf, answerOf, expandedOf, lookedOf, lookedAt, plannedOf, pricedOf, oneLent, twoLent, threeLent}
 use Rattle.hokrund.specs.declared.mirror.HokrundAnswer.{HokrundAnswer}
 use Rattle.hokrund.specs.declared.mirror.HokrundExpanded.{HokrundExpanded}
 use Rattle.hokrund.specs.declared.mirror.HokrundJob.{HokrundJob}
+use Rattle.hokrund.specs.declared.mirror.HokrundLook.{HokrundLook}
+use Rattle.hokrund.specs.declared.mirror.HokrundPlanned.{HokrundPlanned}
+use Rattle.hokrund.specs.declared.mirror.HokrundPriced.{HokrundPriced}
 use Rattle.hokrund.specs.declared.mirror.HokrundStack.{HokrundStack}
 use Rattle.hokrund.proofs.MirrorLaws.{mirror-job}
 
--- an outcome by a test: where it is refused, what is the same of either way is the same of it
-kept : {X : Type 0} (refusal : X → ℕ) (Same : X → Type 0) (t : Bool) (done none : X) → Same none
-    → (t ≡ true → (refusal done ≡ 0 → ⊥) → Same done)
-    → (refusal (cond t done none) ≡ 0 → ⊥) → Same (cond t done none)
-kept refusal Same true done none a b h = b refl h
-kept refusal Same false done none a b h = a
+-- of an outcome by a test, where it holds for either
+alone : {X : Type 0} (refusal : X → ℕ) (beside : ℕ → X) (t : Bool) (done none : X) → none ≡ beside (refusal none)
+    → (t ≡ true → StandsAlone refusal beside done) → StandsAlone refusal beside (cond t done none)
+alone refusal beside true done none a b = b refl
+alone refusal beside false done none a b = λ h. a
+
+-- the number in an outcome: of a job's answer behind one buffer, and of an expansion
+abbrev answered : List ℕ × HokrundAnswer → ℕ
+answered o = o .1 .refusal
+
+abbrev expanded : List ℕ × List ℕ × HokrundExpanded → ℕ
+expanded o = o .2 .refusal
 
 module _ (m : HokrundJob) where
   -- of an operation with one buffer
-  answer-keeps : (segment : List ℕ) (out : List ℕ × Answer) (r : ℕ)
-      → ((out .1 .refusal ≡ 0 → ⊥) → _≡_ {A = List ℕ × Answer} out (segment, record { refusal = r; job = jobOf m }))
-      → (let call : List ℕ × HokrundAnswer = cond (isJob m) (oneLent answerOf out) (segment, noJob m) in
-      (call .1 .refusal ≡ 0 → ⊥) → (call .0 ≡ segment) × (call .1 .job ≡ m))
+  answer-keeps : (lent : List ℕ) (out : List ℕ × Answer) → StandsAlone (λ o. o .1 .refusal) (λ r. (lent, calls.givenBack (jobOf m) r)) out
+      → StandsAlone answered (λ r. (lent, givenBack m r)) (cond (isJob m) (oneLent answerOf out) (lent, givenBack m 7))
   unfolding answerOf
-  answer-keeps segment out r refused =
-      kept (λ (o : List ℕ × HokrundAnswer). o .1 .refusal) (λ (o : List ℕ × HokrundAnswer). (o .0 ≡ segment) × (o .1 .job ≡ m)) (isJob m) _ _ (refl, refl) (λ phase h.
-      (ap (λ (o : List ℕ × Answer). o .0) (refused h), ap (λ (o : List ℕ × Answer). mirrorOf (o .1 .job)) (refused h) ∙ mirror-job m phase))
+  answer-keeps lent out keeps =
+      alone answered (λ r. (lent, givenBack m r)) (isJob m) _ _ refl (λ test h. ap (oneLent answerOf) (keeps h) ∙ rw (mirror-job m test))
 
   module _ (j : ℕ) (segment : List ℕ) where
-    pub blank-keeps : (blankCall m j segment .1 .refusal ≡ 0 → ⊥) → (blankCall m j segment .0 ≡ segment) × (blankCall m j segment .1 .job ≡ m)
+    pub blank-keeps : StandsAlone answered (λ r. (segment, givenBack m r)) (blankCall m j segment)
     unfolding blankCall
-    blank-keeps =
-        answer-keeps segment (blankOf (jobOf m) j segment) _ (λ h. blank-refused (jobOf m) j segment (λ z. h (blank-refusal (jobOf m) j segment ∙ z)))
+    blank-keeps = answer-keeps segment _ (refused-keeps .blank (jobOf m) j segment)
 
     module _ (log : List ℕ) where
-      pub expand-keeps : (expandCall m j segment log .2 .refusal ≡ 0 → ⊥)
-          → (expandCall m j segment log .0 ≡ segment) × (expandCall m j segment log .1 ≡ log) × (expandCall m j segment log .2 .job ≡ m)
+      abbrev notExpanded : ℕ → List ℕ × List ℕ × HokrundExpanded
+      notExpanded r = (segment, log, record { refusal = r; waits = false; on = 0; job = cleared m })
+
+      pub expand-keeps : StandsAlone expanded notExpanded (expandCall m j segment log)
       unfolding expandCall expandedOf
       expand-keeps =
-          kept (λ (o : List ℕ × List ℕ × HokrundExpanded). o .2 .refusal) (λ (o : List ℕ × List ℕ × HokrundExpanded). (o .0 ≡ segment) × (o .1 ≡ log) × (o .2 .job ≡ m)) (isJob m) _ _ (refl, refl, refl) (λ phase h.
-          let e = expand-refused (jobOf m) j segment log (λ z. h (expand-refusal (jobOf m) j segment log ∙ z)) in
-          (ap (λ (o : List ℕ × List ℕ × Expanded). o .0) e, ap (λ (o : List ℕ × List ℕ × Expanded). o .1) e, ap (λ (o : List ℕ × List ℕ × Expanded). mirrorOf (o .2 .job)) e ∙ mirror-job m phase))
+          alone expanded notExpanded (isJob m) _ _ refl (λ test h.
+          ap (twoLent expandedOf) (refused-keeps .expand (jobOf m) j segment log h) ∙ rw (mirror-job m test))
 
-      pub settle-keeps : (settleCall m j segment log .1 .refusal ≡ 0 → ⊥) → (settleCall m j segment log .0 ≡ segment) × (settleCall m j segment log .1 .job ≡ m)
+      pub settle-keeps : StandsAlone answered (λ r. (segment, givenBack m r)) (settleCall m j segment log)
       unfolding settleCall
-      settle-keeps =
-          answer-keeps segment (settleOf (jobOf m) j segment log) _ (λ h. settle-refused (jobOf m) j segment log (λ z. h (settle-refusal (jobOf m) j segment log ∙ z)))
+      settle-keeps = answer-keeps segment _ (refused-keeps .settle (jobOf m) j segment log)
 
     module _ (list : List ℕ) where
       -- Load leaves the list, Sweep the segment
-      pub load-keeps : (loadCall m j segment list .1 .refusal ≡ 0 → ⊥) → (loadCall m j segment list .0 ≡ list) × (loadCall m j segment list .1 .job ≡ m)
+      pub load-keeps : StandsAlone answered (λ r. (list, givenBack m r)) (loadCall m j segment list)
       unfolding loadCall
-      load-keeps =
-          answer-keeps list (loadOf (jobOf m) j segment list) _ (λ h. load-refused (jobOf m) j segment list (λ z. h (load-refusal (jobOf m) j segment list ∙ z)))
+      load-keeps = answer-keeps list _ (refused-keeps .load (jobOf m) j segment list)
 
-      pub sweep-keeps : (sweepCall m j segment list .1 .refusal ≡ 0 → ⊥) → (sweepCall m j segment list .0 ≡ segment) × (sweepCall m j segment list .1 .job ≡ m)
+      pub sweep-keeps : StandsAlone answered (λ r. (segment, givenBack m r)) (sweepCall m j segment list)
       unfolding sweepCall
-      sweep-keeps =
-          answer-keeps segment (sweepOf (jobOf m) j segment list) _ (λ h. sweep-refused (jobOf m) j segment list (λ z. h (sweep-refusal (jobOf m) j segment list ∙ z)))
+      sweep-keeps = answer-keeps segment _ (refused-keeps .sweep (jobOf m) j segment list)
 
-  pub close-keeps : (way : ℕ) → (closeCall m way .refusal ≡ 0 → ⊥) → closeCall m way .job ≡ m
-  unfolding closeCall answerOf closeOf
+  module _ (j : ℕ) (log : List ℕ) where
+    abbrev looked : List ℕ × HokrundLook → ℕ
+    looked o = o .1 .refusal
+
+    abbrev notLooked : ℕ → List ℕ × HokrundLook
+    notLooked r = ([], record { refusal = r; start = 0; length = 0 })
+
+    pub look-keeps : StandsAlone looked notLooked (lookCall m j log)
+    unfolding lookCall lookedOf
+    look-keeps =
+        alone looked notLooked (isJob m) _ _ refl (λ test h.
+        ap (lookedAt (j * m .room)) (refused-keeps .look (jobOf m) j log h) ∙ rw (ne-eqb (lookOf (jobOf m) j log .1) 0 h))
+
+  pub close-keeps : (way : ℕ) → StandsAlone (λ (a : HokrundAnswer). a .refusal) (givenBack m) (closeCall m way)
+  unfolding closeCall answerOf
   close-keeps way =
-      kept (λ (o : HokrundAnswer). o .refusal) (λ (o : HokrundAnswer). o .job ≡ m) (isJob m) _ _ refl (λ phase h.
-      ap (λ (o : Answer). mirrorOf (o .job)) (close-refused (jobOf m) (wayOf way) h) ∙ mirror-job m phase)
+      alone (λ (a : HokrundAnswer). a .refusal) (givenBack m) (isJob m) _ _ refl (λ test h.
+      ap answerOf (refused-keeps .close (jobOf m) (wayOf way) h) ∙ rw (mirror-job m test))
 
 module _ (kind n : ℕ) (wanted : HokrundStack) where
-  pub build-keeps : (groups size room : ℕ) (table log list : List ℕ) → (buildCall kind n wanted groups size room table log list .3 .refusal ≡ 0 → ⊥)
-      → (buildCall kind n wanted groups size room table log list .0 ≡ table)
-      × (buildCall kind n wanted groups size room table log list .1 ≡ log)
-      × (buildCall kind n wanted groups size room table log list .2 ≡ list)
-  unfolding buildCall answerOf buildOf
-  build-keeps groups size room table log list =
-      kept (λ (o : List ℕ × List ℕ × List ℕ × Answer). o .3 .refusal) (λ (o : List ℕ × List ℕ × List ℕ × Answer). (o .0 ≡ table) × (o .1 ≡ log) × (o .2 ≡ list)) (eqb (buildRefusal kind n (wanted .places) groups size room (length table) (length log) (length list)) 0) _ _ (refl, refl, refl) (λ accepted h. absurd (h refl))
+  module _ (groups size room : ℕ) where
+    abbrev notBegun : ℕ → HokrundAnswer
+    notBegun r = record { refusal = r; job = mirrorOf noJob }
 
-  pub plan-keeps : (given : HokrundStack) (groups : ℕ) (table list : List ℕ) → (planCall kind n wanted given groups table list .1 .refusal ≡ 0 → ⊥)
-      → planCall kind n wanted given groups table list .0 ≡ list
-  unfolding planCall plannedOf planOf
-  plan-keeps given groups table list =
-      kept (λ (o : List ℕ × Planned). o .1 .refusal) (λ (o : List ℕ × Planned). o .0 ≡ list) (eqb (planRefusal kind n (wanted .places) (given .places) groups table (length list) 0) 0) _ _ refl (λ accepted h. absurd (h refl))
+    pub begin-keeps : StandsAlone (λ (a : HokrundAnswer). a .refusal) notBegun (answerOf (beginOf kind n (wanted .places) groups size room))
+    unfolding answerOf
+    begin-keeps h = ap answerOf (refused-keeps .begin kind n (wanted .places) groups size room h)
 
-  pub price-keeps : (given : HokrundStack) (groups : ℕ) (table list : List ℕ) (tariff : Tariff) → (priceCall kind n wanted given groups table list tariff .1 .refusal ≡ 0 → ⊥)
-      → priceCall kind n wanted given groups table list tariff .0 ≡ list
-  unfolding priceCall pricedOf priceOf
-  price-keeps given groups table list tariff =
-      kept (λ (o : List ℕ × Priced). o .1 .refusal) (λ (o : List ℕ × Priced). o .0 ≡ list) (eqb (priceRefusal kind n (wanted .places) (given .places) groups table (length list) tariff) 0) _ _ refl (λ accepted h. absurd (h refl))
+    module _ (table log list : List ℕ) where
+      pub build-keeps : StandsAlone (λ (o : List ℕ × List ℕ × List ℕ × HokrundAnswer). o .3 .refusal) (λ r. (table, log, list, notBegun r))
+          (buildCall kind n wanted groups size room table log list)
+      unfolding buildCall answerOf
+      build-keeps h = ap (threeLent answerOf) (refused-keeps .build kind n (wanted .places) groups size room table log list h)
+
+  module _ (given : HokrundStack) (groups : ℕ) (table list : List ℕ) where
+    pub plan-keeps : StandsAlone (λ (o : List ℕ × HokrundPlanned). o .1 .refusal) (λ r. (list, record { refusal = r; turns = 0 }))
+        (planCall kind n wanted given groups table list)
+    unfolding planCall plannedOf
+    plan-keeps h = ap (oneLent plannedOf) (refused-keeps .plan kind n (wanted .places) (given .places) groups table list h)
+
+    pub price-keeps : (tariff : Tariff)
+        → StandsAlone (λ (o : List ℕ × HokrundPriced). o .1 .refusal) (λ r. (list, record { refusal = r; turns = 0; pennies = 0 }))
+        (priceCall kind n wanted given groups table list tariff)
+    unfolding priceCall pricedOf PriceKeeps
+    price-keeps tariff h = ap (oneLent pricedOf) (laws.price-keeps kind n (wanted .places) (given .places) groups table list tariff h)

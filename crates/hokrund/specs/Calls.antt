@@ -1,5 +1,5 @@
 -- The calls that lend a buffer or take a job: what each leaves in the buffers and its answer, by the definition of the operation.
--- A mirror whose numbers are no phase or no way is refused 7, and given back as it was.
+-- A mirror whose numbers are no phase or no way is refused 7, and given back as it was, what is reserved cleared.
 use mathlib.Core.Bool.{false, cond}
 use mathlib.Core.List.{List, []}
 use Prim.Native.Nat.{ℕ, _*_}
@@ -14,7 +14,7 @@ use Rattle.search.specs.Settle.{settleOf}
 use Rattle.search.specs.Sweep.{sweepOf}
 use Rattle.tariff.specs.Price.{priceOf}
 use Rattle.tariff.specs.declared.Tariff.{Tariff}
-use Rattle.hokrund.specs.Mirror.{wayOf, isJob, jobOf, answerOf, expandedOf, lookedAt, plannedOf, pricedOf, oneLent, twoLent, threeLent}
+use Rattle.hokrund.specs.Mirror.{wayOf, isJob, cleared, jobOf, answerOf, expandedOf, lookedAt, plannedOf, pricedOf, oneLent, twoLent, threeLent}
 use Rattle.hokrund.specs.declared.mirror.HokrundAnswer.{HokrundAnswer}
 use Rattle.hokrund.specs.declared.mirror.HokrundExpanded.{HokrundExpanded}
 use Rattle.hokrund.specs.declared.mirror.HokrundJob.{HokrundJob}
@@ -23,34 +23,35 @@ use Rattle.hokrund.specs.declared.mirror.HokrundPlanned.{HokrundPlanned}
 use Rattle.hokrund.specs.declared.mirror.HokrundPriced.{HokrundPriced}
 use Rattle.hokrund.specs.declared.mirror.HokrundStack.{HokrundStack}
 
-abbrev pub noJob : HokrundJob → HokrundAnswer
-noJob m = record { refusal = 7; job = m }
+-- beside the refusal of a call on a job
+abbrev pub givenBack : HokrundJob → ℕ → HokrundAnswer
+givenBack m r = record { refusal = r; job = cleared m }
 
 unfoldable pub blankCall : HokrundJob → ℕ → List ℕ → List ℕ × HokrundAnswer
 blankCall m j segment =
-    cond (isJob m) (oneLent answerOf (blankOf (jobOf m) j segment)) (segment, noJob m)
+    cond (isJob m) (oneLent answerOf (blankOf (jobOf m) j segment)) (segment, givenBack m 7)
 
 unfoldable pub expandCall : HokrundJob → ℕ → List ℕ → List ℕ → List ℕ × List ℕ × HokrundExpanded
 expandCall m j segment log =
     cond (isJob m)
     (twoLent expandedOf (expandOf (jobOf m) j segment log))
-    (segment, log, record { refusal = 7; waits = false; on = 0; job = m })
+    (segment, log, record { refusal = 7; waits = false; on = 0; job = cleared m })
 
 unfoldable pub settleCall : HokrundJob → ℕ → List ℕ → List ℕ → List ℕ × HokrundAnswer
 settleCall m j segment log =
-    cond (isJob m) (oneLent answerOf (settleOf (jobOf m) j segment log)) (segment, noJob m)
+    cond (isJob m) (oneLent answerOf (settleOf (jobOf m) j segment log)) (segment, givenBack m 7)
 
 -- the list is lent to be filled, the segment only read
 unfoldable pub loadCall : HokrundJob → ℕ → List ℕ → List ℕ → List ℕ × HokrundAnswer
 loadCall m b segment list =
-    cond (isJob m) (oneLent answerOf (loadOf (jobOf m) b segment list)) (list, noJob m)
+    cond (isJob m) (oneLent answerOf (loadOf (jobOf m) b segment list)) (list, givenBack m 7)
 
 unfoldable pub sweepCall : HokrundJob → ℕ → List ℕ → List ℕ → List ℕ × HokrundAnswer
 sweepCall m j segment list =
-    cond (isJob m) (oneLent answerOf (sweepOf (jobOf m) j segment list)) (segment, noJob m)
+    cond (isJob m) (oneLent answerOf (sweepOf (jobOf m) j segment list)) (segment, givenBack m 7)
 
 unfoldable pub closeCall : HokrundJob → ℕ → HokrundAnswer
-closeCall m way = cond (isJob m) (answerOf (closeOf (jobOf m) (wayOf way))) (noJob m)
+closeCall m way = cond (isJob m) (answerOf (closeOf (jobOf m) (wayOf way))) (givenBack m 7)
 
 -- the part that Look hands back, and where it stands in the log area
 unfoldable pub lookCall : HokrundJob → ℕ → List ℕ → List ℕ × HokrundLook

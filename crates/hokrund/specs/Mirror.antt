@@ -3,9 +3,10 @@
 --   phaseOf                        the phase of two numbers that isPhase accepts
 --   wayNumber, wayOf               the number of a way, and the way of a number; Close takes any number
 --   jobOf, mirrorOf                the two conversions of the job
+--   cleared                        a mirror with its reserved bytes 0, as they are in all that go out
 --   oneLent, twoLent, threeLent    an outcome, its answer converted
 use mathlib.Core.Bool.{Bool, true, false, _&&_, cond}
-use mathlib.Core.List.{List}
+use mathlib.Core.List.{List, [], _∷_}
 use Prim.Native.Nat.{ℕ, zero, suc}
 use lib.Dec.{ltb, eqb}
 use lib.ListN.{length}
@@ -64,6 +65,26 @@ isWay number = ltb number 2
 unfoldable pub isJob : HokrundJob → Bool
 isJob m = isPhase (m .phase) (m .level) && isWay (m .way)
 
+unfoldable pub cleared : HokrundJob → HokrundJob
+cleared m =
+    record {
+      kind = m .kind;
+      n = m .n;
+      phase = m .phase;
+      level = m .level;
+      way = m .way;
+      loaded = m .loaded;
+      wanted = m .wanted;
+      reserved = 0 ∷ 0 ∷ [];
+      groups = m .groups;
+      size = m .size;
+      room = m .room;
+      passed = m .passed;
+      waiting = m .waiting;
+      swept = m .swept;
+      counts = m .counts;
+    }
+
 unfoldable pub jobOf : HokrundJob → Job
 jobOf m =
     record {
@@ -92,6 +113,7 @@ mirrorOf job =
       way = wayNumber (job .way);
       loaded = job .loaded;
       wanted = record { places = job .wanted };
+      reserved = 0 ∷ 0 ∷ [];
       groups = job .groups;
       size = job .size;
       room = job .room;

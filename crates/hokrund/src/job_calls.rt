@@ -1,4 +1,5 @@
-// Begin, and the calls on a job: a mirror whose numbers are no phase or no way is refused 7 and given back, any other goes to the operation.
+// Begin, and the calls on a job: a mirror whose numbers are no phase or no way is refused 7 and given back, what is reserved cleared; any other goes
+// to the operation.
 ghost use mathlib.Core.Path.{_≡_};
 ghost use lib.ListN.{take, drop};
 ghost use Rattle.search.specs.Begin.{beginOf};
@@ -36,7 +37,10 @@ pub extern "C" fn hokrund_blank(job: HokrundJob, j: u32, segment: &mut [u8]) -> 
     ensures { λ r. ⌜ (now (segment .exit), r) ≡ blankCall job j (now (segment .entry)) ⌝ }
 {
     if !mirror::is_job(job) {
-        return HokrundAnswer { refusal: 7, job };
+        return HokrundAnswer {
+            refusal: 7,
+            job: mirror::cleared(job),
+        };
     }
     mirror::answer_of(blank::blank(mirror::job_of(job), j, segment))
 }
@@ -55,7 +59,7 @@ pub extern "C" fn hokrund_expand(
             refusal: 7,
             waits: false,
             on: 0,
-            job,
+            job: mirror::cleared(job),
         };
     }
     let expanded = expand::expand::expand(mirror::job_of(job), j, segment, log);
@@ -77,7 +81,10 @@ pub extern "C" fn hokrund_settle(
     ensures { λ r. ⌜ (now (segment .exit), r) ≡ settleCall job j (now (segment .entry)) (now (log .entry)) ⌝ }
 {
     if !mirror::is_job(job) {
-        return HokrundAnswer { refusal: 7, job };
+        return HokrundAnswer {
+            refusal: 7,
+            job: mirror::cleared(job),
+        };
     }
     mirror::answer_of(settle::settle(mirror::job_of(job), j, segment, log))
 }
@@ -92,7 +99,10 @@ pub extern "C" fn hokrund_load(
     ensures { λ r. ⌜ (now (list .exit), r) ≡ loadCall job b (now (segment .entry)) (now (list .entry)) ⌝ }
 {
     if !mirror::is_job(job) {
-        return HokrundAnswer { refusal: 7, job };
+        return HokrundAnswer {
+            refusal: 7,
+            job: mirror::cleared(job),
+        };
     }
     mirror::answer_of(load::load(mirror::job_of(job), b, segment, list))
 }
@@ -107,7 +117,10 @@ pub extern "C" fn hokrund_sweep(
     ensures { λ r. ⌜ (now (segment .exit), r) ≡ sweepCall job j (now (segment .entry)) (now (list .entry)) ⌝ }
 {
     if !mirror::is_job(job) {
-        return HokrundAnswer { refusal: 7, job };
+        return HokrundAnswer {
+            refusal: 7,
+            job: mirror::cleared(job),
+        };
     }
     mirror::answer_of(sweep::sweep::sweep(mirror::job_of(job), j, segment, list))
 }
@@ -146,7 +159,10 @@ pub extern "C" fn hokrund_close(job: HokrundJob, way: u8) -> HokrundAnswer
     ensures { λ r. ⌜ r ≡ closeCall job way ⌝ }
 {
     if !mirror::is_job(job) {
-        return HokrundAnswer { refusal: 7, job };
+        return HokrundAnswer {
+            refusal: 7,
+            job: mirror::cleared(job),
+        };
     }
     mirror::answer_of(close::close::close(mirror::job_of(job), mirror::way_of(way)))
 }

@@ -5,3 +5,4 @@ pub mod job_calls;
 pub mod mirror;
 pub mod stack_calls;
 pub mod table_calls;
+pub mod version;

@@ -1,6 +1,6 @@
 // The job, a stack and the answers as C sees them, and the conversions to and from the operations' own types.
 ghost use mathlib.Core.Path.{_≡_};
-ghost use Rattle.hokrund.specs.Mirror.{phaseNumber, phaseOf, isPhase, wayNumber, wayOf, isJob, jobOf, mirrorOf, answerOf};
+ghost use Rattle.hokrund.specs.Mirror.{phaseNumber, phaseOf, isPhase, wayNumber, wayOf, isJob, cleared, jobOf, mirrorOf, answerOf};
 use job::phase;
 use search::Answer;
 use search::COUNT_PLACES;
@@ -15,7 +15,8 @@ pub struct HokrundStack {
     pub places: [i8; PLACES],
 }
 
-// search's Job, its phase as two numbers: 0 Blanking with level 0, 1 Level, 2 Finished. Its way is 0 forward, 1 reverse.
+// search's Job, its phase as two numbers: 0 Blanking with level 0, 1 Level, 2 Finished. Its way is 0 forward, 1 reverse. The reserved bytes are 0
+// in every mirror that goes out, and play no part in one that comes in; with them every byte of a mirror belongs to a field.
 #[repr(C)]
 pub struct HokrundJob {
     pub kind: u8,
@@ -25,6 +26,7 @@ pub struct HokrundJob {
     pub way: u8,
     pub loaded: u8,
     pub wanted: HokrundStack,
+    pub reserved: [u8; 2],
     pub groups: u32,
     pub size: u32,
     pub room: u32,
@@ -147,6 +149,16 @@ pub(crate) fn is_job(mirror: HokrundJob) -> bool
     mirror.way < 2
 }
 
+// A mirror as it goes back beside a refusal.
+pub(crate) fn cleared(mirror: HokrundJob) -> HokrundJob
+    ensures { λ r. ⌜ r ≡ cleared mirror ⌝ }
+{
+    let reserved = [0u8; 2];
+    let mut given_back = mirror;
+    given_back.reserved = reserved;
+    given_back
+}
+
 // The two conversions. A new field of the job is a line in each, two if it is an array; their proofs and laws name no field but the phase and
 // the way.
 pub(crate) fn job_of(mirror: HokrundJob) -> Job
@@ -194,6 +206,7 @@ pub(crate) fn mirror_of(job: Job) -> HokrundJob
         way: way_number(way),
         loaded: job.loaded,
         wanted: HokrundStack { places: wanted },
+        reserved: [0u8; 2],
         groups: job.groups,
         size: job.size,
         room: job.room,

@@ -85,6 +85,16 @@ pub fn exchanges() -> Caught {
     Ok(format!("{} exchanges of two fields or two parameters caught", exchanges.len()))
 }
 
+// Reserved bytes that come back.
+pub fn reserved() -> Caught {
+    let bytes = (0..=255).flat_map(|byte| [[byte, 0], [0, byte], [byte, 255 - byte]]);
+    let wrong = |bytes: &[u8; 2]| linked::taken_for(*bytes) != [if *bytes == [0, 0] { 0 } else { u8::MAX }; 2];
+    match bytes.clone().find(wrong) {
+        Some(bytes) => Err(format!("{bytes:?} in an answer: taken for {:?}", linked::taken_for(bytes))),
+        None => Ok(format!("{} pairs of bytes in an answer caught", bytes.filter(|bytes| *bytes != [0, 0]).count())),
+    }
+}
+
 // Each fault that shows past the first mebibyte of a segment or a table.
 pub fn far() -> Caught {
     let calls = deliberate::beyond_a_mebibyte();

@@ -35,6 +35,7 @@ const JOB: Struct = Struct {
         ("way", 1, 1),
         ("loaded", 1, 1),
         ("wanted", 12, 1),
+        ("reserved", 2, 1),
         ("groups", 4, 4),
         ("size", 4, 4),
         ("room", 4, 4),
@@ -199,6 +200,7 @@ fn fields_of_job(job: &Job) -> Vec<Vec<u8>> {
         vec![job.way],
         vec![job.loaded],
         bytes_of_stack(&job.wanted),
+        vec![0; 2],
         words(&[job.groups]),
         words(&[job.size]),
         words(&[job.room]),
@@ -218,13 +220,14 @@ fn job_of_fields(fields: &[Vec<u8>]) -> Job {
         way: fields[4][0],
         loaded: fields[5][0],
         wanted: stack_of(&fields[6]),
-        groups: number(&fields[7]) as u32,
-        size: number(&fields[8]) as u32,
-        room: number(&fields[9]) as u32,
-        passed: words(10),
-        waiting: words(11),
-        swept: std::array::from_fn(|b| number(&fields[12][8 * b..][..8])),
-        counts: std::array::from_fn(|level| number(&fields[13][8 * level..][..8])),
+        // Field 7 is reserved, and plays no part.
+        groups: number(&fields[8]) as u32,
+        size: number(&fields[9]) as u32,
+        room: number(&fields[10]) as u32,
+        passed: words(11),
+        waiting: words(12),
+        swept: std::array::from_fn(|b| number(&fields[13][8 * b..][..8])),
+        counts: std::array::from_fn(|level| number(&fields[14][8 * level..][..8])),
     }
 }
 

@@ -11,6 +11,7 @@ pub mod compare;
 pub mod deliberate;
 pub mod exchange;
 pub mod faulty;
+pub mod header;
 pub mod linked;
 pub mod ones;
 pub mod paper;

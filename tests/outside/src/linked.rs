@@ -21,6 +21,7 @@ struct CJob {
     way: u8,
     loaded: u8,
     wanted: CStack,
+    reserved: [u8; 2],
     groups: u32,
     size: u32,
     room: u32,
@@ -103,7 +104,7 @@ pub const JOB_BYTES: usize = size_of::<CJob>();
 // The layout that include/hokrund.h asserts on its side.
 const _: () = {
     assert!(JOB_BYTES == 3104 && offset_of!(CJob, way) == 4 && offset_of!(CJob, loaded) == 5);
-    assert!(offset_of!(CJob, wanted) == 6 && offset_of!(CJob, groups) == 20);
+    assert!(offset_of!(CJob, wanted) == 6 && offset_of!(CJob, reserved) == 18 && offset_of!(CJob, groups) == 20);
     assert!(offset_of!(CJob, size) == 24 && offset_of!(CJob, room) == 28);
     assert!(offset_of!(CJob, passed) == 32 && offset_of!(CJob, waiting) == 288);
     assert!(offset_of!(CJob, swept) == 544 && offset_of!(CJob, counts) == 1056);
@@ -124,7 +125,7 @@ pub fn places() -> [(&'static str, Vec<usize>); 11] {
     [
         (
             "HokrundJob",
-            places!(CJob: kind n phase level way loaded wanted groups size room passed waiting swept counts),
+            places!(CJob: kind n phase level way loaded wanted reserved groups size room passed waiting swept counts),
         ),
         ("HokrundIndexed", places!(CIndexed: refusal index)),
         ("HokrundStacked", places!(CStacked: refusal stack)),
@@ -140,6 +141,7 @@ pub fn places() -> [(&'static str, Vec<usize>); 11] {
 }
 
 extern "C" {
+    fn hokrund_version() -> u32;
     fn hokrund_index_of_stack(kind: u8, n: u8, stack: CStack) -> CIndexed;
     fn hokrund_stack_at_index(kind: u8, n: u8, index: u32) -> CStacked;
     fn hokrund_turn(kind: u8, n: u8, stack: CStack, k: u8) -> CStacked;
@@ -194,7 +196,12 @@ extern "C" {
     ) -> CAnswer;
 }
 
-fn mirror(job: &Job) -> CJob {
+// The number that the library answers for its interface.
+pub fn version() -> u32 {
+    unsafe { hokrund_version() }
+}
+
+fn mirror(job: &Job, reserved: [u8; 2]) -> CJob {
     let (phase, level) = job.phase.numbers();
     CJob {
         kind: job.kind,
@@ -204,6 +211,7 @@ fn mirror(job: &Job) -> CJob {
         way: job.way,
         loaded: job.loaded,
         wanted: CStack { places: job.wanted },
+        reserved,
         groups: job.groups,
         size: job.size,
         room: job.room,
@@ -237,15 +245,48 @@ fn tariff(tariff: &Tariff) -> CTariff {
     CTariff { count: tariff.count, lines: tariff.lines.map(line) }
 }
 
+// Reserved bytes that are not 0 make an answer one that no operation gives.
+fn refusal_of(refusal: u8, job: &CJob) -> u8 {
+    if job.reserved == [0; 2] {
+        refusal
+    } else {
+        u8::MAX
+    }
+}
+
 fn answer(a: CAnswer) -> Answer {
-    Answer { refusal: a.refusal, job: job(a.job) }
+    Answer { refusal: refusal_of(a.refusal, &a.job), job: job(a.job) }
+}
+
+fn expanded(e: CExpanded) -> Expanded {
+    // So does a byte that is no bool.
+    let refusal = if e.waits > 1 { u8::MAX } else { refusal_of(e.refusal, &e.job) };
+    Expanded { refusal, waits: e.waits == 1, on: e.on, job: job(e.job) }
+}
+
+// What either sort of answer is taken for whose job has these reserved bytes, though its own refusal is 0.
+pub fn taken_for(reserved: [u8; 2]) -> [u8; 2] {
+    let job = mirror(&NO_JOB, reserved);
+    let expanded = expanded(CExpanded { refusal: 0, waits: 0, on: 0, job });
+    [answer(CAnswer { refusal: 0, job }).refusal, expanded.refusal]
 }
 
 fn stacked(s: CStacked) -> Stacked {
     Stacked { refusal: s.refusal, stack: s.stack.places }
 }
 
-pub struct Library;
+// The library, which is given jobs with these reserved bytes.
+pub struct Library {
+    pub reserved: [u8; 2],
+}
+
+pub const LIBRARY: Library = Library { reserved: [0; 2] };
+
+impl Library {
+    fn mirror(&self, job: &Job) -> CJob {
+        mirror(job, self.reserved)
+    }
+}
 
 // Each slice is lent as its pointer and length, which is all that the library asks of its caller.
 impl System for Library {
@@ -267,39 +308,40 @@ impl System for Library {
     }
 
     fn blank(&self, job: &Job, j: u32, segment: &mut [u8]) -> Answer {
-        answer(unsafe { hokrund_blank(mirror(job), j, segment.as_mut_ptr(), segment.len()) })
+        answer(unsafe { hokrund_blank(self.mirror(job), j, segment.as_mut_ptr(), segment.len()) })
     }
 
     fn expand(&self, job: &Job, j: u32, segment: &mut [u8], logs: &mut [u32]) -> Expanded {
-        let r = unsafe {
-            hokrund_expand(mirror(job), j, segment.as_mut_ptr(), segment.len(), logs.as_mut_ptr(), logs.len())
-        };
-        // A byte that is no bool makes it an answer that no operation gives.
-        let refusal = if r.waits > 1 { u8::MAX } else { r.refusal };
-        Expanded { refusal, waits: r.waits == 1, on: r.on, job: self::job(r.job) }
+        expanded(unsafe {
+            hokrund_expand(self.mirror(job), j, segment.as_mut_ptr(), segment.len(), logs.as_mut_ptr(), logs.len())
+        })
     }
 
     fn settle(&self, job: &Job, j: u32, segment: &mut [u8], logs: &[u32]) -> Answer {
         answer(unsafe {
-            hokrund_settle(mirror(job), j, segment.as_mut_ptr(), segment.len(), logs.as_ptr(), logs.len())
+            hokrund_settle(self.mirror(job), j, segment.as_mut_ptr(), segment.len(), logs.as_ptr(), logs.len())
         })
     }
 
     fn look(&self, job: &Job, j: u32, logs: &[u32]) -> Looked {
-        let r = unsafe { hokrund_look(mirror(job), j, logs.as_ptr(), logs.len()) };
+        let r = unsafe { hokrund_look(self.mirror(job), j, logs.as_ptr(), logs.len()) };
         Looked { start: r.start, len: r.length, number: r.refusal }
     }
 
     fn close(&self, job: &Job, way: u8) -> Answer {
-        answer(unsafe { hokrund_close(mirror(job), way) })
+        answer(unsafe { hokrund_close(self.mirror(job), way) })
     }
 
     fn load(&self, job: &Job, b: u32, segment: &[u8], list: &mut [u8]) -> Answer {
-        answer(unsafe { hokrund_load(mirror(job), b, segment.as_ptr(), segment.len(), list.as_mut_ptr(), list.len()) })
+        answer(unsafe {
+            hokrund_load(self.mirror(job), b, segment.as_ptr(), segment.len(), list.as_mut_ptr(), list.len())
+        })
     }
 
     fn sweep(&self, job: &Job, j: u32, segment: &mut [u8], list: &[u8]) -> Answer {
-        answer(unsafe { hokrund_sweep(mirror(job), j, segment.as_mut_ptr(), segment.len(), list.as_ptr(), list.len()) })
+        answer(unsafe {
+            hokrund_sweep(self.mirror(job), j, segment.as_mut_ptr(), segment.len(), list.as_ptr(), list.len())
+        })
     }
 
     fn read_entry(&self, kind: u8, n: u8, table: &[u8], index: u32) -> Entry {

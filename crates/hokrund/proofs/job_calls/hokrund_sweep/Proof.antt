@@ -12,10 +12,14 @@ use Rattle.hokrund.proofs.job_calls.hokrund_sweep.Tie as tie
 is-job-requires : tie.Need-is-job-requires
 is-job-requires c κs = search needs
 
+cleared-requires : tie.Need-cleared-requires
+cleared-requires c κs = search needs
+
 returns : tie.Need-returns
 unfolding sweepCall
 returns c =
-    let f = c .before .is-job in rw (sym (f .ensures) ∙ not-true (f .result) (c .if1 .taken)) refl
+    let f = c .before .before .is-job in
+    rw (sym (f .ensures) ∙ not-true (f .result) (c .before .if1 .taken)) (rw (c .cleared .ensures) refl)
 
 job-of-requires : tie.Need-job-of-requires
 job-of-requires c κs = search needs
@@ -45,6 +49,7 @@ hokrund-sweep-spec =
     tie.close
     (tie.spec
     is-job-requires
+    cleared-requires
     returns
     job-of-requires
     sweep-requires

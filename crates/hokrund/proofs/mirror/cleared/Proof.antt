@@ -1,0 +1,12 @@
+-- `hokrund::mirror::cleared` meets its contract: field by field.
+use mathlib.Core.Path.{refl}
+use Rattle.hokrund.specs.Mirror.{cleared}
+use Rattle.hokrund.proofs.mirror.cleared.Statement.{statement}
+use Rattle.hokrund.proofs.mirror.cleared.Tie as tie
+
+returns : tie.Need-returns
+unfolding cleared
+returns c = refl
+
+pub cleared-spec : {M : Type 1} → statement M
+cleared-spec = tie.close (tie.spec returns)
