@@ -1,8 +1,11 @@
 // The report: frames from standard input, one a line; levels, their total, plans and refusals to standard output, one a line.
 ghost use mathlib.Core.Path.{_≡_};
+ghost use mathlib.Core.Bool.{true, false};
+ghost use mathlib.Core.List.{List};
+ghost use Prim.Native.Nat.{ℕ};
 ghost use lib.ListN.{length};
 ghost use Rattle.text.specs.Frame.{tableLimit};
-ghost use Rattle.text.specs.Reader.{readAll};
+ghost use Rattle.text.specs.Reader.{isOver, newReader, byteRead, endRead, readAll};
 use libc::STDIN_FILENO;
 use libc::STDOUT_FILENO;
 use session::input;
@@ -16,6 +19,20 @@ struct Going {
     reader: Reader,
 }
 
+// Nothing is written but what a character brings to its reader, by definition: the table that it was answered from may be written over by now.
+fn print_byte(reader: Reader, byte: u8, text: &[u8])
+    requires { ⌜ ((table : List ℕ) × (now text ≡ byteRead reader byte table .text)) ⌝ }
+{
+    io::write_all(STDOUT_FILENO, text);
+}
+
+// And what the end brings, after some characters were read from the start.
+fn print_end(text: &[u8])
+    requires { ⌜ ((before : List ℕ) × (input : List ℕ) × (let a = readAll newReader before input in now text ≡ endRead (a .0) (a .1) .text)) ⌝ }
+{
+    io::write_all(STDOUT_FILENO, text);
+}
+
 // Reads a part of the input character by character, and prints what each brings.
 fn feed(reader: Reader, table: &mut [u8], chunk: &[u8]) -> Reader
     requires { ⌜ length (now table) ≡ tableLimit ⌝ }
@@ -25,10 +42,11 @@ fn feed(reader: Reader, table: &mut [u8], chunk: &[u8]) -> Reader
     let mut now = reader;
     let mut i = 0;
     while i < chunk.len() {
-        let printed = input::byte_read(now, chunk[i], table, &mut out);
+        let byte = chunk[i];
+        let printed = input::byte_read(now, byte, table, &mut out);
         let length = printed.length;
         if length > 0 {
-            io::write_all(STDOUT_FILENO, &out[..length]);
+            print_byte(now, byte, &out[..length]);
         }
         now = printed.reader;
         i += 1;
@@ -39,17 +57,19 @@ fn feed(reader: Reader, table: &mut [u8], chunk: &[u8]) -> Reader
 // The end of the input.
 fn finish(reader: Reader, table: &mut [u8])
     requires { ⌜ length (now table) ≡ tableLimit ⌝ }
+    requires { ⌜ ((before : List ℕ) × (input : List ℕ) × ((reader, now table) ≡ readAll newReader before input)) ⌝ }
 {
     let mut out = [0u8; TEXT_LIMIT];
     let printed = input::end_read(reader, table, &mut out);
     let length = printed.length;
-    io::write_all(STDOUT_FILENO, &out[..length]);
+    print_end(&out[..length]);
 }
 
 // Reads what is there, and answers it before more is read. Nothing, or a read that fails, is the end of the input, and a refused first
 // frame ends the run.
 fn read_some(reader: Reader, table: &mut [u8]) -> Going
     requires { ⌜ length (now table) ≡ tableLimit ⌝ }
+    ensures { λ r. ⌜ ((input : List ℕ) × ((r .reader, now (table .exit)) ≡ readAll reader (now (table .entry)) input) × (isOver (r .reader .stage) ≡ true → r .more ≡ false)) ⌝ }
 {
     let mut chunk = io::large_buffer();
     let answer = libc::read(STDIN_FILENO, &mut chunk);

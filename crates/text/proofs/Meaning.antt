@@ -311,6 +311,7 @@ module _ (cs table : List ℕ) (h : firstRefusal cs ≡ 0) (long : length table 
         fit = omega (arith, deepest-low);
         summed = total-is;
         seen = total-is ∙ seen-is;
+        spare = finishes .spare;
         sum-whole = number-four (printedTotal (end .job)) ∙ mod-eq-of-lt (omega (arith, total-is, added-is, passes .few));
         added = added-is;
         reached = finishes .deepest;

@@ -1,7 +1,7 @@
 -- What comes of a line and of a character, case by case, and that code shows it.
 use mathlib.Core.Path.{_≡_, refl, sym, ap, ap₂, _∙_, subst}
 use mathlib.Core.Bool.{Bool, true, false, cond}
-use mathlib.Core.List.{List, []}
+use mathlib.Core.List.{List, [], _∷_, _++_}
 use Prim.Native.Nat.{ℕ, suc, _+_, _<_}
 use native.Mathlib.Numerals.{add-one}
 use native.Mathlib.Omega.{arith}
@@ -91,6 +91,18 @@ pub read-more : (reader : Reader) (table cs : List ℕ) (i : ℕ) (r : Printed) 
 unfolding readAll
 read-more reader table cs i r table′ before after h shown =
     rw (add-one i, drop-cons cs i 0 h) (ap₂ (λ (x : Reader) (t : List ℕ). readAll x t (drop (suc i) cs)) (shown .reads) (shown .kept))
+
+-- characters after others
+read-after : (reader : Reader) (table input more : List ℕ)
+    → (let a = readAll reader table input in readAll (a .0) (a .1) more ≡ readAll reader table (input ++ more))
+unfolding readAll
+read-after reader table [] more = refl
+read-after reader table (c ∷ input) more = let e = byteRead reader c table in read-after (e .reader) (e .table) input more
+
+pub read-on : (start reader next : Reader) (table held last input more : List ℕ) → (reader, held) ≡ readAll start table input
+    → (next, last) ≡ readAll reader held more → (next, last) ≡ readAll start table (input ++ more)
+read-on start reader next table held last input more before now =
+    now ∙ ap (λ (a : Reader × List ℕ). readAll (a .0) (a .1) more) before ∙ read-after start table input more
 
 -- ---- which line, and which character
 

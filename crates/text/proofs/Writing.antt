@@ -99,6 +99,11 @@ wrote text before after r e f =
     let within : r ≤ length after = omega (arith, ap length e, length-append text (drop (length text) before)) in
     record { front = e; count = f; within = within; part = sym (length-take-le r after within) }
 
+-- as many bytes as were written are the text
+pub wrote-text : {text before after : List ℕ} {r : ℕ} → Wrote text before after r → take r after ≡ text
+unfolding over
+wrote-text {text} {before} w = rw (w .front, w .count) (take-append-seam text (drop (length text) before))
+
 -- ---- a line from some place on
 
 pub line-length : (bytes : List ℕ) → length (lineOf bytes) ≡ 2 * length bytes + 1

@@ -6,14 +6,14 @@
 use mathlib.Core.Path.{_≡_}
 use mathlib.Core.Bool.{true}
 use mathlib.Core.List.{List, _∷_, _++_}
-use Prim.Native.Nat.{ℕ, suc, _≤_, _<_}
+use Prim.Native.Nat.{ℕ, suc, _*_, _≤_, _<_}
 use lib.IntN.{ℤ}
 use lib.ListN.{length, getD}
 use Rattle.base.specs.Words.{all, total}
 use Rattle.stacks.specs.Counts.{CountsAt}
 use Rattle.stacks.specs.Stack.{isStack, stackCount}
 use Rattle.stacks.specs.Turn.{Road, Fewest}
-use Rattle.search.specs.Entries.{seenIn}
+use Rattle.search.specs.Entries.{entryAt, seenIn}
 use Rattle.text.specs.Frame.{placesOf, laterRefusal}
 use Rattle.text.specs.Hex.{isByte, bytesOf, numberOf, fourBytes}
 use Rattle.text.specs.Output.{levelsFrom, deepestLine, totalLine, planLine, refusalLine}
@@ -42,9 +42,11 @@ pub record Reports (kind n : ℕ) (wanted : List ℤ) (built : List ℕ) (lines 
   pub counted : (d : ℕ) → d ≤ deepest → CountsAt kind n wanted d (getD counts d 0)
   pub whole : (d : ℕ) → d ≤ deepest → numberOf (fourBytes (getD counts d 0)) ≡ getD counts d 0
   pub fit : deepest < 256
-  -- the total is the sum of the printed counts; it is the number of table entries other than 3 among the N stacks; it fits its four bytes
+  -- the total is the sum of the printed counts; it is the number of table entries other than 3, those of the N stacks, as spare ones are 3; it
+  -- fits its four bytes
   pub summed : sum ≡ total counts
   pub seen : sum ≡ seenIn built (stackCount kind n)
+  pub spare : (i : ℕ) → stackCount kind n ≤ i → i < 4 * length built → entryAt built i ≡ 3
   pub sum-whole : numberOf (fourBytes sum) ≡ sum
   -- the counts add up to the number of all stacks
   pub added : total counts ≡ stackCount kind n

@@ -1,9 +1,10 @@
--- `report::feed` meets its contract: it goes through the part character by character.
+-- `report::feed` meets its contract: it goes through the part character by character, and prints what each brings.
 use mathlib.Core.Path.{_≡_, refl, _∙_}
 use Prim.Native.Nat.{_-_, _≤_}
 use lib.ListN.{length, drop}
 use Rattle.text.specs.Reader.{readAll}
 use Rattle.text.proofs.ReadLaws.{read-none, read-more}
+use Rattle.text.proofs.Writing.{wrote-text}
 use native.Mathlib.Omega.{arith}
 use borrow.Author.Needs.{needs}
 use Rattle.report.proofs.feed.Statement.{statement}
@@ -19,8 +20,8 @@ abbrev μ-loop : tie.MeasureT-loop
 loop-holds : tie.Need-loop-holds Inv-loop μ-loop
 loop-holds c = (omega arith, refl, refl)
 
-shared-slice-read-byte-read : tie.Need-shared-slice-read-byte-read Inv-loop μ-loop
-shared-slice-read-byte-read c = search needs
+shared-slice-read-byte : tie.Need-shared-slice-read-byte Inv-loop μ-loop
+shared-slice-read-byte c = search needs
 
 byte-read-requires : tie.Need-byte-read-requires Inv-loop μ-loop
 byte-read-requires c κs = search needs
@@ -28,11 +29,11 @@ byte-read-requires c κs = search needs
 array-share-prefix-out : tie.Need-array-share-prefix-out Inv-loop μ-loop
 array-share-prefix-out c = search needs
 
-slice-aggregate-write-all : tie.Need-slice-aggregate-write-all Inv-loop μ-loop
-slice-aggregate-write-all c = search needs
+slice-aggregate-print-byte : tie.Need-slice-aggregate-print-byte Inv-loop μ-loop
+slice-aggregate-print-byte c = search needs
 
-write-all-requires : tie.Need-write-all-requires Inv-loop μ-loop
-write-all-requires c κs = search needs
+print-byte-requires : tie.Need-print-byte-requires Inv-loop μ-loop
+print-byte-requires c κs = (_, wrote-text (c .before .before .before .before .byte-read .ensures .wrote))
 
 add-i : tie.Need-add-i Inv-loop μ-loop
 add-i c = search needs
@@ -65,11 +66,11 @@ feed-spec =
     Inv-loop
     μ-loop
     loop-holds
-    shared-slice-read-byte-read
+    shared-slice-read-byte
     byte-read-requires
     array-share-prefix-out
-    slice-aggregate-write-all
-    write-all-requires
+    slice-aggregate-print-byte
+    print-byte-requires
     add-i
     loop-less
     loop-again
