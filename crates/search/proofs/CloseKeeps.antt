@@ -72,6 +72,11 @@ module _ (job : Job) (j : ℕ) where
 
 -- ---- the world after a close
 
+-- a level that brought stacks is followed by the next
+goes-on : (counts : List ℕ) (d : ℕ) → (getD counts d 0 ≡ 0 → ⊥) → nextPhase counts (Level d) ≡ Level (d + 1)
+unfolding nextPhase
+goes-on counts d ne = rw (ne-eqb (getD counts d 0) 0 ne)
+
 first-level : 1 ≤ lastLevel
 first-level = omega arith
 
@@ -365,9 +370,7 @@ module _ {terms : Terms} (given : Given terms) where
           let v = level-some ne in
           let none : (j : ℕ) → waitingOf (closedWorld w way .job) j ≡ 0 = λ j. closed-waiting w way j ∙ complete .none-waits j in
           record {
-            phase-is = ap (nextPhase (w .job .counts)) (search .phase-is)
-                ∙ ap (λ (t : Bool). cond t (Finished (d - 1)) (Level (d + 1))) (ne-eqb (countOf (w .job) d) 0 ne)
-                ∙ ap Level (add-one d);
+            phase-is = ap (nextPhase (w .job .counts)) (search .phase-is) ∙ goes-on (w .job .counts) d ne ∙ ap Level (add-one d);
             last = below-last unpast ne;
             before = (v .0, v .1, ap suc (v .2));
             passed-fits = λ j. omega (arith, closed-passed w way j);
