@@ -2,7 +2,6 @@
 -- takes no mirror as the operation does; refused, both answer what stands beside the number.
 use mathlib.Core.Path.{_≡_, refl, sym, ap, _∙_}
 use mathlib.Core.Bool.{Bool, true, false, cond}
-use mathlib.Core.List.{[], _∷_}
 use Prim.Native.Nat.{ℕ}
 use Rattle.search.specs.PromiseCalls.{StandsAlone}
 use Rattle.search.specs.declared.Job.{Job}
@@ -32,12 +31,3 @@ module _ {X : Type 0} (m : HokrundJob) (done : Job → X) (refusal : X → ℕ) 
 
   pub mirrored : StandsAlone refusal beside (cond (isJob m) (done (jobOf m)) (beside 7)) → Mirrored m done refusal beside r
   mirrored keeps = record { of-job = of-job; of-none = of-none (isJob m) refl; refused = renamed refusal beside _ r e keeps }
-
--- the reserved bytes are two, and 0 in every mirror that goes out
-pub cleared-zeros : (m : HokrundJob) → cleared m .reserved ≡ 0 ∷ 0 ∷ []
-unfolding cleared
-cleared-zeros m = refl
-
-pub mirror-zeros : (job : Job) → mirrorOf job .reserved ≡ 0 ∷ 0 ∷ []
-unfolding mirrorOf
-mirror-zeros job = refl

@@ -20,7 +20,7 @@ take-again (suc w) [] = refl
 take-again (suc w) (x ∷ xs) = ap (λ ys. x ∷ ys) (take-again w xs)
 
 module _ (job : Job) (j : ℕ) (log part : List ℕ) (n : ℕ) (e : _≡_ {A = List ℕ × ℕ} (part, n) (lookOf job j log)) where
-  pub part-is : part ≡ cond (eqb n 0) (take (waitingOf job j) (drop (j * job .room) log)) []
+  part-is : part ≡ cond (eqb n 0) (take (waitingOf job j) (drop (j * job .room) log)) []
   unfolding lookOf pending logPart
   part-is = rw (ap (λ (p : List ℕ × ℕ). p .1) e) (ap (λ (p : List ℕ × ℕ). p .0) e)
 

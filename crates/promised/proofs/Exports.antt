@@ -64,6 +64,11 @@ cleared-is : (m : HokrundJob)
 unfolding cleared
 cleared-is m = refl
 
+-- so they are in the mirror of every job
+mirror-zeros : (job : Job) → mirrorOf job .reserved ≡ 0 ∷ 0 ∷ []
+unfolding mirrorOf
+mirror-zeros job = refl
+
 version-is : interfaceVersion ≡ 6
 version-is = refl
 

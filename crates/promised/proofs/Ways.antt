@@ -10,6 +10,7 @@ use Rattle.search.specs.Build.{World, Call, outcome, after, doClose}
 use Rattle.search.specs.EitherWay.{SearchedWhole, SameLevel, EitherWay, SameClosed, EitherWayClosed}
 use Rattle.search.specs.JobState.{beginRefusal, segmentCountOf, stackCountAt, passedOf, waitingOf, isSwept, isReverse}
 use Rattle.search.specs.Promise.{rightLengths, Buffers}
+use Rattle.search.specs.PromiseBy.{AtEnd}
 use Rattle.search.specs.declared.Phase.the-variants.{Level}
 use Rattle.search.specs.declared.Way.{Way}
 use Rattle.search.proofs.EitherWay as Either
@@ -54,6 +55,16 @@ module _ (kind n : ℕ) (wanted : List ℤ) (groups S C : ℕ) (segments segment
           → outcome {right = rightLengths kind n S C} (after start calls) (doClose way) .world .job .phase
           ≡ outcome {right = rightLengths kind n S C} (after start′ calls′) (doClose way′) .world .job .phase
       same-phases = same .phases
+
+  -- any two that come to the other end, Level 255, whose Close says 14, have the same table and the same counts
+  ends-alike : (calls calls′ : List (Call (rightLengths kind n S C)))
+      → AtEnd kind n groups wanted (rightLengths kind n S C) (after start calls)
+      → AtEnd kind n groups wanted (rightLengths kind n S C) (after start′ calls′)
+      → (after start calls .segments ≡ after start′ calls′ .segments) × (after start calls .job .counts ≡ after start′ calls′ .job .counts)
+  ends-alike calls calls′ end end′ =
+      let whole = Either.end-whole end in
+      let whole′ = Either.end-whole end′ in
+      (same-segments calls calls′ 255 whole whole′, same-counts calls calls′ 255 whole whole′)
 
   -- each list is some calls that bring the job to level d, and a Close of it that is not refused
   module _ (before before′ : List (Call (rightLengths kind n S C))) (way way′ : Way) (d : ℕ)
