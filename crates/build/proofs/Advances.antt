@@ -63,7 +63,7 @@ loads-front job b segment list changed same = go (eq-or-ne (loadRefusal job b (l
 
 module _ (job : Job) (table log list : List ℕ) where
   abbrev Calls : Type 0
-  Calls = Call (rightLengths (job .kind) (job .n) (job .size) (job .room))
+  Calls = Call (rightLengths (job .terms))
 
   abbrev store : Store
   store = storeOf job table log list
@@ -119,8 +119,8 @@ module _ (job : Job) (table log list : List ℕ) where
 
   -- a call that leaves the table as it was
   module _ (coherent : isCoherent job ≡ true) (long : length table ≡ bytesFor (stackCountOf job)) where
-    whole : table ≡ joined (cut (stackCountOf job) (job .size) table)
-    whole = sym (joined-cut (stackCountOf job) (job .size) (omega (arith, sizes job coherent .least)) (sizes job coherent .four) table long)
+    whole : table ≡ joined (cut (stackCountOf job) (job .terms .size) table)
+    whole = sym (joined-cut (stackCountOf job) (job .terms .size) (omega (arith, sizes job coherent .least)) (sizes job coherent .four) table long)
 
     pub advance-loads : isBlanking (job .phase) ≡ false → inReverse job ≡ true
         → (isLoaded job && ltb (firstPair job) (segmentCountOf job)) ≡ false
@@ -139,7 +139,7 @@ module _ (job : Job) (table log list : List ℕ) where
         ∙ chosen (doLoad first own (take (listBytesAt job first) list)) (next-load job list blanked reverse none h)
 
     module _ (after : Job) (closes : after ≡ closeOf job (wayAfter job) .job) where
-      closed : nextCall {right = rightLengths (job .kind) (job .n) (job .size) (job .room)} job list ≡ doClose (wayAfter job)
+      closed : nextCall {right = rightLengths (job .terms)} job list ≡ doClose (wayAfter job)
           → storeOf after table log list ≡ advanced store
       unfolding laid outcome held
       closed e =

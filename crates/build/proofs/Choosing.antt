@@ -7,12 +7,12 @@ use borrow.Author.Count.{below-more}
 use borrow.Author.Tests.{eq-eqb, ne-eqb}
 use lib.Dec.{ltb, eqb}
 use lib.ListN.{getD}
-use Rattle.stacks.specs.Stack.{stackCount}
 use Rattle.close.specs.Ready.{rowWhole}
 use Rattle.search.specs.Close.{isSweptWhole}
 use Rattle.search.specs.Drive.{isOpen, isPending, isUnswept, firstOpen, firstPending, firstUnswept, firstPair}
 use Rattle.search.specs.JobState.{stackCountOf, segmentCountOf, stackCountAt, passedOf, waitingOf, sweptOf, isSwept, isLoaded, isCoherent, noSegment}
-use Rattle.search.specs.Segments.{segmentLimit, segmentCount, stackCountIn}
+use Rattle.search.specs.Segments.{segmentLimit, stackCountIn}
+use Rattle.search.specs.Terms.{N, G}
 use Rattle.search.specs.declared.Job.{Job}
 use Rattle.search.proofs.Coherence.{coherent-facts}
 use Rattle.search.proofs.PairLaws.{loaded-below}
@@ -39,13 +39,13 @@ module _ (p : ℕ → Bool) (n : ℕ) where
   seek-ends j h s = first-is p n j (s .within) (s .none) (λ l. absurd (omega arith))
 
 -- the driver's searches, by what the code goes by
-module _ (job : Job) (segments : ℕ) (e : segments ≡ segmentCount (stackCount (job .kind) (job .n)) (job .size)) where
-  pub open-is : (count r : ℕ) → count ≡ stackCount (job .kind) (job .n)
-      → r ≡ firstFrom (λ j. ltb (getD (job .passed) j 0) (stackCountIn count (job .size) j)) 0 segments → r ≡ firstOpen job
+module _ (job : Job) (segments : ℕ) (e : segments ≡ G (job .terms)) where
+  pub open-is : (count r : ℕ) → count ≡ N (job .terms)
+      → r ≡ firstFrom (λ j. ltb (getD (job .passed) j 0) (stackCountIn count (job .terms .size) j)) 0 segments → r ≡ firstOpen job
   unfolding firstOpen isOpen passedOf stackCountAt segmentCountOf stackCountOf
   open-is count r c f =
       f
-      ∙ ap (λ (m : ℕ). firstFrom (λ j. ltb (getD (job .passed) j 0) (stackCountIn m (job .size) j)) 0 segments) c
+      ∙ ap (λ (m : ℕ). firstFrom (λ j. ltb (getD (job .passed) j 0) (stackCountIn m (job .terms .size) j)) 0 segments) c
       ∙ ap (firstFrom (isOpen job) 0) e
 
   pub pending-is : (r : ℕ) → r ≡ firstFrom (λ t. ltb 0 (getD (job .waiting) t 0)) 0 segments → r ≡ firstPending job

@@ -7,7 +7,6 @@ use native.Mathlib.Nat.{mul-le-mul}
 use native.Mathlib.Omega.{arith}
 use borrow.Rule.Slice.PartMut.{midOf, putMid, post-is}
 use lib.ListN.{length, take, drop}
-use Rattle.stacks.specs.Stack.{stackCount}
 use Rattle.search.specs.Changed.{listBytes}
 use Rattle.search.specs.Drive.{listBytesAt}
 use Rattle.search.specs.Entries.{bytesFor}
@@ -18,57 +17,62 @@ use Rattle.search.specs.declared.Job.{Job}
 use Rattle.search.specs.Expand.{expandOf}
 use Rattle.search.specs.Load.{loadOf}
 use Rattle.search.specs.Segments.{segmentLimit, mostSize, stackCountIn}
+use Rattle.search.specs.Terms.{N, m, beginRefusal}
+use Rattle.search.specs.declared.Terms.{Terms}
 use Rattle.search.specs.Sweep.{sweepOf}
 use Rattle.search.proofs.Coherence.{begin-given, coherent-facts}
 use Rattle.search.proofs.CutLaws.{segment-within, cut-at, joined-replaced}
 use Rattle.search.proofs.SegmentLaws.{SegmentSizeFacts, segment-size-facts}
 use Rattle.build.specs.Part.{partOf, withPart, expandedIn, loadedIn, sweptIn}
 
-pub sizes : (job : Job) → isCoherent job ≡ true → SegmentSizeFacts (stackCountOf job) (job .size)
+pub sizes : (job : Job) → isCoherent job ≡ true → SegmentSizeFacts (stackCountOf job) (job .terms .size)
 unfolding stackCountOf
 sizes job coherent =
-    segment-size-facts (stackCountOf job) (job .size)
-    (begin-given (job .kind) (job .n) (job .wanted) (job .groups) (job .size) (job .room) (coherent-facts job coherent .begins) .segments)
+    segment-size-facts (stackCountOf job) (job .terms .size)
+    (begin-given (coherent-facts job coherent .begins) .segments)
+
+pub begin-small : (terms : Terms) → beginRefusal terms ≡ 0 → terms .size ≤ mostSize
+begin-small terms begins = segment-size-facts (N terms) (terms .size) (begin-given begins .segments) .most
 
 -- as many segments of as many bytes as there may be: the table is below 2^30
 pub start-small : (size j : ℕ) → size ≤ mostSize → j ≤ segmentLimit → j * (size / 4) ≤ segmentLimit * 16777216
 start-small size j most few = mul-le-mul few (let b : size / 4 ≤ 16777216 = omega arith in b)
 
 -- no changed list is longer than that of segment 0
-pub list-within : (job : Job) (b front : ℕ) → front ≡ listBytes (stackCountIn (stackCount (job .kind) (job .n)) (job .size) b)
+pub list-within : (job : Job) (b front : ℕ) → front ≡ listBytes (m (job .terms) b)
     → (list : List ℕ) → length list ≡ listBytes (stackCountAt job 0) → front ≤ length list
 unfolding listBytes stackCountAt stackCountOf stackCountIn
 list-within job b front e list long = omega arith
 
 module _ (job : Job) (j : ℕ) (coherent : isCoherent job ≡ true) (inside : j < segmentCountOf job) where
   -- what the part's start and end ask for
-  pub part-small : (job .size ≤ mostSize) × (j ≤ segmentLimit)
+  pub part-small : (job .terms .size ≤ mostSize) × (j ≤ segmentLimit)
   unfolding segmentCountOf
   part-small = (sizes job coherent .most, omega (arith, sizes job coherent .few))
 
-  module _ (start end : ℕ) (table : List ℕ) (long : length table ≡ bytesFor (stackCountOf job)) (starts : start ≡ j * (job .size / 4))
-      (ends : end ≡ j * (job .size / 4) + bytesFor (stackCountIn (stackCount (job .kind) (job .n)) (job .size) j)) where
-    some : 0 < job .size
+  module _ (start end : ℕ) (table : List ℕ) (long : length table ≡ bytesFor (stackCountOf job)) (starts : start ≡ j * (job .terms .size / 4))
+      (ends : end ≡ j * (job .terms .size / 4) + bytesFor (m (job .terms) j)) where
+    some : 0 < job .terms .size
     some = omega (arith, sizes job coherent .least)
 
     pub part-within : end ≤ length table
     unfolding segmentCountOf stackCountAt stackCountOf
-    part-within = omega (arith, segment-within (stackCountOf job) (job .size) some (sizes job coherent .four) j inside)
+    part-within = omega (arith, segment-within (stackCountOf job) (job .terms .size) some (sizes job coherent .four) j inside)
 
     part-is : midOf start (end - start) table ≡ partOf job j table
     unfolding partOf segmentCountOf stackCountAt stackCountOf
     part-is =
         ap (λ (k : ℕ). take k (drop start table)) (let e : end - start ≡ bytesFor (stackCountAt job j) = omega arith in e)
         ∙ ap (λ (a : ℕ). take (bytesFor (stackCountAt job j)) (drop a table)) starts
-        ∙ sym (cut-at (stackCountOf job) (job .size) some (sizes job coherent .four) table j inside)
+        ∙ sym (cut-at (stackCountOf job) (job .terms .size) some (sizes job coherent .four) table j inside)
 
     put-is : (new : List ℕ) → putMid start (end - start) table new ≡ withPart job j table new
     unfolding withPart segmentCountOf stackCountAt stackCountOf
     put-is new =
         ap (λ (l : List ℕ). take start table ++ (new ++ l)) (post-is start end table (omega arith))
         ∙ ap (λ (a : ℕ). take a table ++ (new ++ drop end table)) starts
-        ∙ ap (λ (b : ℕ). take (j * (job .size / 4)) table ++ (new ++ drop b table)) ends
-        ∙ sym (joined-replaced (stackCountOf job) (job .size) some (sizes job coherent .four) table long j new inside)
+        ∙ ap (λ (b : ℕ). take (j * (job .terms .size / 4)) table ++ (new ++ drop b table)) ends
+        ∙ sym (joined-replaced (stackCountOf job) (job .terms .size) some (sizes job coherent .four) table long j new inside)
 
     -- Blank or Settle on the part
     pub answered-in : (call : List ℕ → List ℕ × Answer) (after : List ℕ) (answer : Answer)
@@ -88,7 +92,7 @@ module _ (job : Job) (j : ℕ) (coherent : isCoherent job ≡ true) (inside : j 
         ∙ ap (λ (l : List ℕ). (l, out .1, out .2)) (put-is (out .0))
 
     module _ (list : List ℕ) (front : ℕ) (after : List ℕ) (answer : Answer) where
-      pub loaded-in : front ≡ listBytes (stackCountIn (stackCount (job .kind) (job .n)) (job .size) j)
+      pub loaded-in : front ≡ listBytes (m (job .terms) j)
           → (after, answer) ≡ loadOf job j (midOf start (end - start) table) (take front list)
           → _≡_ {A = List ℕ × Answer} (after ++ drop front list, answer) (loadedIn job j table list)
       unfolding loadedIn listBytesAt stackCountAt stackCountOf
@@ -96,7 +100,7 @@ module _ (job : Job) (j : ℕ) (coherent : isCoherent job ≡ true) (inside : j 
           ap (λ (o : List ℕ × Answer). (o .0 ++ drop front list, o .1)) (e ∙ ap (λ (l : List ℕ). loadOf job j l (take front list)) part-is)
           ∙ ap (λ (k : ℕ). let out = loadOf job j (partOf job j table) (take k list) in (out .0 ++ drop k list, out .1)) fits
 
-      pub swept-in : front ≡ listBytes (stackCountIn (stackCount (job .kind) (job .n)) (job .size) (job .loaded))
+      pub swept-in : front ≡ listBytes (m (job .terms) (job .loaded))
           → (after, answer) ≡ sweepOf job j (midOf start (end - start) table) (take front list)
           → (putMid start (end - start) table after, answer) ≡ sweptIn job j table list
       unfolding sweptIn listBytesAt stackCountAt stackCountOf

@@ -12,13 +12,13 @@ use Rattle.base.specs.Words.{total}
 use Rattle.search.specs.Close.{closeOf}
 use Rattle.search.specs.Drive.{isFew, wayAfter}
 use Rattle.search.specs.JobState.{levelOf, stackCountOf, segmentCountOf, countOf}
-use Rattle.search.specs.Segments.{segmentCount}
+use Rattle.search.specs.Terms.{N, G}
 use Rattle.search.specs.declared.Answer.{Answer}
 use Rattle.search.specs.declared.Job.{Job}
 use Rattle.search.specs.declared.Phase.{Phase}
+use Rattle.search.specs.declared.Terms.{Terms}
 use Rattle.search.specs.declared.Way.{Way}
 use Rattle.search.specs.declared.Way.the-variants.{Forward, Reverse}
-use Rattle.stacks.specs.Stack.{stackCount}
 use Rattle.build.specs.Way.{wayBy}
 
 -- what is left is N without the counts before place d
@@ -37,24 +37,24 @@ module _ (counts : List ℕ) (N left d : ℕ) (e : left - total (drop d counts) 
   less-ends h = omega (arith, ap total (drop-of-length-le counts h))
 
 -- the rule's two answers, by the numbers that the code goes by
-module _ (kind n S : ℕ) (phase : Phase) (counts : List ℕ) (stacks unseen segments level : ℕ)
-    (N-is : stacks ≡ stackCount kind n) (unseen-is : unseen ≡ stacks - total counts)
-    (G-is : segments ≡ segmentCount (stackCount kind n) S) (level-is : level ≡ levelOf phase) where
-  by-rule : (t : Bool) → leb (unseen * segments) (getD counts level 0) ≡ t → cond t Reverse Forward ≡ wayBy kind n S phase counts
+module _ (terms : Terms) (phase : Phase) (counts : List ℕ) (stacks unseen segments level : ℕ)
+    (N-is : stacks ≡ N terms) (unseen-is : unseen ≡ stacks - total counts)
+    (G-is : segments ≡ G terms) (level-is : level ≡ levelOf phase) where
+  by-rule : (t : Bool) → leb (unseen * segments) (getD counts level 0) ≡ t → cond t Reverse Forward ≡ wayBy terms phase counts
   by-rule t e =
       ap (λ (b : Bool). cond b Reverse Forward) (sym e)
-      ∙ ap (λ (u : ℕ). cond (leb (u * segments) (getD counts level 0)) Reverse Forward) (unseen-is ∙ ap (λ (N : ℕ). N - total counts) N-is)
-      ∙ ap (λ (g : ℕ). cond (leb ((stackCount kind n - total counts) * g) (getD counts level 0)) Reverse Forward) G-is
-      ∙ ap (λ (d : ℕ). cond (leb ((stackCount kind n - total counts) * segmentCount (stackCount kind n) S) (getD counts d 0)) Reverse Forward) level-is
+      ∙ ap (λ (u : ℕ). cond (leb (u * segments) (getD counts level 0)) Reverse Forward) (unseen-is ∙ ap (λ (count : ℕ). count - total counts) N-is)
+      ∙ ap (λ (g : ℕ). cond (leb ((N terms - total counts) * g) (getD counts level 0)) Reverse Forward) G-is
+      ∙ ap (λ (d : ℕ). cond (leb ((N terms - total counts) * G terms) (getD counts d 0)) Reverse Forward) level-is
 
-  pub few-reverse : unseen * segments ≤ getD counts level 0 → Reverse ≡ wayBy kind n S phase counts
+  pub few-reverse : unseen * segments ≤ getD counts level 0 → Reverse ≡ wayBy terms phase counts
   few-reverse h = by-rule true (le-leb (unseen * segments) (getD counts level 0) h)
 
-  pub many-forward : getD counts level 0 < unseen * segments → Forward ≡ wayBy kind n S phase counts
+  pub many-forward : getD counts level 0 < unseen * segments → Forward ≡ wayBy terms phase counts
   many-forward h = by-rule false (lt-leb (unseen * segments) (getD counts level 0) h)
 
 -- Close, told that way
-pub closes-by : (job : Job) (way : Way) (answer : Answer) → way ≡ wayBy (job .kind) (job .n) (job .size) (job .phase) (job .counts)
+pub closes-by : (job : Job) (way : Way) (answer : Answer) → way ≡ wayBy (job .terms) (job .phase) (job .counts)
     → answer ≡ closeOf job way → answer .job ≡ closeOf job (wayAfter job) .job
 unfolding wayAfter isFew stackCountOf segmentCountOf countOf
 closes-by job way answer e q = ap (λ (a : Answer). a .job) (q ∙ ap (closeOf job) e)

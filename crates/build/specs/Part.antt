@@ -17,10 +17,10 @@ use Rattle.search.specs.declared.Job.{Job}
 module _ (job : Job) (j : ℕ) (table : List ℕ) where
   -- segment j, and the table with another one
   unfoldable pub partOf : List ℕ
-  partOf = getD (cut (stackCountOf job) (job .size) table) j []
+  partOf = getD (cut (stackCountOf job) (job .terms .size) table) j []
 
   unfoldable pub withPart : List ℕ → List ℕ
-  withPart segment = joined (set (cut (stackCountOf job) (job .size) table) j segment)
+  withPart segment = joined (set (cut (stackCountOf job) (job .terms .size) table) j segment)
 
   -- the table after the call, and its answer; after Expand, the log area too
   unfoldable pub blankedIn : List ℕ × Answer

@@ -6,13 +6,13 @@ use lib.Dec.{leb}
 use lib.ListN.{getD}
 use Rattle.base.specs.Words.{total}
 use Rattle.search.specs.JobState.{levelOf}
-use Rattle.search.specs.Segments.{segmentCount}
+use Rattle.search.specs.Terms.{N, G}
 use Rattle.search.specs.declared.Phase.{Phase}
+use Rattle.search.specs.declared.Terms.{Terms}
 use Rattle.search.specs.declared.Way.{Way}
 use Rattle.search.specs.declared.Way.the-variants.{Forward, Reverse}
-use Rattle.stacks.specs.Stack.{stackCount}
 
 -- wayAfter of a job with these fields
-abbrev pub wayBy : ℕ → ℕ → ℕ → Phase → List ℕ → Way
-wayBy kind n S phase counts =
-    cond (leb ((stackCount kind n - total counts) * segmentCount (stackCount kind n) S) (getD counts (levelOf phase) 0)) Reverse Forward
+abbrev pub wayBy : Terms → Phase → List ℕ → Way
+wayBy terms phase counts =
+    cond (leb ((N terms - total counts) * G terms) (getD counts (levelOf phase) 0)) Reverse Forward

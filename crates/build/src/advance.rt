@@ -1,15 +1,14 @@
 // The driver's step: the call that comes next.
-ghost use mathlib.Core.Bool.{true, false, _&&_};
+ghost use mathlib.Core.Bool.{true, false};
 ghost use mathlib.Core.List.{List};
 ghost use mathlib.Core.Path.{_≡_};
 ghost use Prim.Native.Nat.{ℕ};
-ghost use lib.Dec.{ltb};
 ghost use lib.ListN.{length};
-ghost use Rattle.search.specs.Changed.{listBytes};
 ghost use Rattle.search.specs.Close.{closeOf};
-ghost use Rattle.search.specs.Drive.{advanced, firstPair, wayAfter, storeOf};
+ghost use Rattle.search.specs.Drive.{advanced, wayAfter, storeOf};
 ghost use Rattle.search.specs.Entries.{bytesFor};
-ghost use Rattle.search.specs.JobState.{isBlanking, isCoherent, isLoaded, inReverse, segmentCountOf, stackCountAt, stackCountOf};
+ghost use Rattle.search.specs.JobState.{isBlanking, isCoherent, inReverse, stackCountOf};
+ghost use Rattle.build.specs.Step.{StepFits, ReverseFits, LoadFits};
 use crate::choose;
 use crate::part;
 use crate::way;
@@ -24,8 +23,9 @@ fn close_phase(job: Job) -> Job
     requires { ⌜ isCoherent job ≡ true ⌝ }
     ensures { λ r. ⌜ r ≡ closeOf job (wayAfter job) .job ⌝ }
 {
+    let terms = job.terms;
     let phase = job.phase;
-    let next = way::way_after(job.kind, job.n, job.size, phase, &job.counts);
+    let next = way::way_after(terms, phase, &job.counts);
     let closed = close::close::close(job, next);
     closed.job
 }
@@ -35,10 +35,11 @@ fn advance_blanking(job: Job, table: &mut [u8]) -> Job
     requires { ⌜ (isCoherent job ≡ true) × (length (now table) ≡ bytesFor (stackCountOf job)) × (isBlanking (job .phase) ≡ true) ⌝ }
     ensures { λ r. ⌜ ((log list : List ℕ) → storeOf r (now (table .exit)) log list ≡ advanced (storeOf job (now (table .entry)) log list)) ⌝ }
 {
-    let segments = geometry::segment_count_of(job.kind, job.n, job.size);
-    let count = kind::stack_count(job.kind, job.n);
+    let terms = job.terms;
+    let segments = geometry::segment_count_of(terms);
+    let count = kind::stack_count(terms.kind, terms.n);
     let passed = job.passed;
-    let first = choose::first_open(count, job.size, segments, passed);
+    let first = choose::first_open(count, terms.size, segments, passed);
     if first < segments {
         let blanked = part::blank_part(job, first, table);
         return blanked.job;
@@ -51,16 +52,17 @@ fn advance_forward(job: Job, table: &mut [u8], log: &mut [u32]) -> Job
     requires { ⌜ (isCoherent job ≡ true) × (length (now table) ≡ bytesFor (stackCountOf job)) × (isBlanking (job .phase) ≡ false) × (inReverse job ≡ false) ⌝ }
     ensures { λ r. ⌜ ((list : List ℕ) → storeOf r (now (table .exit)) (now (log .exit)) list ≡ advanced (storeOf job (now (table .entry)) (now (log .entry)) list)) ⌝ }
 {
-    let segments = geometry::segment_count_of(job.kind, job.n, job.size);
+    let terms = job.terms;
+    let segments = geometry::segment_count_of(terms);
     let waiting = job.waiting;
     let pending = choose::first_pending(segments, waiting);
     if pending < segments {
         let settled = part::settle_part(job, pending, table, log);
         return settled.job;
     }
-    let count = kind::stack_count(job.kind, job.n);
+    let count = kind::stack_count(terms.kind, terms.n);
     let passed = job.passed;
-    let first = choose::first_open(count, job.size, segments, passed);
+    let first = choose::first_open(count, terms.size, segments, passed);
     if first < segments {
         let expanded = part::expand_part(job, first, table, log);
         return expanded.job;
@@ -70,10 +72,11 @@ fn advance_forward(job: Job, table: &mut [u8], log: &mut [u32]) -> Job
 
 // In a reverse level, with no pair left of the loaded segment, the first one with pairs left is loaded.
 fn advance_load(job: Job, table: &[u8], list: &mut [u8]) -> Job
-    requires { ⌜ (isCoherent job ≡ true) × (length (now table) ≡ bytesFor (stackCountOf job)) × (length (now list) ≡ listBytes (stackCountAt job 0)) × (isBlanking (job .phase) ≡ false) × (inReverse job ≡ true) × ((isLoaded job && ltb (firstPair job) (segmentCountOf job)) ≡ false) ⌝ }
+    requires { ⌜ LoadFits job (now table) (now list) ⌝ }
     ensures { λ r. ⌜ ((log : List ℕ) → storeOf r (now (table .entry)) log (now (list .exit)) ≡ advanced (storeOf job (now (table .entry)) log (now (list .entry)))) ⌝ }
 {
-    let segments = geometry::segment_count_of(job.kind, job.n, job.size);
+    let terms = job.terms;
+    let segments = geometry::segment_count_of(terms);
     let swept = job.swept;
     let first = choose::first_unswept(segments, swept);
     if first < segments {
@@ -85,14 +88,15 @@ fn advance_load(job: Job, table: &[u8], list: &mut [u8]) -> Job
 
 // In a reverse level a segment is swept against the loaded one.
 fn advance_reverse(job: Job, table: &mut [u8], list: &mut [u8]) -> Job
-    requires { ⌜ (isCoherent job ≡ true) × (length (now table) ≡ bytesFor (stackCountOf job)) × (length (now list) ≡ listBytes (stackCountAt job 0)) × (isBlanking (job .phase) ≡ false) × (inReverse job ≡ true) ⌝ }
+    requires { ⌜ ReverseFits job (now table) (now list) ⌝ }
     ensures { λ r. ⌜ ((log : List ℕ) → storeOf r (now (table .exit)) log (now (list .exit)) ≡ advanced (storeOf job (now (table .entry)) log (now (list .entry)))) ⌝ }
 {
     let loaded = job.loaded;
     if loaded == NO_SEGMENT {
         return advance_load(job, table, list);
     }
-    let segments = geometry::segment_count_of(job.kind, job.n, job.size);
+    let terms = job.terms;
+    let segments = geometry::segment_count_of(terms);
     let swept = job.swept;
     let pair = choose::first_pair(segments, swept[loaded as usize]);
     if pair < segments {
@@ -104,7 +108,7 @@ fn advance_reverse(job: Job, table: &mut [u8], list: &mut [u8]) -> Job
 
 // The call that comes next, by the phase and the way; with nothing left to do there the phase is closed.
 pub(crate) fn advance(job: Job, table: &mut [u8], log: &mut [u32], list: &mut [u8]) -> Job
-    requires { ⌜ (isCoherent job ≡ true) × (length (now table) ≡ bytesFor (stackCountOf job)) × (length (now list) ≡ listBytes (stackCountAt job 0)) ⌝ }
+    requires { ⌜ StepFits job (now table) (now list) ⌝ }
     ensures { λ r. ⌜ storeOf r (now (table .exit)) (now (log .exit)) (now (list .exit)) ≡ advanced (storeOf job (now (table .entry)) (now (log .entry)) (now (list .entry))) ⌝ }
 {
     let phase = job.phase;

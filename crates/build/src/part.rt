@@ -5,9 +5,9 @@ ghost use Prim.Native.Nat.{_+_, _*_, _/_, _≤_, _<_};
 ghost use lib.ListN.{length};
 ghost use Rattle.search.specs.Changed.{listBytes};
 ghost use Rattle.search.specs.Entries.{bytesFor};
-ghost use Rattle.stacks.specs.Stack.{isPaneCount, stackCount};
 ghost use Rattle.search.specs.JobState.{isCoherent, segmentCountOf, stackCountAt, stackCountOf};
-ghost use Rattle.search.specs.Segments.{segmentLimit, mostSize, stackCountIn};
+ghost use Rattle.search.specs.Segments.{segmentLimit, mostSize};
+ghost use Rattle.search.specs.Terms.{m, beginRefusal};
 ghost use Rattle.build.specs.Part.{blankedIn, settledIn, expandedIn, loadedIn, sweptIn};
 use calls::blank;
 use calls::load;
@@ -16,6 +16,7 @@ use job::geometry;
 use search::Answer;
 use search::Expanded;
 use search::Job;
+use search::Terms;
 use twobit::list;
 use twobit::segment;
 
@@ -28,30 +29,31 @@ fn part_start(size: u32, j: u32) -> usize
 }
 
 // Where it ends.
-fn part_end(kind: u8, n: u8, size: u32, j: u32) -> usize
-    requires { ⌜ (isPaneCount kind n ≡ true) × (size ≤ mostSize) × (j ≤ segmentLimit) ⌝ }
-    ensures { λ r. ⌜ r ≡ j * (size / 4) + bytesFor (stackCountIn (stackCount kind n) size j) ⌝ }
+fn part_end(terms: Terms, j: u32) -> usize
+    requires { ⌜ (beginRefusal terms ≡ 0) × (j ≤ segmentLimit) ⌝ }
+    ensures { λ r. ⌜ r ≡ j * (terms .size / 4) + bytesFor (m terms j) ⌝ }
 {
-    let start = part_start(size, j);
-    let m = geometry::stack_count_at(kind, n, size, j);
-    start + (segment::bytes_for(m) as usize)
+    let start = part_start(terms.size, j);
+    let stacks = geometry::stack_count_at(terms, j);
+    start + (segment::bytes_for(stacks) as usize)
 }
 
 // Where the changed list of segment b ends.
-fn list_end(kind: u8, n: u8, size: u32, b: u32) -> usize
-    requires { ⌜ isPaneCount kind n ≡ true ⌝ }
-    ensures { λ r. ⌜ r ≡ listBytes (stackCountIn (stackCount kind n) size b) ⌝ }
+fn list_end(terms: Terms, b: u32) -> usize
+    requires { ⌜ beginRefusal terms ≡ 0 ⌝ }
+    ensures { λ r. ⌜ r ≡ listBytes (m terms b) ⌝ }
 {
-    let m = geometry::stack_count_at(kind, n, size, b);
-    list::list_bytes(m) as usize
+    let stacks = geometry::stack_count_at(terms, b);
+    list::list_bytes(stacks) as usize
 }
 
 pub(crate) fn blank_part(job: Job, j: u32, table: &mut [u8]) -> Answer
     requires { ⌜ (isCoherent job ≡ true) × (j < segmentCountOf job) × (length (now table) ≡ bytesFor (stackCountOf job)) ⌝ }
     ensures { λ r. ⌜ (now (table .exit), r) ≡ blankedIn job j (now (table .entry)) ⌝ }
 {
-    let start = part_start(job.size, j);
-    let end = part_end(job.kind, job.n, job.size, j);
+    let terms = job.terms;
+    let start = part_start(terms.size, j);
+    let end = part_end(terms, j);
     blank::blank(job, j, &mut table[start..end])
 }
 
@@ -59,8 +61,9 @@ pub(crate) fn settle_part(job: Job, j: u32, table: &mut [u8], log: &[u32]) -> An
     requires { ⌜ (isCoherent job ≡ true) × (j < segmentCountOf job) × (length (now table) ≡ bytesFor (stackCountOf job)) ⌝ }
     ensures { λ r. ⌜ (now (table .exit), r) ≡ settledIn job j (now (table .entry)) (now (log .entry)) ⌝ }
 {
-    let start = part_start(job.size, j);
-    let end = part_end(job.kind, job.n, job.size, j);
+    let terms = job.terms;
+    let start = part_start(terms.size, j);
+    let end = part_end(terms, j);
     settle::settle(job, j, &mut table[start..end], log)
 }
 
@@ -68,8 +71,9 @@ pub(crate) fn expand_part(job: Job, j: u32, table: &mut [u8], log: &mut [u32]) -
     requires { ⌜ (isCoherent job ≡ true) × (j < segmentCountOf job) × (length (now table) ≡ bytesFor (stackCountOf job)) ⌝ }
     ensures { λ r. ⌜ (now (table .exit), now (log .exit), r) ≡ expandedIn job j (now (table .entry)) (now (log .entry)) ⌝ }
 {
-    let start = part_start(job.size, j);
-    let end = part_end(job.kind, job.n, job.size, j);
+    let terms = job.terms;
+    let start = part_start(terms.size, j);
+    let end = part_end(terms, j);
     expand::expand::expand(job, j, &mut table[start..end], log)
 }
 
@@ -77,9 +81,10 @@ pub(crate) fn load_part(job: Job, b: u32, table: &[u8], list: &mut [u8]) -> Answ
     requires { ⌜ (isCoherent job ≡ true) × (b < segmentCountOf job) × (length (now table) ≡ bytesFor (stackCountOf job)) × (length (now list) ≡ listBytes (stackCountAt job 0)) ⌝ }
     ensures { λ r. ⌜ (now (list .exit), r) ≡ loadedIn job b (now (table .entry)) (now (list .entry)) ⌝ }
 {
-    let start = part_start(job.size, b);
-    let end = part_end(job.kind, job.n, job.size, b);
-    let front = list_end(job.kind, job.n, job.size, b);
+    let terms = job.terms;
+    let start = part_start(terms.size, b);
+    let end = part_end(terms, b);
+    let front = list_end(terms, b);
     load::load(job, b, &table[start..end], &mut list[..front])
 }
 
@@ -88,8 +93,9 @@ pub(crate) fn sweep_part(job: Job, j: u32, table: &mut [u8], list: &[u8]) -> Ans
     requires { ⌜ (isCoherent job ≡ true) × (j < segmentCountOf job) × (length (now table) ≡ bytesFor (stackCountOf job)) × (length (now list) ≡ listBytes (stackCountAt job 0)) ⌝ }
     ensures { λ r. ⌜ (now (table .exit), r) ≡ sweptIn job j (now (table .entry)) (now (list .entry)) ⌝ }
 {
-    let start = part_start(job.size, j);
-    let end = part_end(job.kind, job.n, job.size, j);
-    let front = list_end(job.kind, job.n, job.size, job.loaded as u32);
+    let terms = job.terms;
+    let start = part_start(terms.size, j);
+    let end = part_end(terms, j);
+    let front = list_end(terms, job.loaded as u32);
     sweep::sweep::sweep(job, j, &mut table[start..end], &list[..front])
 }

@@ -1,18 +1,17 @@
 // The way that the driver tells Close: reverse where few stacks are unseen.
-ghost use mathlib.Core.Bool.{true};
 ghost use mathlib.Core.Path.{_≡_};
 ghost use Prim.Native.Nat.{_-_};
 ghost use lib.ListN.{length};
 ghost use Rattle.base.specs.Words.{total};
 ghost use Rattle.build.specs.Way.{wayBy};
 ghost use Rattle.search.specs.JobState.{countPlaces};
-ghost use Rattle.search.specs.Segments.{isSegmentSize};
-ghost use Rattle.stacks.specs.Stack.{isPaneCount, stackCount};
+ghost use Rattle.search.specs.Terms.{beginRefusal};
 use job::geometry;
 use job::phase;
 use perm::kind;
 use search::COUNT_PLACES;
 use search::Phase;
+use search::Terms;
 use search::Way;
 
 // What is left of a number when a count is taken off.
@@ -40,19 +39,13 @@ fn unseen_of(stacks: u32, counts: &[u64; COUNT_PLACES]) -> u64
 }
 
 // An unseen stack is tried once for each segment that is loaded, a stack of the level that closes is expanded once.
-pub(crate) fn way_after(
-    kind: u8,
-    n: u8,
-    size: u32,
-    phase: Phase,
-    counts: &[u64; COUNT_PLACES],
-) -> Way
-    requires { ⌜ (isPaneCount kind n ≡ true) × (isSegmentSize (stackCount kind n) size ≡ true) × (length (now counts) ≡ countPlaces) ⌝ }
-    ensures { λ r. ⌜ r ≡ wayBy kind n size phase (now (counts .entry)) ⌝ }
+pub(crate) fn way_after(terms: Terms, phase: Phase, counts: &[u64; COUNT_PLACES]) -> Way
+    requires { ⌜ (beginRefusal terms ≡ 0) × (length (now counts) ≡ countPlaces) ⌝ }
+    ensures { λ r. ⌜ r ≡ wayBy terms phase (now (counts .entry)) ⌝ }
 {
-    let stacks = kind::stack_count(kind, n);
+    let stacks = kind::stack_count(terms.kind, terms.n);
     let unseen = unseen_of(stacks, counts);
-    let segments = geometry::segment_count_of(kind, n, size);
+    let segments = geometry::segment_count_of(terms);
     let level = phase::level_of(phase);
     if unseen * (segments as u64) <= counts[level as usize] {
         return Way::Reverse;

@@ -57,7 +57,7 @@ module _ (job : Job) (j : ℕ) (segment log : List ℕ) (accepted : settleRefusa
     offsets-long =
         let f = settle-given in
         ap length e
-        ∙ log-length (job .room) j (waitingOf job j) log (rw (f .wide) (part-within job (f .called .coherent) j (f .called .inside)))
+        ∙ log-length (job .terms .room) j (waitingOf job j) log (rw (f .wide) (part-within job (f .called .coherent) j (f .called .inside)))
 
     offset-fits : (k : ℕ) → k < length offsets → getD offsets k 0 < stackCountAt job j
     offset-fits k h =
@@ -65,17 +65,17 @@ module _ (job : Job) (j : ℕ) (segment log : List ℕ) (accepted : settleRefusa
         (all-at (λ i. ltb i (stackCountAt job j)) offsets k 0 (rw e (settle-facts job j (length segment) log accepted .1)) h)
 
     -- what marking at the offsets asks for
-    pub offsets-fit : (label : ℕ) (found : Found) (d : ℕ) → label < 3 → found .count ≡ countOf job d → OffsetsFit (job .size) j label offsets found segment
+    pub offsets-fit : (label : ℕ) (found : Found) (d : ℕ) → label < 3 → found .count ≡ countOf job d → OffsetsFit (job .terms .size) j label offsets found segment
     unfolding countLimit stackCountAt stackCountOf segmentCountOf
     offsets-fit label found d below counted =
         let f = settle-given in
         let N = stackCountOf job in
-        let all : N < 2 ^ 32 = count-fits (job .kind) (job .n) (bounds .is-pane-count) in
+        let all : N < 2 ^ 32 = count-fits (job .terms .kind) (job .terms .n) (bounds .is-pane-count) in
         record {
           below = below;
-          starts = omega (arith, segment-starts N (job .size) (bounds .some) j (f .called .inside));
-          small = λ k h. omega (arith, segment-stack N (job .size) (bounds .some) j (getD offsets k 0) (offset-fits k h));
-          own = λ k h. omega (arith, offset-fits k h, stackCountIn-le N (job .size) (bounds .some) j);
+          starts = omega (arith, segment-starts N (job .terms .size) (bounds .some) j (f .called .inside));
+          small = λ k h. omega (arith, segment-stack N (job .terms .size) (bounds .some) j (getD offsets k 0) (offset-fits k h));
+          own = λ k h. omega (arith, offset-fits k h, stackCountIn-le N (job .terms .size) (bounds .some) j);
           inside = λ k h. rw (f .long) (byte-inside (getD offsets k 0) (stackCountAt job j) (offset-fits k h));
           few = omega (
             arith,
@@ -89,11 +89,11 @@ module _ (job : Job) (j : ℕ) (segment log : List ℕ) (accepted : settleRefusa
     -- what the code leaves is what the definition says
     pub settled-is : (level label : ℕ) (found marked : Found) (after : List ℕ) (next : Job) → level ≡ levelOf (job .phase)
         → label ≡ nextEntry ((level - 1) % 3) → found .count ≡ countOf job level
-        → marksOf after marked ≡ markAll (job .size) label (indexesOf (job .size) j offsets) (marksOf segment found)
+        → marksOf after marked ≡ markAll (job .terms .size) label (indexesOf (job .terms .size) j offsets) (marksOf segment found)
         → next ≡ markedJob job (job .passed) (set (job .waiting) j 0) (marksOf [] marked)
         → _≡_ {A = List ℕ × Answer} (after, record { refusal = 0; job = next }) (settleOf job j segment log)
     settled-is level label found marked after next l v c m n =
-        let S = job .size in
+        let S = job .terms .size in
         let stacks = indexesOf S j offsets in
         let start : ℕ → Marks = λ d. record { segment = segment; count = countOf job d } in
         let marks : marksOf after marked ≡ markAll S (levelOf (job .phase)) (indexesOf S j (pending job j log)) (start (levelOf (job .phase))) =

@@ -1,30 +1,27 @@
 -- What the helpers of Blank, Settle and Load ask of what they are given, and what they leave, by the fields that each takes.
 use mathlib.Core.Path.{_≡_}
-use mathlib.Core.Bool.{true, cond}
+use mathlib.Core.Bool.{cond}
 use mathlib.Core.List.{List}
 use Prim.Native.Nat.{ℕ, _+_, _*_, _/_, _%_, _^_, _<_, _≤_}
 use lib.Dec.{eqb}
-use lib.IntN.{ℤ}
 use lib.ListN.{length, getD}
 use Rattle.stacks.specs.Index.{rankOf}
-use Rattle.stacks.specs.Stack.{isPaneCount, isStack, stackCount}
 use Rattle.search.specs.Changed.{listBytes}
 use Rattle.search.specs.Entries.{bytesFor, blank, setEntry}
-use Rattle.search.specs.Segments.{mostSize, stackCountIn}
+use Rattle.search.specs.Segments.{mostSize}
+use Rattle.search.specs.Terms.{m, beginRefusal}
+use Rattle.search.specs.declared.Terms.{Terms}
 use Rattle.twobit.specs.declared.marking.Found.{Found}
 
--- blanked of a job with these fields
-abbrev pub blankedBy : ℕ → ℕ → List ℤ → ℕ → ℕ → List ℕ
-blankedBy kind n wanted S j =
-    let goal = rankOf kind n wanted in
-    let m = stackCountIn (stackCount kind n) S j in
-    cond (eqb (goal / S) j) (setEntry (blank m) (goal % S) 0) (blank m)
+-- blanked of a job with these terms
+abbrev pub blankedBy : Terms → ℕ → List ℕ
+blankedBy terms j =
+    let goal = rankOf (terms .kind) (terms .n) (terms .wanted) in
+    cond (eqb (goal / terms .size) j) (setEntry (blank (m terms j)) (goal % terms .size) 0) (blank (m terms j))
 
-pub record BlankFits (kind n : ℕ) (wanted : List ℤ) (S j : ℕ) (segment : List ℕ) : Type 0 where
-  pub in-range : isPaneCount kind n ≡ true
-  pub goal : isStack kind n wanted ≡ true
-  pub some : 0 < S
-  pub long : length segment ≡ bytesFor (stackCountIn (stackCount kind n) S j)
+pub record BlankFits (terms : Terms) (j : ℕ) (segment : List ℕ) : Type 0 where
+  pub begins : beginRefusal terms ≡ 0
+  pub long : length segment ≡ bytesFor (m terms j)
 
 -- what marking at the offsets of a list asks for: a label, stacks of segment j whose indexes fit 32 bits and whose entries stand in the
 -- segment, and a count that stays within 64 bits

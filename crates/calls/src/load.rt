@@ -9,6 +9,7 @@ ghost use Rattle.calls.specs.Lent.{ListFits};
 ghost use Rattle.search.specs.Changed.{byteOf, listOf};
 ghost use Rattle.search.specs.Entries.{bytesFor, entryAt};
 ghost use Rattle.search.specs.Load.{loadRefusal, loadOf};
+use job::coherence;
 use job::geometry;
 use job::phase;
 use job::refusals;
@@ -30,7 +31,8 @@ fn load_refusal(standing: Standing, b: u32, bytes: usize, listed: usize) -> u8
     if refusal != 0 {
         return refusal;
     }
-    let stacks = geometry::stack_count_at(standing.kind, standing.n, standing.size, b);
+    let terms = standing.terms;
+    let stacks = geometry::stack_count_at(terms, b);
     let length = list::list_bytes(stacks) as usize;
     if listed != length {
         return 10;
@@ -81,30 +83,26 @@ pub fn load(job: Job, b: u32, segment: &[u8], list: &mut [u8]) -> Answer
     ensures { λ r. ⌜ (now (list .exit), r) ≡ loadOf job b (now (segment .entry)) (now (list .entry)) ⌝ }
 {
     let mut next = job;
-    let wanted = job.wanted;
+    let terms = job.terms;
     let phase = job.phase;
     let way = job.way;
+    let fits = coherence::counts_fit(&next.counts);
     let standing = standing::standing_of(
-        job.kind,
-        job.n,
-        wanted,
-        job.groups,
-        job.size,
-        job.room,
+        terms,
         phase,
         way,
         job.loaded,
         &next.passed,
         &next.waiting,
         &next.swept,
-        &next.counts,
+        fits,
         b,
     );
     let refusal = load_refusal(standing, b, segment.len(), list.len());
     if refusal != 0 {
         return Answer { refusal, job: next };
     }
-    let stacks = geometry::stack_count_at(job.kind, job.n, job.size, b);
+    let stacks = geometry::stack_count_at(terms, b);
     let from = (phase::level_of(phase) - 1) % 3;
     fill_list(segment, stacks, from, list);
     next.loaded = b as u8;

@@ -6,6 +6,7 @@ ghost use Rattle.job.specs.Standing.{Stands, Tells};
 ghost use Rattle.search.specs.Look.{lookRefusal, lookOf};
 ghost use Rattle.search.specs.Logs.{logPart};
 ghost use Rattle.search.specs.Segments.{segmentLimit, mostRoom};
+use job::coherence;
 use job::geometry;
 use job::refusals;
 use job::standing;
@@ -20,7 +21,8 @@ fn look_refusal(standing: Standing, j: u32, words: usize) -> u8
     if refusal != 0 {
         return refusal;
     }
-    let area = geometry::log_length(standing.kind, standing.n, standing.size, standing.room);
+    let terms = standing.terms;
+    let area = geometry::log_length(terms);
     if words != area {
         return 10;
     }
@@ -41,23 +43,19 @@ pub(crate) fn waiting_part<'a>(room: u32, j: u32, waiting: u32, log: &'a [u32]) 
 pub fn look<'a, 'b>(job: Job, j: u32, log: &'a [u32], number: &'b mut u8) -> &'a [u32]
     ensures { λ r. ⌜ (now r, now (number .exit)) ≡ lookOf job j (now (log .entry)) ⌝ }
 {
-    let wanted = job.wanted;
+    let terms = job.terms;
     let phase = job.phase;
     let way = job.way;
+    let fits = coherence::counts_fit(&job.counts);
     let standing = standing::standing_of(
-        job.kind,
-        job.n,
-        wanted,
-        job.groups,
-        job.size,
-        job.room,
+        terms,
         phase,
         way,
         job.loaded,
         &job.passed,
         &job.waiting,
         &job.swept,
-        &job.counts,
+        fits,
         j,
     );
     let refusal = look_refusal(standing, j, log.len());
@@ -65,5 +63,5 @@ pub fn look<'a, 'b>(job: Job, j: u32, log: &'a [u32], number: &'b mut u8) -> &'a
     if refusal != 0 {
         return &log[..0];
     }
-    waiting_part(standing.room, j, standing.waiting, log)
+    waiting_part(terms.room, j, standing.waiting, log)
 }

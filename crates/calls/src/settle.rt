@@ -9,6 +9,7 @@ ghost use Rattle.search.specs.Marks.{markAll};
 ghost use Rattle.search.specs.Settle.{settleRefusal, settleOf};
 ghost use Rattle.twobit.specs.Mark.{marksOf};
 use crate::look;
+use job::coherence;
 use job::geometry;
 use job::phase;
 use job::refusals;
@@ -41,9 +42,10 @@ fn settle_refusal(standing: Standing, j: u32, bytes: usize, log: &[u32]) -> u8
     if refusal != 0 {
         return refusal;
     }
-    let stacks = geometry::stack_count_at(standing.kind, standing.n, standing.size, j);
+    let terms = standing.terms;
+    let stacks = geometry::stack_count_at(terms, j);
     if !offsets_fit(
-        look::waiting_part(standing.room, j, standing.waiting, log),
+        look::waiting_part(terms.room, j, standing.waiting, log),
         stacks,
     ) {
         return 12;
@@ -79,23 +81,19 @@ pub fn settle(job: Job, j: u32, segment: &mut [u8], log: &[u32]) -> Answer
     ensures { λ r. ⌜ (now (segment .exit), r) ≡ settleOf job j (now (segment .entry)) (now (log .entry)) ⌝ }
 {
     let mut next = job;
-    let wanted = job.wanted;
+    let terms = job.terms;
     let phase = job.phase;
     let way = job.way;
+    let fits = coherence::counts_fit(&next.counts);
     let standing = standing::standing_of(
-        job.kind,
-        job.n,
-        wanted,
-        job.groups,
-        job.size,
-        job.room,
+        terms,
         phase,
         way,
         job.loaded,
         &next.passed,
         &next.waiting,
         &next.swept,
-        &next.counts,
+        fits,
         j,
     );
     let refusal = settle_refusal(standing, j, segment.len(), log);
@@ -104,10 +102,10 @@ pub fn settle(job: Job, j: u32, segment: &mut [u8], log: &[u32]) -> Answer
     }
     let level = phase::level_of(phase);
     let label = entry::next_entry((level - 1) % 3);
-    let offsets = look::waiting_part(standing.room, j, standing.waiting, log);
+    let offsets = look::waiting_part(terms.room, j, standing.waiting, log);
     let count = next.counts[level as usize];
     let found = Found { count };
-    let marked = mark_all(segment, job.size, j, offsets, label, found);
+    let marked = mark_all(segment, terms.size, j, offsets, label, found);
     next.waiting[j as usize] = 0;
     next.counts[level as usize] = marked.count;
     Answer {

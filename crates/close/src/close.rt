@@ -3,13 +3,14 @@ ghost use mathlib.Core.Bool.{true, false, _&&_, cond};
 ghost use mathlib.Core.Path.{_≡_};
 ghost use Prim.Native.Nat.{_+_, _-_, _≤_};
 ghost use lib.Dec.{eqb};
-ghost use lib.ListN.{length, getD, replicate};
-ghost use Rattle.job.specs.Standing.{jobWith};
+ghost use lib.ListN.{getD, replicate};
+ghost use Rattle.job.specs.Standing.{Has};
 ghost use Rattle.close.specs.Ready.{doneBy, rowWhole, sweptBy, readyBy, pastLast};
-ghost use Rattle.stacks.specs.Stack.{isPaneCount, stackCount};
 ghost use Rattle.search.specs.Close.{closeRefusal, nextPhase, nextCounts, closeOf};
-ghost use Rattle.search.specs.JobState.{countPlaces, lastLevel, noSegment, levelOf, phaseFits, progressed, directed};
-ghost use Rattle.search.specs.Segments.{segmentLimit, stackCountIn, isSegmentSize};
+ghost use Rattle.search.specs.JobState.{lastLevel, countOf, noSegment, levelOf, phaseFits, progressed, directed};
+ghost use Rattle.search.specs.Segments.{segmentLimit, stackCountIn};
+ghost use Rattle.search.specs.Terms.{N, beginRefusal};
+ghost use Rattle.search.specs.declared.Job.{Job};
 ghost use Rattle.search.specs.declared.Phase.the-variants.{Level, Finished};
 use job::coherence;
 use job::geometry;
@@ -22,8 +23,8 @@ use search::LAST_LEVEL;
 use search::NO_SEGMENT;
 use search::Phase;
 use search::SEGMENT_LIMIT;
+use search::Terms;
 use search::Way;
-use stacks::PLACES;
 use twobit::segment;
 
 // Segment j has all its stacks passed and no entry waiting.
@@ -38,16 +39,15 @@ fn is_done(count: u32, size: u32, j: u32, passed: u32, waiting: u32) -> bool
 
 // Each segment is done.
 fn are_done<'a>(
-    kind: u8,
-    n: u8,
-    size: u32,
+    terms: Terms,
     passed: &'a [u32; SEGMENT_LIMIT],
     waiting: &'a [u32; SEGMENT_LIMIT],
 ) -> bool
-    requires { ⌜ (isPaneCount kind n ≡ true) × (isSegmentSize (stackCount kind n) size ≡ true) ⌝ }
-    ensures { λ r. ⌜ r ≡ doneBy (stackCount kind n) size (now (passed .entry)) (now (waiting .entry)) ⌝ }
+    requires { ⌜ beginRefusal terms ≡ 0 ⌝ }
+    ensures { λ r. ⌜ r ≡ doneBy (N terms) (terms .size) (now (passed .entry)) (now (waiting .entry)) ⌝ }
 {
-    let count = kind::stack_count(kind, n);
+    let size = terms.size;
+    let count = kind::stack_count(terms.kind, terms.n);
     let segments = segment::segment_count(count, size);
     let mut j: u32 = 0;
     while j < segments {
@@ -91,77 +91,58 @@ fn are_swept(segments: u32, swept: &[u64; SEGMENT_LIMIT]) -> bool
 
 // In a reverse level the pairs alone are asked for.
 fn is_ready<'a>(
-    kind: u8,
-    n: u8,
-    size: u32,
+    terms: Terms,
     reverse: bool,
     passed: &'a [u32; SEGMENT_LIMIT],
     waiting: &'a [u32; SEGMENT_LIMIT],
     swept: &'a [u64; SEGMENT_LIMIT],
 ) -> bool
-    requires { ⌜ (isPaneCount kind n ≡ true) × (isSegmentSize (stackCount kind n) size ≡ true) ⌝ }
-    ensures { λ r. ⌜ r ≡ readyBy reverse (stackCount kind n) size (now (passed .entry)) (now (waiting .entry)) (now (swept .entry)) ⌝ }
+    requires { ⌜ beginRefusal terms ≡ 0 ⌝ }
+    ensures { λ r. ⌜ r ≡ readyBy reverse (N terms) (terms .size) (now (passed .entry)) (now (waiting .entry)) (now (swept .entry)) ⌝ }
 {
     if reverse {
-        let segments = geometry::segment_count_of(kind, n, size);
+        let segments = geometry::segment_count_of(terms);
         return are_swept(segments, swept);
     }
-    are_done(kind, n, size, passed, waiting)
+    are_done(terms, passed, waiting)
 }
 
-// The last level is searched, and brought stacks: no level can follow it.
-fn is_past_last(phase: Phase, counts: &[u64; COUNT_PLACES]) -> bool
-    ensures { λ r. ⌜ r ≡ pastLast (levelOf phase) (getD (now (counts .entry)) lastLevel 0) ⌝ }
+// The last level is searched, and brought so many stacks: no level can follow it.
+fn is_past_last(phase: Phase, last: u64) -> bool
+    ensures { λ r. ⌜ r ≡ pastLast (levelOf phase) last ⌝ }
 {
     if phase::level_of(phase) != LAST_LEVEL {
         return false;
     }
-    counts[LAST_LEVEL as usize] != 0
+    last != 0
 }
 
-// Close's refusals of the job with these fields. Its arrays are lent, so that the job is not copied.
+// Close's refusals of a job with these fields; fits says whether its counts fit, and last is the last level's. Its arrays are lent, so that the
+// job is not copied.
 pub fn close_refusal<'a>(
-    kind: u8,
-    n: u8,
-    wanted: [i8; PLACES],
-    groups: u32,
-    size: u32,
-    room: u32,
+    terms: Terms,
     phase: Phase,
     way: Way,
     loaded: u8,
     passed: &'a [u32; SEGMENT_LIMIT],
     waiting: &'a [u32; SEGMENT_LIMIT],
     swept: &'a [u64; SEGMENT_LIMIT],
-    counts: &'a [u64; COUNT_PLACES],
+    fits: bool,
+    last: u64,
 ) -> u8
-    requires { ⌜ length (now counts) ≡ countPlaces ⌝ }
-    ensures { λ r. ⌜ r ≡ closeRefusal (jobWith kind n wanted groups size room phase way loaded (now (passed .entry)) (now (waiting .entry)) (now (swept .entry)) (now (counts .entry))) ⌝ }
+    ensures { λ r. ⌜ ((job : Job) → Has job terms phase loaded (now (passed .entry)) (now (waiting .entry)) (now (swept .entry)) fits → job .way ≡ way → countOf job lastLevel ≡ last → r ≡ closeRefusal job) ⌝ }
 {
-    if !coherence::is_coherent(
-        kind,
-        n,
-        wanted,
-        groups,
-        size,
-        room,
-        phase,
-        loaded,
-        passed,
-        waiting,
-        swept,
-        counts,
-    ) {
+    if !coherence::is_coherent(terms, phase, loaded, passed, waiting, swept, fits) {
         return 7;
     }
     if phase::is_finished(phase) {
         return 8;
     }
     let reverse = phase::in_reverse(phase, way);
-    if !is_ready(kind, n, size, reverse, passed, waiting, swept) {
+    if !is_ready(terms, reverse, passed, waiting, swept) {
         return 13;
     }
-    if is_past_last(phase, counts) {
+    if is_past_last(phase, last) {
         return 14;
     }
     0
@@ -202,16 +183,11 @@ fn next_counts(phase: Phase, counts: &mut [u64; COUNT_PLACES])
 fn with_phase(job: Job, phase: Phase, way: Way) -> Job
     ensures { λ r. ⌜ r ≡ directed (progressed job phase (replicate segmentLimit 0) (job .waiting) (job .counts)) way noSegment (replicate segmentLimit 0) ⌝ }
 {
-    let wanted = job.wanted;
+    let terms = job.terms;
     let waiting = job.waiting;
     let counts = job.counts;
     Job {
-        kind: job.kind,
-        n: job.n,
-        wanted,
-        groups: job.groups,
-        size: job.size,
-        room: job.room,
+        terms,
         phase,
         way,
         loaded: NO_SEGMENT,
@@ -227,23 +203,21 @@ pub fn close(job: Job, way: Way) -> Answer
     ensures { λ r. ⌜ r ≡ closeOf job way ⌝ }
 {
     let mut next = job;
-    let wanted = job.wanted;
+    let terms = job.terms;
     let phase = job.phase;
     let searched = job.way;
+    let last = next.counts[LAST_LEVEL as usize];
+    let fits = coherence::counts_fit(&next.counts);
     let refusal = close_refusal(
-        job.kind,
-        job.n,
-        wanted,
-        job.groups,
-        job.size,
-        job.room,
+        terms,
         phase,
         searched,
         job.loaded,
         &next.passed,
         &next.waiting,
         &next.swept,
-        &next.counts,
+        fits,
+        last,
     );
     if refusal != 0 {
         return Answer { refusal, job: next };

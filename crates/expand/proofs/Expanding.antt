@@ -12,16 +12,17 @@ use borrow.Author.Tests.{lt-ltb, le-ltb}
 use Rattle.base.specs.Words.{unless, firstFrom}
 use Rattle.base.proofs.Tests.{lt-or-ge}
 use Rattle.job.proofs.Rows.{level-refuses, level-goes-on}
-use Rattle.stacks.specs.Stack.{stackCount}
 use Rattle.stacks.specs.Turn.{turnsIn}
 use Rattle.search.specs.Entries.{entryAt, nextEntry}
 use Rattle.search.specs.Expand.{Expansion, isParent, expandRefusal, childrenOf, placeChild, placeAll, passOne, waitFor, expandStack, expandNext, expandRun, expansion, expandedJob, expandOf}
 use Rattle.search.specs.JobState.{isCoherent, levelOf, stackCountOf, segmentCountOf, stackCountAt, logLength, movesOf, passedOf, waitingOf, countOf}
 use Rattle.search.specs.Refusals.{levelRefusal}
-use Rattle.search.specs.Segments.{segmentLimit, segmentCount, stackCountIn}
+use Rattle.search.specs.Segments.{segmentLimit}
 use Rattle.search.specs.Logs.{lacksRoom}
+use Rattle.search.specs.Terms.{G, m}
 use Rattle.search.specs.declared.Expanded.{Expanded}
 use Rattle.search.specs.declared.Job.{Job}
+use Rattle.search.specs.declared.Terms.{Terms}
 use Rattle.search.proofs.Accepted.{LevelFacts, expand-facts, expand-accepted}
 use Rattle.search.proofs.Coherence.{begin-given, coherent-facts}
 use Rattle.search.proofs.EntryLaws.{next-level}
@@ -55,23 +56,23 @@ module _ (job : Job) (j bytes logs : ℕ) {r : ℕ} (e : r ≡ levelRefusal job 
         ∙ level-goes-on job j bytes logs rest r e none
 
 -- ---- the scan, as the code fills it
-pub scan-is : (kind n groups S C level j : ℕ) {segments turns mark : ℕ} → segments ≡ segmentCount (stackCount kind n) S → turns ≡ length (turnsIn kind n groups)
-    → 1 ≤ level → mark ≡ nextEntry ((level - 1) % 3)
+pub scan-is : (terms : Terms) (level j : ℕ) {segments turns mark : ℕ} → segments ≡ G terms
+    → turns ≡ length (turnsIn (terms .kind) (terms .n) (terms .groups)) → 1 ≤ level → mark ≡ nextEntry ((level - 1) % 3)
     → _≡_ {A = Scan} (record {
-      kind = kind;
-      n = n;
-      groups = groups;
-      size = S;
-      room = C;
+      kind = terms .kind;
+      n = terms .n;
+      groups = terms .groups;
+      size = terms .size;
+      room = terms .room;
       segments = segments;
       turns = turns;
       j = j;
       level = level;
       from = (level - 1) % 3;
       mark = mark;
-    }) (scanFor kind n groups S C level j)
+    }) (scanFor terms level j)
 unfolding scanFor
-scan-is kind n groups S C level j a b some e = rw (a, b, e ∙ next-level level some)
+scan-is terms level j a b some e = rw (a, b, e ∙ next-level level some)
 
 -- what a level of the job has found
 abbrev foundAt : Job → ℕ → Found
@@ -88,8 +89,8 @@ module _ (job : Job) (j : ℕ) where
   next-same : (e : Expansion) → expandNext (scanJob (scanOf job j)) j e ≡ expandNext job j e
   unfolding isParent expandNext expandStack passOne waitFor scanJob scanFor levelOf segmentCountOf stackCountOf
   next-same e =
-      let children = childrenOf (job .kind) (job .n) (movesOf job) (j * job .size + e .at) in
-      let t = firstFrom (lacksRoom (job .size) (job .room) j (e .logs .waiting) children) 0 (segmentCountOf job) in
+      let children = childrenOf (job .terms .kind) (job .terms .n) (movesOf job) (j * job .terms .size + e .at) in
+      let t = firstFrom (lacksRoom (job .terms .size) (job .terms .room) j (e .logs .waiting) children) 0 (segmentCountOf job) in
       ap
       (λ (x : Expansion). cond (e .waits) e
       (cond (eqb (entryAt (e .marks .segment) (e .at)) ((levelOf (job .phase) - 1) % 3))
@@ -111,7 +112,7 @@ module _ (job : Job) (j : ℕ) where
   scan-fits : isCoherent job ≡ true → j < segmentCountOf job → ScanFits (scanOf job j)
   unfolding scanJob scanFor segmentCountOf stackCountOf levelOf
   scan-fits coherent inside =
-      let given = begin-given (job .kind) (job .n) (job .wanted) (job .groups) (job .size) (job .room) (coherent-facts job coherent .begins) in
+      let given = begin-given (coherent-facts job coherent .begins) in
       record {
         is-pane-count = given .in-range;
         set-fits = given .of-set;
@@ -124,15 +125,15 @@ module _ (job : Job) (j : ℕ) where
         mark-is = refl;
       }
 
-  waiting-most : isCoherent job ≡ true → length (job .waiting) ≡ segmentLimit → (t : ℕ) → getD (job .waiting) t 0 ≤ job .room
+  waiting-most : isCoherent job ≡ true → length (job .waiting) ≡ segmentLimit → (t : ℕ) → getD (job .waiting) t 0 ≤ job .terms .room
   unfolding waitingOf
   waiting-most coherent long t = go (lt-or-ge t segmentLimit)
     where
-      at-most : (b : Bool) → cond b (job .room) 0 ≤ job .room
+      at-most : (b : Bool) → cond b (job .terms .room) 0 ≤ job .terms .room
       at-most true = omega arith
       at-most false = omega arith
 
-      go : (t < segmentLimit) ⊎ (segmentLimit ≤ t) → getD (job .waiting) t 0 ≤ job .room
+      go : (t < segmentLimit) ⊎ (segmentLimit ≤ t) → getD (job .waiting) t 0 ≤ job .terms .room
       go (inl h) = omega (arith, coherent-facts job coherent .waiting-fits t h, at-most (ltb t (segmentCountOf job)))
       go (inr h) =
           let past : length (job .waiting) ≤ t = omega arith in
@@ -144,8 +145,8 @@ module _ (job : Job) (j : ℕ) where
 
     -- the level, the scan, m and the stacks passed as the code has them
     module _ {scan : Scan} {level stacks at : ℕ} (on-level : level ≡ levelOf (job .phase))
-        (is : scan ≡ scanFor (job .kind) (job .n) (job .groups) (job .size) (job .room) level j)
-        (all : stacks ≡ stackCountIn (stackCount (job .kind) (job .n)) (job .size) j) (passed : at ≡ passedOf job j) where
+        (is : scan ≡ scanFor (job .terms) level j)
+        (all : stacks ≡ m (job .terms) j) (passed : at ≡ passedOf job j) where
       -- what a run over the segment asks
       pub run-given : length (job .waiting) ≡ segmentLimit → RunFits scan at stacks (foundAt job level) segment log (job .waiting)
       unfolding scanJob scanFor stackCountAt stackCountOf segmentCountOf logLength levelOf passedOf countOf

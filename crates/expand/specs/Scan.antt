@@ -1,5 +1,5 @@
 -- One call of Expand as its functions speak of it.
---   scanFor      what a call on segment j copies, from the job's kind, n, set, S and C and the level; scanOf of the job
+--   scanFor      what a call on segment j copies, from what Begin was given and the level; scanOf of the job
 --   scanJob      the job that a scan stands for
 --   ScanFits     what holds of a scan
 --   running      a call that does not wait, from what it is lent and what was found, at a stack
@@ -13,31 +13,33 @@ use mathlib.Core.Bool.{true, false}
 use mathlib.Core.List.{List, [], _∷_}
 use Prim.Native.Nat.{ℕ, _+_, _-_, _*_, _%_, _^_, _<_, _≤_}
 use lib.ListN.{length, getD, take}
-use Rattle.stacks.specs.Stack.{isPaneCount, stackCount}
+use Rattle.stacks.specs.Stack.{isPaneCount}
 use Rattle.stacks.specs.Turn.{isGroupSet, turnsIn}
 use Rattle.search.specs.Entries.{bytesFor}
 use Rattle.search.specs.Expand.{Expansion, placeChild, placeAll, expandRun}
 use Rattle.search.specs.JobState.{countLimit, noSegment, levelOf, stackCountOf, stackCountAt}
 use Rattle.search.specs.Segments.{segmentLimit, segmentCount, isSegmentSize, isLogRoom}
 use Rattle.search.specs.Logs.{fallingIn}
+use Rattle.search.specs.Terms.{G}
 use Rattle.search.specs.declared.Job.{Job}
 use Rattle.search.specs.declared.Phase.the-variants.{Level}
+use Rattle.search.specs.declared.Terms.{Terms}
 use Rattle.search.specs.declared.Way.the-variants.{Forward}
 use Rattle.twobit.specs.Mark.{marksOf}
 use Rattle.twobit.specs.declared.marking.Found.{Found}
 use Rattle.expand.specs.declared.run.Reached.{Reached}
 use Rattle.expand.specs.declared.scan.Scan.{Scan}
 
-unfoldable pub scanFor : ℕ → ℕ → ℕ → ℕ → ℕ → ℕ → ℕ → Scan
-scanFor kind n groups S C d j =
+unfoldable pub scanFor : Terms → ℕ → ℕ → Scan
+scanFor terms d j =
     record {
-      kind = kind;
-      n = n;
-      groups = groups;
-      size = S;
-      room = C;
-      segments = segmentCount (stackCount kind n) S;
-      turns = length (turnsIn kind n groups);
+      kind = terms .kind;
+      n = terms .n;
+      groups = terms .groups;
+      size = terms .size;
+      room = terms .room;
+      segments = G terms;
+      turns = length (turnsIn (terms .kind) (terms .n) (terms .groups));
       j = j;
       level = d;
       from = (d - 1) % 3;
@@ -45,18 +47,13 @@ scanFor kind n groups S C d j =
     }
 
 abbrev pub scanOf : Job → ℕ → Scan
-scanOf job j = scanFor (job .kind) (job .n) (job .groups) (job .size) (job .room) (levelOf (job .phase)) j
+scanOf job j = scanFor (job .terms) (levelOf (job .phase)) j
 
 -- its other fields do not matter
 unfoldable pub scanJob : Scan → Job
 scanJob scan =
     record {
-      kind = scan .kind;
-      n = scan .n;
-      wanted = [];
-      groups = scan .groups;
-      size = scan .size;
-      room = scan .room;
+      terms = record { kind = scan .kind; n = scan .n; wanted = []; groups = scan .groups; size = scan .size; room = scan .room };
       phase = Level (scan .level);
       way = Forward;
       loaded = noSegment;

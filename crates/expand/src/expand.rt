@@ -1,15 +1,14 @@
 // Expand a segment. The job's fields are copied to a Scan and its waiting numbers are lent, so that no function that runs for a stack or a
 // child takes the job.
-ghost use mathlib.Core.Bool.{true};
 ghost use mathlib.Core.Path.{_≡_};
 ghost use Prim.Native.Nat.{_≤_};
 ghost use Rattle.job.specs.Standing.{Stands, Tells};
 ghost use Rattle.search.specs.Expand.{expandRefusal, expandOf};
-ghost use Rattle.search.specs.Segments.{isSegmentSize};
-ghost use Rattle.stacks.specs.Stack.{isPaneCount, stackCount};
+ghost use Rattle.search.specs.Terms.{beginRefusal};
 ghost use Rattle.expand.specs.Scan.{scanFor};
 use crate::run;
 use crate::scan::Scan;
+use job::coherence;
 use job::geometry;
 use job::phase;
 use job::refusals;
@@ -18,6 +17,7 @@ use job::standing::Standing;
 use perm::groups;
 use search::Expanded;
 use search::Job;
+use search::Terms;
 use twobit::entry;
 use twobit::marking::Found;
 
@@ -29,26 +29,27 @@ fn expand_refusal(standing: Standing, j: u32, bytes: usize, words: usize) -> u8
     if refusal != 0 {
         return refusal;
     }
-    let stacks = geometry::stack_count_at(standing.kind, standing.n, standing.size, j);
+    let terms = standing.terms;
+    let stacks = geometry::stack_count_at(terms, j);
     if stacks <= standing.passed {
         return 11;
     }
     0
 }
 
-fn scan_of(kind: u8, n: u8, groups: u32, size: u32, room: u32, level: u8, j: u32) -> Scan
-    requires { ⌜ (isPaneCount kind n ≡ true) × (isSegmentSize (stackCount kind n) size ≡ true) × (1 ≤ level) ⌝ }
-    ensures { λ r. ⌜ r ≡ scanFor kind n groups size room level j ⌝ }
+fn scan_of(terms: Terms, level: u8, j: u32) -> Scan
+    requires { ⌜ (beginRefusal terms ≡ 0) × (1 ≤ level) ⌝ }
+    ensures { λ r. ⌜ r ≡ scanFor terms level j ⌝ }
 {
     let from = (level - 1) % 3;
     Scan {
-        kind,
-        n,
-        groups,
-        size,
-        room,
-        segments: geometry::segment_count_of(kind, n, size),
-        turns: groups::turn_count(kind, n, groups),
+        kind: terms.kind,
+        n: terms.n,
+        groups: terms.groups,
+        size: terms.size,
+        room: terms.room,
+        segments: geometry::segment_count_of(terms),
+        turns: groups::turn_count(terms.kind, terms.n, terms.groups),
         j,
         level,
         from,
@@ -61,23 +62,19 @@ pub fn expand(job: Job, j: u32, segment: &mut [u8], log: &mut [u32]) -> Expanded
     ensures { λ r. ⌜ (now (segment .exit), now (log .exit), r) ≡ expandOf job j (now (segment .entry)) (now (log .entry)) ⌝ }
 {
     let mut next = job;
-    let wanted = job.wanted;
+    let terms = job.terms;
     let phase = job.phase;
     let way = job.way;
+    let fits = coherence::counts_fit(&next.counts);
     let standing = standing::standing_of(
-        job.kind,
-        job.n,
-        wanted,
-        job.groups,
-        job.size,
-        job.room,
+        terms,
         phase,
         way,
         job.loaded,
         &next.passed,
         &next.waiting,
         &next.swept,
-        &next.counts,
+        fits,
         j,
     );
     let refusal = expand_refusal(standing, j, segment.len(), log.len());
@@ -90,8 +87,8 @@ pub fn expand(job: Job, j: u32, segment: &mut [u8], log: &mut [u32]) -> Expanded
         };
     }
     let level = phase::level_of(phase);
-    let scan = scan_of(job.kind, job.n, job.groups, job.size, job.room, level, j);
-    let stacks = geometry::stack_count_at(job.kind, job.n, job.size, j);
+    let scan = scan_of(terms, level, j);
+    let stacks = geometry::stack_count_at(terms, j);
     let count = next.counts[level as usize];
     let found = Found { count };
     let reached = run::expand_run(

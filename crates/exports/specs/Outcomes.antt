@@ -15,6 +15,7 @@ use Rattle.search.specs.Look.{lookOf}
 use Rattle.search.specs.Plan.{planOf}
 use Rattle.search.specs.Settle.{settleOf}
 use Rattle.search.specs.Sweep.{sweepOf}
+use Rattle.search.specs.Terms.{termsOf}
 use Rattle.search.specs.declared.Answer.{Answer}
 use Rattle.search.specs.declared.Job.{Job}
 use Rattle.tariff.specs.Price.{priceOf}
@@ -59,7 +60,7 @@ module _ (m : HokrundJob) where
 
     abbrev pub Looks : List ℕ → List ℕ × HokrundLook → Type 0
     Looks log =
-        Mirrored m (λ job. lookedAt (j * job .room) (lookOf job j log)) (λ o. o .1 .refusal) (λ r. ([], record { refusal = r; start = 0; length = 0 }))
+        Mirrored m (λ job. lookedAt (j * job .terms .room) (lookOf job j log)) (λ o. o .1 .refusal) (λ r. ([], record { refusal = r; start = 0; length = 0 }))
 
   -- 0 is forward, any other number reverse
   abbrev pub Closes : ℕ → HokrundAnswer → Type 0
@@ -93,11 +94,11 @@ noBuild r =
 module _ (kind n : ℕ) (wanted : HokrundStack) where
   module _ (groups size room : ℕ) where
     abbrev pub Begins : HokrundAnswer → Type 0
-    Begins = Given (answerOf (beginOf kind n (wanted .places) groups size room)) (λ a. a .refusal) noBuild
+    Begins = Given (answerOf (beginOf (termsOf kind n (wanted .places) groups size room))) (λ a. a .refusal) noBuild
 
     abbrev pub Builds : List ℕ → List ℕ → List ℕ → List ℕ × List ℕ × List ℕ × HokrundAnswer → Type 0
     Builds table log list =
-        Given (threeLent answerOf (buildOf kind n (wanted .places) groups size room table log list)) (λ o. o .3 .refusal)
+        Given (threeLent answerOf (buildOf (termsOf kind n (wanted .places) groups size room) table log list)) (λ o. o .3 .refusal)
         (λ r. (table, log, list, noBuild r))
 
   module _ (given : HokrundStack) (groups : ℕ) (table list : List ℕ) where

@@ -9,7 +9,9 @@ use Rattle.search.specs.Begin.{noJob, beginOf}
 use Rattle.search.specs.Look.{lookOf}
 use Rattle.search.specs.PromiseCalls.{StandsAlone}
 use Rattle.search.specs.PromiseCalls as calls
+use Rattle.search.specs.Terms.{termsOf}
 use Rattle.search.specs.declared.Answer.{Answer}
+use Rattle.search.specs.declared.Terms.{Terms}
 use Rattle.search.proofs.Refused.{refused-keeps}
 use Rattle.tariff.specs.Promise.{PriceKeeps}
 use Rattle.tariff.specs.declared.Tariff.{Tariff}
@@ -96,18 +98,21 @@ module _ (m : HokrundJob) where
 
 module _ (kind n : ℕ) (wanted : HokrundStack) where
   module _ (groups size room : ℕ) where
+    abbrev terms : Terms
+    terms = termsOf kind n (wanted .places) groups size room
+
     abbrev notBegun : ℕ → HokrundAnswer
     notBegun r = record { refusal = r; job = mirrorOf noJob }
 
-    pub begin-keeps : StandsAlone (λ (a : HokrundAnswer). a .refusal) notBegun (answerOf (beginOf kind n (wanted .places) groups size room))
+    pub begin-keeps : StandsAlone (λ (a : HokrundAnswer). a .refusal) notBegun (answerOf (beginOf terms))
     unfolding answerOf
-    begin-keeps h = ap answerOf (refused-keeps .begin kind n (wanted .places) groups size room h)
+    begin-keeps h = ap answerOf (refused-keeps .begin terms h)
 
     module _ (table log list : List ℕ) where
       pub build-keeps : StandsAlone (λ (o : List ℕ × List ℕ × List ℕ × HokrundAnswer). o .3 .refusal) (λ r. (table, log, list, notBegun r))
           (buildCall kind n wanted groups size room table log list)
       unfolding buildCall answerOf
-      build-keeps h = ap (threeLent answerOf) (refused-keeps .build kind n (wanted .places) groups size room table log list h)
+      build-keeps h = ap (threeLent answerOf) (refused-keeps .build terms table log list h)
 
   module _ (given : HokrundStack) (groups : ℕ) (table list : List ℕ) where
     pub plan-keeps : StandsAlone (λ (o : List ℕ × HokrundPlanned). o .1 .refusal) (λ r. (list, record { refusal = r; turns = 0 }))

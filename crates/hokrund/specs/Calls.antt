@@ -6,6 +6,7 @@ use Prim.Native.Nat.{ℕ, _*_}
 use Rattle.search.specs.Blank.{blankOf}
 use Rattle.search.specs.Close.{closeOf}
 use Rattle.search.specs.Drive.{buildOf}
+use Rattle.search.specs.Terms.{termsOf}
 use Rattle.search.specs.Expand.{expandOf}
 use Rattle.search.specs.Load.{loadOf}
 use Rattle.search.specs.Look.{lookOf}
@@ -62,7 +63,7 @@ lookCall m j log =
 
 unfoldable pub buildCall : ℕ → ℕ → HokrundStack → ℕ → ℕ → ℕ → List ℕ → List ℕ → List ℕ → List ℕ × List ℕ × List ℕ × HokrundAnswer
 buildCall kind n wanted groups size room table log list =
-    threeLent answerOf (buildOf kind n (wanted .places) groups size room table log list)
+    threeLent answerOf (buildOf (termsOf kind n (wanted .places) groups size room) table log list)
 
 unfoldable pub planCall : ℕ → ℕ → HokrundStack → HokrundStack → ℕ → List ℕ → List ℕ → List ℕ × HokrundPlanned
 planCall kind n wanted given groups table list =

@@ -13,6 +13,7 @@ use lib.ListN.{length}
 use Rattle.stacks.specs.declared.Indexed.{Indexed}
 use Rattle.stacks.specs.declared.Stacked.{Stacked}
 use Rattle.search.specs.JobState.{levelOf}
+use Rattle.search.specs.Terms.{termsOf}
 use Rattle.search.specs.declared.Answer.{Answer}
 use Rattle.search.specs.declared.Entry.{Entry}
 use Rattle.search.specs.declared.Expanded.{Expanded}
@@ -88,12 +89,7 @@ cleared m =
 unfoldable pub jobOf : HokrundJob → Job
 jobOf m =
     record {
-      kind = m .kind;
-      n = m .n;
-      wanted = m .wanted .places;
-      groups = m .groups;
-      size = m .size;
-      room = m .room;
+      terms = termsOf (m .kind) (m .n) (m .wanted .places) (m .groups) (m .size) (m .room);
       phase = phaseOf (m .phase) (m .level);
       way = wayOf (m .way);
       loaded = m .loaded;
@@ -106,17 +102,17 @@ jobOf m =
 unfoldable pub mirrorOf : Job → HokrundJob
 mirrorOf job =
     record {
-      kind = job .kind;
-      n = job .n;
+      kind = job .terms .kind;
+      n = job .terms .n;
       phase = phaseNumber (job .phase);
       level = levelOf (job .phase);
       way = wayNumber (job .way);
       loaded = job .loaded;
-      wanted = record { places = job .wanted };
+      wanted = record { places = job .terms .wanted };
       reserved = 0 ∷ 0 ∷ [];
-      groups = job .groups;
-      size = job .size;
-      room = job .room;
+      groups = job .terms .groups;
+      size = job .terms .size;
+      room = job .terms .room;
       passed = job .passed;
       waiting = job .waiting;
       swept = job .swept;

@@ -3,6 +3,7 @@
 ghost use mathlib.Core.Path.{_≡_};
 ghost use lib.ListN.{take, drop};
 ghost use Rattle.search.specs.Begin.{beginOf};
+ghost use Rattle.search.specs.Terms.{termsOf};
 ghost use Rattle.hokrund.specs.Mirror.{answerOf};
 ghost use Rattle.hokrund.specs.Calls.{blankCall, expandCall, settleCall, loadCall, sweepCall, lookCall, closeCall};
 use crate::mirror;
@@ -16,6 +17,7 @@ use calls::load;
 use calls::look;
 use calls::settle;
 use job::begin;
+use search::Terms;
 
 #[no_mangle]
 pub extern "C" fn hokrund_begin(
@@ -26,10 +28,18 @@ pub extern "C" fn hokrund_begin(
     size: u32,
     room: u32,
 ) -> HokrundAnswer
-    ensures { λ r. ⌜ r ≡ answerOf (beginOf kind n (wanted .places) groups size room) ⌝ }
+    ensures { λ r. ⌜ r ≡ answerOf (beginOf (termsOf kind n (wanted .places) groups size room)) ⌝ }
 {
     let places = wanted.places;
-    mirror::answer_of(begin::begin(kind, n, places, groups, size, room))
+    let terms = Terms {
+        kind,
+        n,
+        wanted: places,
+        groups,
+        size,
+        room,
+    };
+    mirror::answer_of(begin::begin(terms))
 }
 
 #[no_mangle]

@@ -7,6 +7,7 @@ use search::COUNT_PLACES;
 use search::Job;
 use search::Phase;
 use search::SEGMENT_LIMIT;
+use search::Terms;
 use search::Way;
 use stacks::PLACES;
 
@@ -171,13 +172,16 @@ pub(crate) fn job_of(mirror: HokrundJob) -> Job
     let counts = mirror.counts;
     let phase = phase_of(mirror.phase, mirror.level);
     let way = way_of(mirror.way);
-    Job {
+    let terms = Terms {
         kind: mirror.kind,
         n: mirror.n,
         wanted,
         groups: mirror.groups,
         size: mirror.size,
         room: mirror.room,
+    };
+    Job {
+        terms,
         phase,
         way,
         loaded: mirror.loaded,
@@ -193,23 +197,24 @@ pub(crate) fn mirror_of(job: Job) -> HokrundJob
 {
     let phase = job.phase;
     let way = job.way;
-    let wanted = job.wanted;
+    let terms = job.terms;
+    let wanted = terms.wanted;
     let passed = job.passed;
     let waiting = job.waiting;
     let swept = job.swept;
     let counts = job.counts;
     HokrundJob {
-        kind: job.kind,
-        n: job.n,
+        kind: terms.kind,
+        n: terms.n,
         phase: phase_number(phase),
         level: phase::level_of(phase),
         way: way_number(way),
         loaded: job.loaded,
         wanted: HokrundStack { places: wanted },
         reserved: [0u8; 2],
-        groups: job.groups,
-        size: job.size,
-        room: job.room,
+        groups: terms.groups,
+        size: terms.size,
+        room: terms.room,
         passed,
         waiting,
         swept,

@@ -9,6 +9,7 @@ use crate::mirror::HokrundEntry;
 use crate::mirror::HokrundPlanned;
 use crate::mirror::HokrundPriced;
 use crate::mirror::HokrundStack;
+use search::Terms;
 use tariff::Tariff;
 
 #[no_mangle]
@@ -26,7 +27,15 @@ pub extern "C" fn hokrund_build_table(
     ensures { λ r. ⌜ (now (table .exit), now (log .exit), now (list .exit), r) ≡ buildCall kind n wanted groups size room (now (table .entry)) (now (log .entry)) (now (list .entry)) ⌝ }
 {
     let places = wanted.places;
-    let built = build::build::build_table(kind, n, places, groups, size, room, table, log, list);
+    let terms = Terms {
+        kind,
+        n,
+        wanted: places,
+        groups,
+        size,
+        room,
+    };
+    let built = build::build::build_table(terms, table, log, list);
     mirror::answer_of(built)
 }
 

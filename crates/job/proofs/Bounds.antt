@@ -7,9 +7,10 @@ use native.Mathlib.Omega.{arith}
 use borrow.Author.Tests.{lt-ltb, leb-true}
 use lib.Dec.{leb}
 use Rattle.base.proofs.Tests.{and-left, never}
-use Rattle.stacks.specs.Stack.{isPaneCount, isStack, stackCount}
-use Rattle.search.specs.JobState.{lastLevel, beginRefusal, isLevel, isReverse, inForward, inReverse, levelOf, phaseFits, stackCountOf, segmentCountOf, logLength, waitingOf, isCoherent}
+use Rattle.stacks.specs.Stack.{isPaneCount, isStack}
+use Rattle.search.specs.JobState.{lastLevel, isLevel, isReverse, inForward, inReverse, levelOf, phaseFits, stackCountOf, segmentCountOf, logLength, waitingOf, isCoherent}
 use Rattle.search.specs.Segments.{segmentLimit, mostSize, mostRoom, isSegmentSize, isLogRoom}
+use Rattle.search.specs.Terms.{N, beginRefusal}
 use Rattle.search.specs.declared.Job.{Job}
 use Rattle.search.specs.declared.Phase.{Phase}
 use Rattle.search.specs.declared.Phase.the-variants.{Blanking, Level, Finished}
@@ -17,21 +18,21 @@ use Rattle.search.proofs.Coherence.{begin-given, coherent-facts}
 use Rattle.search.proofs.SegmentLaws.{segment-size-facts, log-room-facts}
 
 pub record Bounds (job : Job) : Type 0 where
-  pub is-pane-count : isPaneCount (job .kind) (job .n) ≡ true
-  pub is-size : isSegmentSize (stackCount (job .kind) (job .n)) (job .size) ≡ true
-  pub is-room : isLogRoom (job .room) ≡ true
-  pub is-stack : isStack (job .kind) (job .n) (job .wanted) ≡ true
-  pub some : 0 < job .size
-  pub small : job .size ≤ mostSize
+  pub is-pane-count : isPaneCount (job .terms .kind) (job .terms .n) ≡ true
+  pub is-size : isSegmentSize (N (job .terms)) (job .terms .size) ≡ true
+  pub is-room : isLogRoom (job .terms .room) ≡ true
+  pub is-stack : isStack (job .terms .kind) (job .terms .n) (job .terms .wanted) ≡ true
+  pub some : 0 < job .terms .size
+  pub small : job .terms .size ≤ mostSize
   pub few : segmentCountOf job ≤ segmentLimit
-  pub narrow : job .room ≤ mostRoom
+  pub narrow : job .terms .room ≤ mostRoom
 
 module _ (job : Job) where
-  pub begun-bounds : beginRefusal (job .kind) (job .n) (job .wanted) (job .groups) (job .size) (job .room) ≡ 0 → Bounds job
+  pub begun-bounds : beginRefusal (job .terms) ≡ 0 → Bounds job
   unfolding segmentCountOf stackCountOf
   begun-bounds h =
-      let g = begin-given (job .kind) (job .n) (job .wanted) (job .groups) (job .size) (job .room) h in
-      let s = segment-size-facts (stackCountOf job) (job .size) (g .segments) in
+      let g = begin-given h in
+      let s = segment-size-facts (stackCountOf job) (job .terms .size) (g .segments) in
       record {
         is-pane-count = g .in-range;
         is-size = g .segments;
@@ -40,16 +41,15 @@ module _ (job : Job) where
         some = omega (arith, s .least);
         small = s .most;
         few = s .few;
-        narrow = log-room-facts (job .room) (g .room) .most;
+        narrow = log-room-facts (job .terms .room) (g .room) .most;
       }
 
   pub coherent-bounds : isCoherent job ≡ true → Bounds job
   coherent-bounds h = begun-bounds (coherent-facts job h .begins)
 
   -- what the geometry asks for
-  pub coherent-sizes : isCoherent job ≡ true
-      → (isPaneCount (job .kind) (job .n) ≡ true) × (isSegmentSize (stackCount (job .kind) (job .n)) (job .size) ≡ true)
-  coherent-sizes h = let b = coherent-bounds h in (b .is-pane-count, b .is-size)
+  pub coherent-begins : isCoherent job ≡ true → beginRefusal (job .terms) ≡ 0
+  coherent-begins h = coherent-facts job h .begins
 
 -- ---- the level
 
@@ -83,12 +83,12 @@ module _ (job : Job) (coherent : isCoherent job ≡ true) where
     pub segment-below : j < segmentLimit
     segment-below = omega (arith, coherent-bounds job coherent .few)
 
-    pub waiting-le : waitingOf job j ≤ job .room
+    pub waiting-le : waitingOf job j ≤ job .terms .room
     waiting-le =
-        subst (λ (t : Bool). waitingOf job j ≤ cond t (job .room) 0) (lt-ltb j (segmentCountOf job) inside)
+        subst (λ (t : Bool). waitingOf job j ≤ cond t (job .terms .room) 0) (lt-ltb j (segmentCountOf job) inside)
         (coherent-facts job coherent .waiting-fits j segment-below)
 
     -- the waiting part of a log is within the log area
-    pub part-within : j * job .room + waitingOf job j ≤ logLength job
+    pub part-within : j * job .terms .room + waitingOf job j ≤ logLength job
     unfolding logLength
-    part-within = omega (arith, waiting-le, suc-mul j (job .room), mul-le-mul-right (job .room) inside)
+    part-within = omega (arith, waiting-le, suc-mul j (job .terms .room), mul-le-mul-right (job .terms .room) inside)

@@ -1,28 +1,31 @@
 -- Rows of refusals: the first part that code tries in one call, and then the rest.
 use mathlib.Core.Path.{_≡_, refl, sym, ap, _∙_}
 use mathlib.Core.Bool.{Bool, true, false}
-use mathlib.Core.List.{List}
 use Prim.Native.Nat.{ℕ, zero, suc}
 use lib.Dec.{ltb, eqb}
-use lib.IntN.{ℤ}
 use Rattle.base.specs.Words.{unless}
 use Rattle.stacks.specs.Operations.{kindRefusal, indexRefusal}
 use Rattle.stacks.specs.Turn.{isGroupSet}
-use Rattle.stacks.specs.Stack.{isKind, isPaneCount, isStack, stackCount}
+use Rattle.stacks.specs.Stack.{isKind, isPaneCount, isStack}
 use Rattle.perm.proofs.Refusals.{orElse, row-refuses, row-goes-on}
 use Rattle.search.specs.Entries.{bytesFor}
-use Rattle.search.specs.JobState.{beginRefusal, isCoherent, inForward, segmentCountOf, stackCountAt, logLength}
+use Rattle.search.specs.JobState.{isCoherent, inForward, segmentCountOf, stackCountAt, logLength}
 use Rattle.search.specs.Segments.{isSegmentSize, isLogRoom}
 use Rattle.search.specs.Refusals.{callRefusal, segmentRefusal, levelRefusal}
+use Rattle.search.specs.Terms.{N, beginRefusal}
 use Rattle.search.specs.declared.Job.{Job}
+use Rattle.search.specs.declared.Terms.{Terms}
 
 -- what Begin tries after the wanted stack
-abbrev pub beginRest : ℕ → ℕ → ℕ → ℕ → ℕ → ℕ
-beginRest kind n groups S C = unless (isGroupSet kind n groups) 21 (unless (isSegmentSize (stackCount kind n) S) 5 (unless (isLogRoom C) 6 0))
+abbrev pub beginRest : Terms → ℕ
+beginRest terms =
+    unless (isGroupSet (terms .kind) (terms .n) (terms .groups)) 21
+    (unless (isSegmentSize (N terms) (terms .size)) 5 (unless (isLogRoom (terms .room)) 6 0))
 
-begin-first : (kind n : ℕ) (s : List ℤ) (groups S C : ℕ) → beginRefusal kind n s groups S C ≡ orElse (indexRefusal kind n s) (beginRest kind n groups S C)
+begin-first : (terms : Terms) → beginRefusal terms ≡ orElse (indexRefusal (terms .kind) (terms .n) (terms .wanted)) (beginRest terms)
 unfolding beginRefusal indexRefusal kindRefusal
-begin-first kind n s groups S C = go (isKind kind) (isPaneCount kind n) (isStack kind n s) (beginRest kind n groups S C)
+begin-first terms =
+    go (isKind (terms .kind)) (isPaneCount (terms .kind) (terms .n)) (isStack (terms .kind) (terms .n) (terms .wanted)) (beginRest terms)
   where
     go : (a b c : Bool) (rest : ℕ) → unless a 1 (unless b 2 (unless c 3 rest)) ≡ orElse (unless a 1 (unless b 2 (unless c 3 0))) rest
     go true true true rest = refl
@@ -31,12 +34,12 @@ begin-first kind n s groups S C = go (isKind kind) (isPaneCount kind n) (isStack
     go false b c rest = refl
 
 -- r is what the row of the wanted stack answers
-module _ (kind n : ℕ) (s : List ℤ) (groups S C r : ℕ) (e : r ≡ indexRefusal kind n s) where
-  pub begin-refuses : (r ≡ 0 → ⊥) → r ≡ beginRefusal kind n s groups S C
-  begin-refuses = row-refuses (beginRefusal kind n s groups S C) r (beginRest kind n groups S C) (rw e (begin-first kind n s groups S C))
+module _ (terms : Terms) (r : ℕ) (e : r ≡ indexRefusal (terms .kind) (terms .n) (terms .wanted)) where
+  pub begin-refuses : (r ≡ 0 → ⊥) → r ≡ beginRefusal terms
+  begin-refuses = row-refuses (beginRefusal terms) r (beginRest terms) (rw e (begin-first terms))
 
-  pub begin-goes-on : r ≡ 0 → beginRest kind n groups S C ≡ beginRefusal kind n s groups S C
-  begin-goes-on = row-goes-on (beginRefusal kind n s groups S C) r (beginRest kind n groups S C) (rw e (begin-first kind n s groups S C))
+  pub begin-goes-on : r ≡ 0 → beginRest terms ≡ beginRefusal terms
+  begin-goes-on = row-goes-on (beginRefusal terms) r (beginRest terms) (rw e (begin-first terms))
 
 -- ---- the rows of the calls on a segment
 

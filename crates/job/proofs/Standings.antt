@@ -1,16 +1,16 @@
 -- What a standing says of every job that has it, and what it keeps within bounds where the job is coherent.
-use mathlib.Core.Path.{_≡_, ap}
-use mathlib.Core.Bool.{true, not, _&&_}
+use mathlib.Core.Path.{_≡_, refl, sym, ap, _∙_}
+use mathlib.Core.Bool.{Bool, true, not, _&&_}
 use mathlib.Core.List.{List}
 use Prim.Native.Nat.{ℕ, _*_}
-use Rattle.stacks.specs.Stack.{isPaneCount, stackCount}
-use Rattle.search.specs.JobState.{isCoherent, isLevel, isReverse, inForward, inReverse, stackCountOf, segmentCountOf, stackCountAt, logLength, passedOf, sweptOf}
+use Rattle.base.specs.Words.{all}
+use Rattle.search.specs.JobState.{countFits, countsFit, isCoherent, isLevel, isReverse, inForward, inReverse, stackCountOf, segmentCountOf, stackCountAt, logLength, passedOf, sweptOf}
 use Rattle.search.specs.Logs.{logPart, pending}
-use Rattle.search.specs.Segments.{segmentCount, stackCountIn, isSegmentSize, isLogRoom}
+use Rattle.search.specs.Terms.{G, m, beginRefusal}
 use Rattle.search.specs.declared.Job.{Job}
-use Rattle.job.specs.Standing.{standingOf, Stands}
+use Rattle.job.specs.Standing.{Has, standingOf, Stands}
 use Rattle.job.specs.declared.standing.Standing.{Standing}
-use Rattle.job.proofs.Bounds.{coherent-bounds}
+use Rattle.job.proofs.Bounds.{coherent-begins}
 
 module _ (s : Standing) (j : ℕ) (job : Job) (e : s ≡ standingOf job j) where
   pub coherent-is : s .coherent ≡ isCoherent job
@@ -41,30 +41,42 @@ module _ (s : Standing) (j : ℕ) (job : Job) (e : s ≡ standingOf job j) where
   unfolding standingOf
   passed-is = ap (λ (x : Standing). x .passed) e
 
-  pub segments-are : segmentCount (stackCount (s .kind) (s .n)) (s .size) ≡ segmentCountOf job
+  pub segments-are : G (s .terms) ≡ segmentCountOf job
   unfolding standingOf segmentCountOf stackCountOf
-  segments-are = ap (λ (x : Standing). segmentCount (stackCount (x .kind) (x .n)) (x .size)) e
+  segments-are = ap (λ (x : Standing). G (x .terms)) e
 
-  pub stacks-are : stackCountIn (stackCount (s .kind) (s .n)) (s .size) j ≡ stackCountAt job j
+  pub stacks-are : m (s .terms) j ≡ stackCountAt job j
   unfolding standingOf stackCountAt stackCountOf
-  stacks-are = ap (λ (x : Standing). stackCountIn (stackCount (x .kind) (x .n)) (x .size) j) e
+  stacks-are = ap (λ (x : Standing). m (x .terms) j) e
 
-  pub area-is : segmentCount (stackCount (s .kind) (s .n)) (s .size) * s .room ≡ logLength job
+  pub area-is : G (s .terms) * s .terms .room ≡ logLength job
   unfolding standingOf logLength segmentCountOf stackCountOf
-  area-is = ap (λ (x : Standing). segmentCount (stackCount (x .kind) (x .n)) (x .size) * x .room) e
+  area-is = ap (λ (x : Standing). G (x .terms) * x .terms .room) e
 
-  pub part-is : (log : List ℕ) → logPart (s .room) j (s .waiting) log ≡ pending job j log
+  pub part-is : (log : List ℕ) → logPart (s .terms .room) j (s .waiting) log ≡ pending job j log
   unfolding standingOf pending
-  part-is log = ap (λ (x : Standing). logPart (x .room) j (x .waiting) log) e
+  part-is log = ap (λ (x : Standing). logPart (x .terms .room) j (x .waiting) log) e
+
+  pub part-own : (log : List ℕ) → logPart (job .terms .room) j (s .waiting) log ≡ pending job j log
+  unfolding standingOf pending
+  part-own log = ap (λ (x : Standing). logPart (job .terms .room) j (x .waiting) log) e
 
 -- what the geometry asks for
-pub record Sizes (s : Standing) : Type 0 where
-  pub is-pane-count : isPaneCount (s .kind) (s .n) ≡ true
-  pub is-size : isSegmentSize (stackCount (s .kind) (s .n)) (s .size) ≡ true
-  pub is-room : isLogRoom (s .room) ≡ true
-
-pub stands-sizes : (s : Standing) (j : ℕ) (of : Stands s j) → isCoherent (of .job) ≡ true → Sizes s
+pub stands-begins : (s : Standing) (j : ℕ) (of : Stands s j) → isCoherent (of .job) ≡ true → beginRefusal (s .terms) ≡ 0
 unfolding standingOf
-stands-sizes s j of h =
-    let b = coherent-bounds (of .job) h in
-    rw (of .is) (record { is-pane-count = b .is-pane-count; is-size = b .is-size; is-room = b .is-room })
+stands-begins s j of h = ap (λ (x : Standing). beginRefusal (x .terms)) (of .is) ∙ coherent-begins (of .job) h
+
+-- a job has its own fields
+pub has-own : (job : Job) {fits : Bool} → fits ≡ all countFits (job .counts)
+    → Has job (job .terms) (job .phase) (job .loaded) (job .passed) (job .waiting) (job .swept) fits
+unfolding countsFit
+has-own job e =
+    record {
+      terms-is = refl;
+      phase-is = refl;
+      loaded-is = refl;
+      passed-is = refl;
+      waiting-is = refl;
+      swept-is = refl;
+      fits-is = sym e;
+    }

@@ -6,12 +6,13 @@ use lib.Dec.{leb, ltb, eqb}
 use lib.ListN.{getD}
 use Rattle.base.specs.Words.{all, from}
 use Rattle.search.specs.JobState.{noSegment}
-use Rattle.search.specs.Segments.{segmentLimit, segmentCount, stackCountIn}
+use Rattle.search.specs.Segments.{segmentLimit}
+use Rattle.search.specs.Terms.{G, m}
+use Rattle.search.specs.declared.Terms.{Terms}
 
--- segmentFits of a job with N stacks, S, C, and these passed and waiting numbers
-abbrev pub numbersFit : ℕ → ℕ → ℕ → List ℕ → List ℕ → ℕ → Bool
-numbersFit N S C passed waiting j =
-    leb (getD passed j 0) (stackCountIn N S j) && leb (getD waiting j 0) (cond (ltb j (segmentCount N S)) C 0)
+-- segmentFits of a job with these terms, and these passed and waiting numbers
+abbrev pub numbersFit : Terms → List ℕ → List ℕ → ℕ → Bool
+numbersFit terms passed waiting j = leb (getD passed j 0) (m terms j) && leb (getD waiting j 0) (cond (ltb j (G terms)) (terms .room) 0)
 
 -- loadedFits of a job with G segments
 abbrev pub loadFits : ℕ → ℕ → Bool

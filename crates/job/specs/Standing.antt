@@ -1,42 +1,31 @@
 -- What the rows of refusals need of a job, for a call on segment j.
+--   Has     the fields from which a job's coherence and standing follow
 --   Tells   a row's answer is the number that a definition gives for every job of that standing
 use mathlib.Core.Path.{_≡_}
+use mathlib.Core.Bool.{Bool}
 use mathlib.Core.List.{List}
 use Prim.Native.Nat.{ℕ}
-use lib.IntN.{ℤ}
-use Rattle.search.specs.JobState.{isCoherent, passedOf, waitingOf, sweptOf}
+use Rattle.search.specs.JobState.{countsFit, isCoherent, passedOf, waitingOf, sweptOf}
 use Rattle.search.specs.declared.Job.{Job}
 use Rattle.search.specs.declared.Phase.{Phase}
-use Rattle.search.specs.declared.Way.{Way}
+use Rattle.search.specs.declared.Terms.{Terms}
 use Rattle.job.specs.declared.standing.Standing.{Standing}
 
--- the job with these fields
-abbrev pub jobWith : ℕ → ℕ → List ℤ → ℕ → ℕ → ℕ → Phase → Way → ℕ → List ℕ → List ℕ → List ℕ → List ℕ → Job
-jobWith kind n wanted groups S C phase way loaded passed waiting swept counts =
-    record {
-      kind = kind;
-      n = n;
-      wanted = wanted;
-      groups = groups;
-      size = S;
-      room = C;
-      phase = phase;
-      way = way;
-      loaded = loaded;
-      passed = passed;
-      waiting = waiting;
-      swept = swept;
-      counts = counts;
-    }
+-- the job has these fields, whatever its way, and its counts fit or do not
+pub record Has (job : Job) (terms : Terms) (phase : Phase) (loaded : ℕ) (passed waiting swept : List ℕ) (fits : Bool) : Type 0 where
+  pub terms-is : job .terms ≡ terms
+  pub phase-is : job .phase ≡ phase
+  pub loaded-is : job .loaded ≡ loaded
+  pub passed-is : job .passed ≡ passed
+  pub waiting-is : job .waiting ≡ waiting
+  pub swept-is : job .swept ≡ swept
+  pub fits-is : countsFit job ≡ fits
 
 unfoldable pub standingOf : Job → ℕ → Standing
 standingOf job j =
     record {
       coherent = isCoherent job;
-      kind = job .kind;
-      n = job .n;
-      size = job .size;
-      room = job .room;
+      terms = job .terms;
       phase = job .phase;
       way = job .way;
       loaded = job .loaded;

@@ -1,6 +1,6 @@
 // Begin.
 ghost use mathlib.Core.Path.{_≡_};
-ghost use Rattle.search.specs.Begin.{begun, beginOf};
+ghost use Rattle.search.specs.Begin.{begun, noJob, beginOf};
 use crate::coherence;
 use search::Answer;
 use search::COUNT_PLACES;
@@ -8,20 +8,16 @@ use search::Job;
 use search::NO_SEGMENT;
 use search::Phase;
 use search::SEGMENT_LIMIT;
+use search::Terms;
 use search::Way;
 use stacks::PLACES;
 
 // A job in Blanking, its way forward, with nothing passed, waiting, loaded, swept or counted.
-fn new_job(kind: u8, n: u8, wanted: [i8; PLACES], groups: u32, size: u32, room: u32) -> Job
-    ensures { λ r. ⌜ r ≡ begun kind n wanted groups size room ⌝ }
+fn new_job(terms: Terms) -> Job
+    ensures { λ r. ⌜ r ≡ begun terms ⌝ }
 {
     Job {
-        kind,
-        n,
-        wanted,
-        groups,
-        size,
-        room,
+        terms,
         phase: Phase::Blanking,
         way: Way::Forward,
         loaded: NO_SEGMENT,
@@ -32,15 +28,30 @@ fn new_job(kind: u8, n: u8, wanted: [i8; PLACES], groups: u32, size: u32, room: 
     }
 }
 
-// Begin.
-pub fn begin(kind: u8, n: u8, wanted: [i8; PLACES], groups: u32, size: u32, room: u32) -> Answer
-    ensures { λ r. ⌜ r ≡ beginOf kind n wanted groups size room ⌝ }
+// The job of nothing, beside a refusal: no call accepts it.
+pub fn no_job() -> Job
+    ensures { λ r. ⌜ r ≡ noJob ⌝ }
 {
-    let refusal = coherence::begin_refusal(kind, n, wanted, groups, size, room);
+    let none = Terms {
+        kind: 0,
+        n: 0,
+        wanted: [0i8; PLACES],
+        groups: 0,
+        size: 0,
+        room: 0,
+    };
+    new_job(none)
+}
+
+// Begin.
+pub fn begin(terms: Terms) -> Answer
+    ensures { λ r. ⌜ r ≡ beginOf terms ⌝ }
+{
+    let refusal = coherence::begin_refusal(terms);
     if refusal != 0 {
-        let none = new_job(0, 0, [0i8; PLACES], 0, 0, 0);
+        let none = no_job();
         return Answer { refusal, job: none };
     }
-    let job = new_job(kind, n, wanted, groups, size, room);
+    let job = new_job(terms);
     Answer { refusal: 0, job }
 }

@@ -5,12 +5,12 @@ ghost use Prim.Native.Nat.{_/_, _^_, _≤_, _<_};
 ghost use lib.Dec.{leb, ltb};
 ghost use lib.ListN.{length};
 ghost use Rattle.base.specs.Words.{all, from};
-ghost use Rattle.stacks.specs.Stack.{isPaneCount, stackCount};
-ghost use Rattle.search.specs.JobState.{beginRefusal, countPlaces, countLimit, countFits, isCoherent};
-ghost use Rattle.search.specs.Segments.{segmentLimit, segmentCount, stackCountIn, isSegmentSize};
-ghost use Rattle.search.specs.declared.Way.{Way};
+ghost use Rattle.search.specs.JobState.{countPlaces, countLimit, countFits, isCoherent};
+ghost use Rattle.search.specs.Segments.{segmentLimit, segmentCount, stackCountIn};
+ghost use Rattle.search.specs.Terms.{beginRefusal};
+ghost use Rattle.search.specs.declared.Job.{Job};
 ghost use Rattle.job.specs.Numbers.{numbersFit, loadFits, rowsFit};
-ghost use Rattle.job.specs.Standing.{jobWith};
+ghost use Rattle.job.specs.Standing.{Has};
 use crate::geometry;
 use crate::phase;
 use perm::groups;
@@ -21,25 +21,26 @@ use search::COUNT_PLACES;
 use search::NO_SEGMENT;
 use search::Phase;
 use search::SEGMENT_LIMIT;
-use stacks::PLACES;
+use search::Terms;
 use twobit::segment;
 
-// Begin's refusals, which a job's first six fields must pass too.
-pub fn begin_refusal(kind: u8, n: u8, wanted: [i8; PLACES], groups: u32, size: u32, room: u32) -> u8
-    ensures { λ r. ⌜ r ≡ beginRefusal kind n wanted groups size room ⌝ }
+// Begin's refusals, which a job's terms must pass too.
+pub fn begin_refusal(terms: Terms) -> u8
+    ensures { λ r. ⌜ r ≡ beginRefusal terms ⌝ }
 {
-    let refusal = operations::index_refusal(kind, n, wanted);
+    let wanted = terms.wanted;
+    let refusal = operations::index_refusal(terms.kind, terms.n, wanted);
     if refusal != 0 {
         return refusal;
     }
-    if !groups::is_group_set(kind, n, groups) {
+    if !groups::is_group_set(terms.kind, terms.n, terms.groups) {
         return 21;
     }
-    let count = kind::stack_count(kind, n);
-    if !segment::is_segment_size(count, size) {
+    let count = kind::stack_count(terms.kind, terms.n);
+    if !segment::is_segment_size(count, terms.size) {
         return 5;
     }
-    if !segment::is_log_room(room) {
+    if !segment::is_log_room(terms.room) {
         return 6;
     }
     0
@@ -47,17 +48,16 @@ pub fn begin_refusal(kind: u8, n: u8, wanted: [i8; PLACES], groups: u32, size: u
 
 // The numbers of every segment, of those from G up too.
 fn segments_fit<'a>(
-    kind: u8,
-    n: u8,
-    size: u32,
-    room: u32,
+    terms: Terms,
     passed: &'a [u32; SEGMENT_LIMIT],
     waiting: &'a [u32; SEGMENT_LIMIT],
 ) -> bool
-    requires { ⌜ (isPaneCount kind n ≡ true) × (isSegmentSize (stackCount kind n) size ≡ true) ⌝ }
-    ensures { λ r. ⌜ r ≡ all (numbersFit (stackCount kind n) size room (now (passed .entry)) (now (waiting .entry))) (from 0 segmentLimit) ⌝ }
+    requires { ⌜ beginRefusal terms ≡ 0 ⌝ }
+    ensures { λ r. ⌜ r ≡ all (numbersFit terms (now (passed .entry)) (now (waiting .entry))) (from 0 segmentLimit) ⌝ }
 {
-    let count = kind::stack_count(kind, n);
+    let size = terms.size;
+    let room = terms.room;
+    let count = kind::stack_count(terms.kind, terms.n);
     let segments = segment::segment_count(count, size);
     let mut j: usize = 0;
     while j < SEGMENT_LIMIT {
@@ -130,7 +130,7 @@ fn each_count_fits(counts: &[u64; COUNT_PLACES]) -> bool
 }
 
 // Each count is at most the limit. One that is the limit itself is rare, and only then is each looked at.
-fn counts_fit(counts: &[u64; COUNT_PLACES]) -> bool
+pub fn counts_fit(counts: &[u64; COUNT_PLACES]) -> bool
     requires { ⌜ length (now counts) ≡ countPlaces ⌝ }
     ensures { λ r. ⌜ r ≡ all countFits (now (counts .entry)) ⌝ }
 {
@@ -179,37 +179,31 @@ fn sweeps_fit(segments: u32, swept: &[u64; SEGMENT_LIMIT]) -> bool
     true
 }
 
-// Whether the job with these fields is coherent, whatever its way. Its arrays are lent, so that none is copied.
+// Whether a job with these fields is coherent, whatever its way; fits says whether its counts fit. Its arrays are lent, so that none is copied.
 pub fn is_coherent<'a>(
-    kind: u8,
-    n: u8,
-    wanted: [i8; PLACES],
-    groups: u32,
-    size: u32,
-    room: u32,
+    terms: Terms,
     phase: Phase,
     loaded: u8,
     passed: &'a [u32; SEGMENT_LIMIT],
     waiting: &'a [u32; SEGMENT_LIMIT],
     swept: &'a [u64; SEGMENT_LIMIT],
-    counts: &'a [u64; COUNT_PLACES],
+    fits: bool,
 ) -> bool
-    requires { ⌜ length (now counts) ≡ countPlaces ⌝ }
-    ensures { λ r. ⌜ ((way : Way) → r ≡ isCoherent (jobWith kind n wanted groups size room phase way loaded (now (passed .entry)) (now (waiting .entry)) (now (swept .entry)) (now (counts .entry)))) ⌝ }
+    ensures { λ r. ⌜ ((job : Job) → Has job terms phase loaded (now (passed .entry)) (now (waiting .entry)) (now (swept .entry)) fits → r ≡ isCoherent job) × (r ≡ true → beginRefusal terms ≡ 0) ⌝ }
 {
-    if begin_refusal(kind, n, wanted, groups, size, room) != 0 {
+    if begin_refusal(terms) != 0 {
         return false;
     }
     if !phase::phase_fits(phase) {
         return false;
     }
-    if !segments_fit(kind, n, size, room, passed, waiting) {
+    if !segments_fit(terms, passed, waiting) {
         return false;
     }
-    if !counts_fit(counts) {
+    if !fits {
         return false;
     }
-    let segments = geometry::segment_count_of(kind, n, size);
+    let segments = geometry::segment_count_of(terms);
     if !loaded_fits(loaded, segments) {
         return false;
     }

@@ -14,7 +14,8 @@ pub fn call_refusal(standing: Standing, in_phase: bool, j: u32) -> u8
     if !standing.coherent {
         return 7;
     }
-    let segments = geometry::segment_count_of(standing.kind, standing.n, standing.size);
+    let terms = standing.terms;
+    let segments = geometry::segment_count_of(terms);
     if !in_phase {
         return 8;
     }
@@ -33,7 +34,8 @@ pub fn segment_refusal(standing: Standing, in_phase: bool, j: u32, bytes: usize)
     if refusal != 0 {
         return refusal;
     }
-    let stacks = geometry::stack_count_at(standing.kind, standing.n, standing.size, j);
+    let terms = standing.terms;
+    let stacks = geometry::stack_count_at(terms, j);
     let length = segment::bytes_for(stacks) as usize;
     if bytes != length {
         return 10;
@@ -53,7 +55,8 @@ pub fn level_refusal(standing: Standing, j: u32, bytes: usize, words: usize) -> 
     if refusal != 0 {
         return refusal;
     }
-    let area = geometry::log_length(standing.kind, standing.n, standing.size, standing.room);
+    let terms = standing.terms;
+    let area = geometry::log_length(terms);
     if words != area {
         return 10;
     }

@@ -1,24 +1,20 @@
 // What the rows of refusals need of a job, made once a call, so that no row takes the job itself.
 ghost use mathlib.Core.Path.{_≡_};
 ghost use lib.ListN.{length, getD};
-ghost use Rattle.job.specs.Standing.{jobWith, standingOf};
-ghost use Rattle.search.specs.JobState.{countPlaces};
+ghost use Rattle.job.specs.Standing.{Has, standingOf};
 ghost use Rattle.search.specs.Segments.{segmentLimit};
+ghost use Rattle.search.specs.declared.Job.{Job};
 use crate::coherence;
-use search::COUNT_PLACES;
 use search::Phase;
 use search::SEGMENT_LIMIT;
+use search::Terms;
 use search::Way;
-use stacks::PLACES;
 
 // Of a call on segment j: whether the job is coherent, its small fields, what is passed and waiting in that segment, and the segments that are
 // swept against the loaded one, as bits.
 pub struct Standing {
     pub coherent: bool,
-    pub kind: u8,
-    pub n: u8,
-    pub size: u32,
-    pub room: u32,
+    pub terms: Terms,
     pub phase: Phase,
     pub way: Way,
     pub loaded: u8,
@@ -51,46 +47,25 @@ fn row_at(rows: &[u64; SEGMENT_LIMIT], loaded: u8) -> u64
     rows[at]
 }
 
-// The standing of the job with these fields. Its arrays are lent, so that the job is not copied.
+// The standing of a job with these fields; fits says whether its counts fit. Its arrays are lent, so that the job is not copied.
 pub fn standing_of<'a>(
-    kind: u8,
-    n: u8,
-    wanted: [i8; PLACES],
-    groups: u32,
-    size: u32,
-    room: u32,
+    terms: Terms,
     phase: Phase,
     way: Way,
     loaded: u8,
     passed: &'a [u32; SEGMENT_LIMIT],
     waiting: &'a [u32; SEGMENT_LIMIT],
     swept: &'a [u64; SEGMENT_LIMIT],
-    counts: &'a [u64; COUNT_PLACES],
+    fits: bool,
     j: u32,
 ) -> Standing
-    requires { ⌜ (length (now passed) ≡ segmentLimit) × (length (now waiting) ≡ segmentLimit) × (length (now swept) ≡ segmentLimit) × (length (now counts) ≡ countPlaces) ⌝ }
-    ensures { λ r. ⌜ r ≡ standingOf (jobWith kind n wanted groups size room phase way loaded (now (passed .entry)) (now (waiting .entry)) (now (swept .entry)) (now (counts .entry))) j ⌝ }
+    requires { ⌜ (length (now passed) ≡ segmentLimit) × (length (now waiting) ≡ segmentLimit) × (length (now swept) ≡ segmentLimit) ⌝ }
+    ensures { λ r. ⌜ ((job : Job) → Has job terms phase loaded (now (passed .entry)) (now (waiting .entry)) (now (swept .entry)) fits → job .way ≡ way → r ≡ standingOf job j) ⌝ }
 {
-    let coherent = coherence::is_coherent(
-        kind,
-        n,
-        wanted,
-        groups,
-        size,
-        room,
-        phase,
-        loaded,
-        passed,
-        waiting,
-        swept,
-        counts,
-    );
+    let coherent = coherence::is_coherent(terms, phase, loaded, passed, waiting, swept, fits);
     Standing {
         coherent,
-        kind,
-        n,
-        size,
-        room,
+        terms,
         phase,
         way,
         loaded,

@@ -1,6 +1,6 @@
 -- A build by all turns: each clause of `whole-build`, for every Begin with the full set that is accepted, every content of the buffers and every
 -- list of calls.
-use mathlib.Core.Path.{_≡_}
+use mathlib.Core.Path.{_≡_, refl}
 use mathlib.Core.Bool.{true, false}
 use mathlib.Core.List.{List, _++_}
 use Prim.Native.Nat.{ℕ, _*_, _%_, _≤_, _<_}
@@ -14,18 +14,20 @@ use Rattle.stacks.specs.Turn.{allGroups, Road, Fewest}
 use Rattle.search.specs.Begin.{begun}
 use Rattle.search.specs.Build.{World, Call, outcome, after, doClose}
 use Rattle.search.specs.Entries.{entryAt, seenIn}
-use Rattle.search.specs.JobState.{beginRefusal, countOf, isFinished, levelOf}
+use Rattle.search.specs.JobState.{countOf, isFinished, levelOf}
 use Rattle.search.specs.Plan.{planOf}
 use Rattle.search.specs.Promise.{rightLengths, Continues, FinishedByClose, Buffers, Plans, Finishes, Promise, WholeBuild}
 use Rattle.search.specs.Segments.{joined}
+use Rattle.search.specs.Terms.{beginRefusal, termsOf}
 use Rattle.search.specs.declared.Phase.the-variants.{Level}
 use Rattle.search.specs.declared.Planned.{Planned}
+use Rattle.search.specs.declared.Terms.{Terms}
 use Rattle.search.specs.declared.Way.{Way}
 use Rattle.search.proofs.AllTurns
 
 -- ---- a finished build
 
-module _ (kind n : ℕ) (wanted : List ℤ) (w : World) (f : Finishes kind n wanted w) where
+module _ (kind n : ℕ) (wanted : List ℤ) (S C : ℕ) (w : World) (f : Finishes (termsOf kind n wanted (allGroups kind n) S C) w) where
   -- each stack has a road, and its entry is the fewest turns modulo 3
   entries : (s : List ℤ) → isStack kind n s ≡ true
       → (d : ℕ) × Fewest kind n s wanted d × (entryAt (joined (w .segments)) (rankOf kind n s) ≡ d % 3)
@@ -52,13 +54,13 @@ module _ (kind n : ℕ) (wanted : List ℤ) (w : World) (f : Finishes kind n wan
   greatest : (s : List ℤ) (d : ℕ) → isStack kind n s ≡ true → Fewest kind n s wanted d → d ≤ levelOf (w .job .phase)
   greatest = f .greatest
 
-  same-terms : (w .job .kind ≡ kind) × (w .job .n ≡ n) × (w .job .wanted ≡ wanted) × (w .job .groups ≡ allGroups kind n)
-  same-terms = (f .given-kind, f .given-n, f .given-wanted, f .given-groups)
+  same-terms : w .job .terms ≡ record { kind = kind; n = n; wanted = wanted; groups = allGroups kind n; size = S; room = C }
+  same-terms = f .given-terms
 
   -- Plan refuses no stack, arrives, no road is shorter, and 30 turns suffice
   module _ (given : List ℤ) (list : List ℕ) (stack : isStack kind n given ≡ true) (long : 254 ≤ length list) where
     planned : List ℕ × Planned
-    planned = planOf (w .job .kind) (w .job .n) (w .job .wanted) given (w .job .groups) (joined (w .segments)) list
+    planned = planOf (w .job .terms .kind) (w .job .terms .n) (w .job .terms .wanted) given (w .job .terms .groups) (joined (w .segments)) list
 
     plans : Plans w given list
     plans = f .plans given list stack long
@@ -67,11 +69,11 @@ module _ (kind n : ℕ) (wanted : List ℤ) (w : World) (f : Finishes kind n wan
     unfolding planned
     accepts = plans .accepts
 
-    arrives : Road (w .job .kind) (w .job .n) (take (planned .1 .turns) (planned .0)) given (w .job .wanted)
+    arrives : Road (w .job .terms .kind) (w .job .terms .n) (take (planned .1 .turns) (planned .0)) given (w .job .terms .wanted)
     unfolding planned
     arrives = plans .arrives
 
-    shortest : Fewest (w .job .kind) (w .job .n) given (w .job .wanted) (planned .1 .turns)
+    shortest : Fewest (w .job .terms .kind) (w .job .terms .n) given (w .job .terms .wanted) (planned .1 .turns)
     unfolding planned
     shortest = plans .shortest
 
@@ -82,14 +84,18 @@ module _ (kind n : ℕ) (wanted : List ℤ) (w : World) (f : Finishes kind n wan
 -- ---- every list of calls
 
 module _ (kind n : ℕ) (wanted : List ℤ) (S C : ℕ) (segments : List (List ℕ)) (log changed : List ℕ)
-    (begins : beginRefusal kind n wanted (allGroups kind n) S C ≡ 0) (buffers : Buffers kind n S C segments log) where
-  start : World
-  start = record { job = begun kind n wanted (allGroups kind n) S C; segments = segments; log = log; changed = changed }
+    (begins : beginRefusal (termsOf kind n wanted (allGroups kind n) S C) ≡ 0)
+    (buffers : Buffers (termsOf kind n wanted (allGroups kind n) S C) segments log) where
+  abbrev terms : Terms
+  terms = termsOf kind n wanted (allGroups kind n) S C
 
-  module _ (calls : List (Call (rightLengths kind n S C))) where
-    promise : Promise kind n wanted (rightLengths kind n S C) start calls
+  start : World
+  start = record { job = begun terms; segments = segments; log = log; changed = changed }
+
+  module _ (calls : List (Call (rightLengths terms))) where
+    promise : Promise terms (rightLengths terms) start calls
     unfolding WholeBuild start
-    promise = AllTurns.whole-build kind n wanted S C segments log changed begins buffers calls
+    promise = AllTurns.whole-build terms segments log changed begins refl buffers calls
 
     by-close : isFinished (after start calls .job .phase) ≡ true → FinishedByClose start calls
     by-close = promise .by-close
@@ -97,22 +103,22 @@ module _ (kind n : ℕ) (wanted : List ℤ) (S C : ℕ) (segments : List (List �
     since-close : FinishedByClose start calls → isFinished (after start calls .job .phase) ≡ true
     since-close = promise .since-close
 
-    finishes : isFinished (after start calls .job .phase) ≡ true → Finishes kind n wanted (after start calls)
+    finishes : isFinished (after start calls .job .phase) ≡ true → Finishes terms (after start calls)
     finishes = promise .finishes
 
-    continues : isFinished (after start calls .job .phase) ≡ false → Continues (rightLengths kind n S C) (after start calls)
+    continues : isFinished (after start calls .job .phase) ≡ false → Continues (rightLengths terms) (after start calls)
     continues = promise .continues
 
     -- no list brings the job past level 31, or has a Close refused 14
     levels : (d : ℕ) → after start calls .job .phase ≡ Level d → d ≤ 31
     levels = promise .levels
 
-    closes : (way : Way) → outcome {right = rightLengths kind n S C} (after start calls) (doClose way) .refusal ≡ 14 → ⊥
+    closes : (way : Way) → outcome {right = rightLengths terms} (after start calls) (doClose way) .refusal ≡ 14 → ⊥
     closes = promise .closes
 
-    ends : (more : List (Call (rightLengths kind n S C))) × (isFinished (after start (calls ++ more) .job .phase) ≡ true)
+    ends : (more : List (Call (rightLengths terms))) × (isFinished (after start (calls ++ more) .job .phase) ≡ true)
     ends = promise .ends
 
-    stays : (more : List (Call (rightLengths kind n S C))) → isFinished (after start calls .job .phase) ≡ true
+    stays : (more : List (Call (rightLengths terms))) → isFinished (after start calls .job .phase) ≡ true
         → isFinished (after start (calls ++ more) .job .phase) ≡ true
     stays = promise .stays

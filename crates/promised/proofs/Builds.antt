@@ -13,23 +13,25 @@ use Rattle.stacks.specs.Stack.{isStack, stackCount}
 use Rattle.search.specs.Begin.{begun}
 use Rattle.search.specs.Build.{World, Lengths, Call, outcome, after, isLentOwn, loadedAs, CarriesOn, doClose}
 use Rattle.search.specs.Entries.{bytesFor, entryAt, seenIn}
-use Rattle.search.specs.JobState.{beginRefusal, segmentCountOf, stackCountAt, passedOf, waitingOf, countOf, isSwept, isFinished, isReverse, levelOf}
+use Rattle.search.specs.JobState.{segmentCountOf, stackCountAt, passedOf, waitingOf, countOf, isSwept, isFinished, isReverse, levelOf}
 use Rattle.search.specs.Plan.{planOf}
 use Rattle.search.specs.Promise.{rightBytes, rightWords, rightLengths, Continues, FinishedByClose, Buffers}
 use Rattle.search.specs.PromiseBy.{RoadIn, FewestIn, CountsIn, PlansBy, FinishesBy, AtEnd, PromiseBy, WholeBuildBy, PlanArrives}
 use Rattle.search.specs.Segments.{segmentCount, stackCountIn, joined}
+use Rattle.search.specs.Terms.{beginRefusal, termsOf}
 use Rattle.search.specs.declared.Phase.the-variants.{Level}
 use Rattle.search.specs.declared.Planned.{Planned}
+use Rattle.search.specs.declared.Terms.{Terms}
 use Rattle.search.specs.declared.Way.{Way}
 use Rattle.search.proofs.Finishing
 use Rattle.search.proofs.WholeBuild
 
 -- buffers of the right lengths, whatever they hold
-buffers-from : {kind n S C : ℕ} {segments : List (List ℕ)} {log : List ℕ}
+buffers-from : {kind n : ℕ} {wanted : List ℤ} {groups S C : ℕ} {segments : List (List ℕ)} {log : List ℕ}
     → length segments ≡ segmentCount (stackCount kind n) S
     → ((j : ℕ) → j < segmentCount (stackCount kind n) S → length (getD segments j []) ≡ bytesFor (stackCountIn (stackCount kind n) S j))
     → length log ≡ segmentCount (stackCount kind n) S * C
-    → Buffers kind n S C segments log
+    → Buffers (termsOf kind n wanted groups S C) segments log
 unfolding rightBytes rightWords
 buffers-from some each area = record { some = some; each = each; area = area }
 
@@ -58,14 +60,18 @@ continues-is : {right : Lengths} {w : World} → Continues right w
     → (call : Call right) × (isLentOwn call ≡ true) × (outcome w call .refusal ≡ 0) × CarriesOn w (outcome w call .world)
 continues-is c = (c .call, c .lent-own, c .accepted, c .carries)
 
-module _ (kind n groups : ℕ) (wanted : List ℤ) where
+module _ (kind n : ℕ) (wanted : List ℤ) (groups S C : ℕ) where
+  -- what Begin is given
+  abbrev given-terms : Terms
+  given-terms = termsOf kind n wanted groups S C
+
   -- some stack needs exactly d turns of the set
   Deep : ℕ → Type 0
   Deep d = (s : List ℤ) × (isStack kind n s ≡ true) × FewestIn kind n groups s wanted d
 
   -- ---- a finished build
 
-  module _ (w : World) (f : FinishesBy kind n groups wanted w) where
+  module _ (w : World) (f : FinishesBy given-terms w) where
     -- an entry is the fewest turns modulo 3, or 3 and there is no road
     entries : (s : List ℤ) → isStack kind n s ≡ true
         → ((d : ℕ) × FewestIn kind n groups s wanted d × (entryAt (joined (w .segments)) (rankOf kind n s) ≡ d % 3))
@@ -93,16 +99,16 @@ module _ (kind n groups : ℕ) (wanted : List ℤ) where
     below : levelOf (w .job .phase) < 255
     below = f .below
 
-    same-terms : (w .job .kind ≡ kind) × (w .job .n ≡ n) × (w .job .wanted ≡ wanted) × (w .job .groups ≡ groups)
-    same-terms = (f .given-kind, f .given-n, f .given-wanted, f .given-groups)
+    same-terms : w .job .terms ≡ record { kind = kind; n = n; wanted = wanted; groups = groups; size = S; room = C }
+    same-terms = f .given-terms
 
     -- Plan with the job's own kind, n, wanted stack and set, and its segments joined; any stack, and any turn list of 254 or more
     module _ (given : List ℤ) (list : List ℕ) (stack : isStack kind n given ≡ true) (long : 254 ≤ length list) where
       planned : List ℕ × Planned
-      planned = planOf (w .job .kind) (w .job .n) (w .job .wanted) given (w .job .groups) (joined (w .segments)) list
+      planned = planOf (w .job .terms .kind) (w .job .terms .n) (w .job .terms .wanted) given (w .job .terms .groups) (joined (w .segments)) list
 
       module _ (ks : List ℕ) (road : RoadIn kind n groups ks given wanted) where
-        plans : PlansBy kind n groups wanted w given list
+        plans : PlansBy given-terms w given list
         plans = f .plans given list stack long ks road
 
         accepts : planned .1 .refusal ≡ 0
@@ -123,7 +129,7 @@ module _ (kind n groups : ℕ) (wanted : List ℤ) where
 
   -- ---- the other end
 
-  module _ (right : Lengths) (w : World) (e : AtEnd kind n groups wanted right w) where
+  module _ (right : Lengths) (w : World) (e : AtEnd given-terms right w) where
     end-level : w .job .phase ≡ Level 255
     end-level = e .level
 
@@ -151,14 +157,17 @@ module _ (kind n groups : ℕ) (wanted : List ℤ) where
 -- ---- every list of calls
 
 module _ (kind n : ℕ) (wanted : List ℤ) (groups S C : ℕ) (segments : List (List ℕ)) (log changed : List ℕ)
-    (begins : beginRefusal kind n wanted groups S C ≡ 0) (buffers : Buffers kind n S C segments log) where
-  start : World
-  start = record { job = begun kind n wanted groups S C; segments = segments; log = log; changed = changed }
+    (begins : beginRefusal (termsOf kind n wanted groups S C) ≡ 0) (buffers : Buffers (termsOf kind n wanted groups S C) segments log) where
+  abbrev terms : Terms
+  terms = termsOf kind n wanted groups S C
 
-  module _ (calls : List (Call (rightLengths kind n S C))) where
-    promise : PromiseBy kind n groups wanted (rightLengths kind n S C) start calls
+  start : World
+  start = record { job = begun terms; segments = segments; log = log; changed = changed }
+
+  module _ (calls : List (Call (rightLengths terms))) where
+    promise : PromiseBy terms (rightLengths terms) start calls
     unfolding WholeBuildBy start
-    promise = WholeBuild.whole-build-by kind n wanted groups S C segments log changed begins buffers calls
+    promise = WholeBuild.whole-build-by terms segments log changed begins buffers calls
 
     by-close : isFinished (after start calls .job .phase) ≡ true → FinishedByClose start calls
     by-close = promise .by-close
@@ -166,41 +175,41 @@ module _ (kind n : ℕ) (wanted : List ℤ) (groups S C : ℕ) (segments : List 
     since-close : FinishedByClose start calls → isFinished (after start calls .job .phase) ≡ true
     since-close = promise .since-close
 
-    finishes : isFinished (after start calls .job .phase) ≡ true → FinishesBy kind n groups wanted (after start calls)
+    finishes : isFinished (after start calls .job .phase) ≡ true → FinishesBy terms (after start calls)
     finishes = promise .finishes
 
     continues : isFinished (after start calls .job .phase) ≡ false
-        → (Continues (rightLengths kind n S C) (after start calls)) ⊎ (AtEnd kind n groups wanted (rightLengths kind n S C) (after start calls))
+        → (Continues (rightLengths terms) (after start calls)) ⊎ (AtEnd terms (rightLengths terms) (after start calls))
     continues = promise .continues
 
     -- a Close says 14 at that end alone
-    closes : (way : Way) → outcome {right = rightLengths kind n S C} (after start calls) (doClose way) .refusal ≡ 14
-        → AtEnd kind n groups wanted (rightLengths kind n S C) (after start calls)
+    closes : (way : Way) → outcome {right = rightLengths terms} (after start calls) (doClose way) .refusal ≡ 14
+        → AtEnd terms (rightLengths terms) (after start calls)
     closes = promise .closes
 
-    levels : (d : ℕ) → after start calls .job .phase ≡ Level d → (1 ≤ d) × (d ≤ 255) × Deep kind n groups wanted (d - 1)
+    levels : (d : ℕ) → after start calls .job .phase ≡ Level d → (1 ≤ d) × (d ≤ 255) × Deep kind n wanted groups S C (d - 1)
     unfolding Deep
     levels = promise .levels
 
     -- where no stack needs exactly 255 turns every list can be continued to a finished build; where one does none finishes, and every list can be
     -- continued to the other end
     ends : (((s : List ℤ) × (isStack kind n s ≡ true) × FewestIn kind n groups s wanted 255) → ⊥)
-        → (more : List (Call (rightLengths kind n S C))) × (isFinished (after start (calls ++ more) .job .phase) ≡ true)
+        → (more : List (Call (rightLengths terms))) × (isFinished (after start (calls ++ more) .job .phase) ≡ true)
     ends = promise .ends
 
     never-finished : (s : List ℤ) → isStack kind n s ≡ true → FewestIn kind n groups s wanted 255 → isFinished (after start calls .job .phase) ≡ false
     never-finished s stack fewest = promise .never-finished (s, stack, fewest)
 
     stands : (s : List ℤ) → isStack kind n s ≡ true → FewestIn kind n groups s wanted 255
-        → (more : List (Call (rightLengths kind n S C))) × AtEnd kind n groups wanted (rightLengths kind n S C) (after start (calls ++ more))
+        → (more : List (Call (rightLengths terms))) × AtEnd terms (rightLengths terms) (after start (calls ++ more))
     stands s stack fewest = promise .stands (s, stack, fewest)
 
-    stays : (more : List (Call (rightLengths kind n S C))) → isFinished (after start calls .job .phase) ≡ true
+    stays : (more : List (Call (rightLengths terms))) → isFinished (after start calls .job .phase) ≡ true
         → isFinished (after start (calls ++ more) .job .phase) ≡ true
     stays = promise .stays
 
-    stays-at-end : (more : List (Call (rightLengths kind n S C))) → AtEnd kind n groups wanted (rightLengths kind n S C) (after start calls)
-        → AtEnd kind n groups wanted (rightLengths kind n S C) (after start (calls ++ more))
+    stays-at-end : (more : List (Call (rightLengths terms))) → AtEnd terms (rightLengths terms) (after start calls)
+        → AtEnd terms (rightLengths terms) (after start (calls ++ more))
         × (after start (calls ++ more) ≡ loadedAs (after start (calls ++ more)) (after start calls))
     stays-at-end = promise .stays-at-end
 

@@ -21,7 +21,7 @@ use Rattle.search.specs.Close.{closeOf}
 use Rattle.search.specs.Drive.{buildOf}
 use Rattle.search.specs.Entries.{entryAt}
 use Rattle.search.specs.Expand.{isParent, childrenOf, expandRefusal, expandOf}
-use Rattle.search.specs.JobState.{countLimit, beginRefusal, movesOf, segmentCountOf, stackCountAt, passedOf, waitingOf, countOf, levelOf, isBlanking, isFinished, inForward, inReverse, isLoaded, isCoherent}
+use Rattle.search.specs.JobState.{countLimit, movesOf, segmentCountOf, stackCountAt, passedOf, waitingOf, countOf, levelOf, isBlanking, isFinished, inForward, inReverse, isLoaded, isCoherent}
 use Rattle.search.specs.Load.{changedOf, loadOf}
 use Rattle.search.specs.Logs.{lacksRoom}
 use Rattle.search.specs.Look.{lookOf}
@@ -31,6 +31,7 @@ use Rattle.search.specs.PromiseCalls.{RefusedSame, isInside, wrongRefusal, Refu
 use Rattle.search.specs.Read.{readOf}
 use Rattle.search.specs.Settle.{settleOf}
 use Rattle.search.specs.Sweep.{sweepOf}
+use Rattle.search.specs.Terms.{beginRefusal, termsOf}
 use Rattle.search.specs.declared.Job.{Job}
 use Rattle.search.specs.declared.Phase.the-variants.{Blanking}
 use Rattle.search.specs.declared.Way.{Way}
@@ -66,18 +67,13 @@ turn-keeps : (kind n : ℕ) (s : List ℤ) (k : ℕ)
 turn-keeps = Refused.refused-keeps .turn
 
 begin-keeps : (kind n : ℕ) (wanted : List ℤ) (groups S C : ℕ)
-    → (let a = beginOf kind n wanted groups S C in
+    → (let a = beginOf (termsOf kind n wanted groups S C) in
     (a .refusal ≡ 0 → ⊥)
     → a
     ≡ record {
       refusal = a .refusal;
       job = record {
-        kind = 0;
-        n = 0;
-        wanted = replicate 12 (pos 0);
-        groups = 0;
-        size = 0;
-        room = 0;
+        terms = record { kind = 0; n = 0; wanted = replicate 12 (pos 0); groups = 0; size = 0; room = 0 };
         phase = Blanking;
         way = Forward;
         loaded = 64;
@@ -88,7 +84,7 @@ begin-keeps : (kind n : ℕ) (wanted : List ℤ) (groups S C : ℕ)
       };
     })
 unfolding begun
-begin-keeps = Refused.refused-keeps .begin
+begin-keeps kind n wanted groups S C = Refused.refused-keeps .begin (termsOf kind n wanted groups S C)
 
 blank-keeps : (job : Job) (j : ℕ) (segment : List ℕ)
     → (let o = blankOf job j segment in (o .1 .refusal ≡ 0 → ⊥) → o ≡ (segment, record { refusal = o .1 .refusal; job = job }))
@@ -127,9 +123,9 @@ plan-keeps = Refused.refused-keeps .plan
 
 -- its job is that of a refused Begin
 build-keeps : (kind n : ℕ) (wanted : List ℤ) (groups S C : ℕ) (table log list : List ℕ)
-    → (let o = buildOf kind n wanted groups S C table log list in
-    (o .3 .refusal ≡ 0 → ⊥) → o ≡ (table, log, list, record { refusal = o .3 .refusal; job = begun 0 0 (replicate 12 (pos 0)) 0 0 0 }))
-build-keeps = Refused.refused-keeps .build
+    → (let o = buildOf (termsOf kind n wanted groups S C) table log list in
+    (o .3 .refusal ≡ 0 → ⊥) → o ≡ (table, log, list, record { refusal = o .3 .refusal; job = begun (termsOf 0 0 (replicate 12 (pos 0)) 0 0 0) }))
+build-keeps kind n wanted groups S C = Refused.refused-keeps .build (termsOf kind n wanted groups S C)
 
 -- ---- calls that are wrong in every build
 
@@ -157,31 +153,31 @@ unfolding wrongRefusal
 wrong-is right job j segment log list listed = (refl, refl, refl, refl, refl, refl)
 
 module _ (kind n : ℕ) (wanted : List ℤ) (groups S C : ℕ) (segments : List (List ℕ)) (log changed : List ℕ)
-    (begins : beginRefusal kind n wanted groups S C ≡ 0) (buffers : Buffers kind n S C segments log)
-    (calls : List (Call (rightLengths kind n S C))) where
+    (begins : beginRefusal (termsOf kind n wanted groups S C) ≡ 0) (buffers : Buffers (termsOf kind n wanted groups S C) segments log)
+    (calls : List (Call (rightLengths (termsOf kind n wanted groups S C)))) where
   end : World
-  end = after (record { job = begun kind n wanted groups S C; segments = segments; log = log; changed = changed }) calls
+  end = after (record { job = begun (termsOf kind n wanted groups S C); segments = segments; log = log; changed = changed }) calls
 
-  refuses-wrong : RefusesWrong (rightLengths kind n S C) end
+  refuses-wrong : RefusesWrong (rightLengths (termsOf kind n wanted groups S C)) end
   unfolding WrongRefused end
-  refuses-wrong = Steps.wrong-refused kind n wanted groups S C segments log changed begins buffers calls
+  refuses-wrong = Steps.wrong-refused (termsOf kind n wanted groups S C) segments log changed begins buffers calls
 
   -- a segment that is not there, a buffer of a wrong length, a list of a wrong length
-  refuses-outside : (call : Call (rightLengths kind n S C)) → isInside (segmentCountOf (end .job)) call ≡ false
+  refuses-outside : (call : Call (rightLengths (termsOf kind n wanted groups S C))) → isInside (segmentCountOf (end .job)) call ≡ false
       → outcome end call .refusal ≡ wrongRefusal (end .job) call
   refuses-outside = refuses-wrong .outside
 
-  refuses-buffers : (call : Call (rightLengths kind n S C)) → isLentOwn call ≡ false → outcome end call .refusal ≡ wrongRefusal (end .job) call
+  refuses-buffers : (call : Call (rightLengths (termsOf kind n wanted groups S C))) → isLentOwn call ≡ false → outcome end call .refusal ≡ wrongRefusal (end .job) call
   refuses-buffers = refuses-wrong .buffers
 
-  refuses-loads : (b : ℕ) (segment : Lent (rightLengths kind n S C .bytes b)) (list : List ℕ)
+  refuses-loads : (b : ℕ) (segment : Lent (rightLengths (termsOf kind n wanted groups S C) .bytes b)) (list : List ℕ)
       → (length list ≡ listBytes (stackCountAt (end .job) b) → ⊥)
-      → (let call : Call (rightLengths kind n S C) = doLoad b segment list in outcome end call .refusal ≡ wrongRefusal (end .job) call)
+      → (let call : Call (rightLengths (termsOf kind n wanted groups S C)) = doLoad b segment list in outcome end call .refusal ≡ wrongRefusal (end .job) call)
   refuses-loads = refuses-wrong .loads
 
-  refuses-sweeps : (j : ℕ) (segment : Lent (rightLengths kind n S C .bytes j)) (list : List ℕ)
+  refuses-sweeps : (j : ℕ) (segment : Lent (rightLengths (termsOf kind n wanted groups S C) .bytes j)) (list : List ℕ)
       → (length list ≡ listBytes (stackCountAt (end .job) (end .job .loaded)) → ⊥)
-      → (let call : Call (rightLengths kind n S C) = doSweep j segment (otherList list) in outcome end call .refusal ≡ wrongRefusal (end .job) call)
+      → (let call : Call (rightLengths (termsOf kind n wanted groups S C)) = doSweep j segment (otherList list) in outcome end call .refusal ≡ wrongRefusal (end .job) call)
   refuses-sweeps = refuses-wrong .sweeps
 
 -- ---- what Expand appends
@@ -196,11 +192,11 @@ module _ (job : Job) (j : ℕ) (segment log log′ : List ℕ) (places : length 
   appends-answer = (appends .segments, appends .answers)
 
   appends-same : (t i : ℕ) → waitingOf job t ≤ i → i < waitingOf (expandOf job j segment log .2 .job) t
-      → getD (expandOf job j segment log .1) (t * job .room + i) 0 ≡ getD (expandOf job j segment log′ .1) (t * job .room + i) 0
+      → getD (expandOf job j segment log .1) (t * job .terms .room + i) 0 ≡ getD (expandOf job j segment log′ .1) (t * job .terms .room + i) 0
   appends-same = appends .appended
 
   appends-only : (p : ℕ)
-      → ((t i : ℕ) → t < segmentCountOf job → waitingOf job t ≤ i → i < waitingOf (expandOf job j segment log .2 .job) t → p ≡ t * job .room + i → ⊥)
+      → ((t i : ℕ) → t < segmentCountOf job → waitingOf job t ≤ i → i < waitingOf (expandOf job j segment log .2 .job) t → p ≡ t * job .terms .room + i → ⊥)
       → getD (expandOf job j segment log .1) p 0 ≡ getD log p 0
   appends-only = appends .kept
 
@@ -213,7 +209,7 @@ module _ (job : Job) (j : ℕ) (segment log log′ : List ℕ) (places : length 
 -- places than children of that stack that fall there
 module _ (job : Job) (j : ℕ) (segment : List ℕ) (t : ℕ) where
   lacks : ℕ → Bool
-  lacks = lacksRoom (job .size) (job .room) j (job .waiting) (childrenOf (job .kind) (job .n) (movesOf job) (j * job .size + passedOf job j))
+  lacks = lacksRoom (job .terms .size) (job .terms .room) j (job .waiting) (childrenOf (job .terms .kind) (job .terms .n) (movesOf job) (j * job .terms .size + passedOf job j))
 
   must-is : MustWait job j segment t
       → (isParent (levelOf (job .phase)) (entryAt segment (passedOf job j)) ≡ true) × (t < segmentCountOf job) × (lacks t ≡ true)
@@ -245,7 +241,7 @@ module _ (job : Job) (j : ℕ) (log log′ : List ℕ) (long : length log ≡ le
       → (expandOf job j segment log .0 ≡ expandOf job j segment log′ .0) × (expandOf job j segment log .2 ≡ expandOf job j segment log′ .2)
   expand-log-free segment = LogReads.expand-log-free job j segment log log′ long
 
-  module _ (stretch : take (job .room) (drop (j * job .room) log) ≡ take (job .room) (drop (j * job .room) log′)) where
+  module _ (stretch : take (job .terms .room) (drop (j * job .terms .room) log) ≡ take (job .terms .room) (drop (j * job .terms .room) log′)) where
     settle-log-own : (segment : List ℕ) → settleOf job j segment log ≡ settleOf job j segment log′
     settle-log-own = LogReads.settle-log-own job j log log′ long stretch
 
@@ -254,9 +250,9 @@ module _ (job : Job) (j : ℕ) (log log′ : List ℕ) (long : length log ≡ le
 
 -- Begin's job is coherent, Blank, Load and Close keep coherence, and so do Settle, Expand and Sweep where the count has room for the segment's
 -- stacks
-begin-coherent : (kind n : ℕ) (wanted : List ℤ) (groups S C : ℕ) → beginOf kind n wanted groups S C .refusal ≡ 0
-    → isCoherent (beginOf kind n wanted groups S C .job) ≡ true
-begin-coherent = CallsCoherent.begin-coherent
+begin-coherent : (kind n : ℕ) (wanted : List ℤ) (groups S C : ℕ) → beginOf (termsOf kind n wanted groups S C) .refusal ≡ 0
+    → isCoherent (beginOf (termsOf kind n wanted groups S C) .job) ≡ true
+begin-coherent kind n wanted groups S C = CallsCoherent.begin-coherent (termsOf kind n wanted groups S C)
 
 module _ (job : Job) (coherent : isCoherent job ≡ true) where
   blank-coherent : (j : ℕ) (segment : List ℕ) → isCoherent (blankOf job j segment .1 .job) ≡ true

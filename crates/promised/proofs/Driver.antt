@@ -1,5 +1,5 @@
 -- Build the whole table: each clause of `build-ends`, for all arguments that are not refused, and `build-finishes`.
-use mathlib.Core.Path.{_≡_}
+use mathlib.Core.Path.{_≡_, refl}
 use mathlib.Core.Bool.{true}
 use mathlib.Core.List.{List}
 use Prim.Native.Nat.{ℕ}
@@ -13,40 +13,46 @@ use Rattle.search.specs.JobState.{isFinished}
 use Rattle.search.specs.Promise.{rightLengths, Finishes}
 use Rattle.search.specs.PromiseBy.{FewestIn, FinishesBy, AtEnd}
 use Rattle.search.specs.Segments.{joined}
+use Rattle.search.specs.Terms.{termsOf}
+use Rattle.search.specs.declared.Terms.{Terms}
 use Rattle.search.proofs.WholeTable
 
 module _ (kind n : ℕ) (wanted : List ℤ) (groups S C : ℕ) (table log list : List ℕ)
-    (accepted : buildRefusal kind n wanted groups S C (length table) (length log) (length list) ≡ 0) where
-  end : World
-  end = built kind n wanted groups S C table log list
+    (accepted : buildRefusal (termsOf kind n wanted groups S C) (length table) (length log) (length list) ≡ 0) where
+  abbrev terms : Terms
+  terms = termsOf kind n wanted groups S C
 
-  builds : Builds kind n wanted groups S C table log list
-  builds = WholeTable.build-ends kind n wanted groups S C table log list accepted
+  end : World
+  end = built terms table log list
+
+  builds : Builds terms table log list
+  builds = WholeTable.build-ends terms table log list accepted
 
   -- what it leaves in the table, the log area and the list, and its job
-  leaves : buildOf kind n wanted groups S C table log list
-      ≡ (joined (end .segments), end .log, ended kind n wanted groups S C table log list .list, record { refusal = 0; job = end .job })
+  leaves : buildOf terms table log list
+      ≡ (joined (end .segments), end .log, ended terms table log list .list, record { refusal = 0; job = end .job })
   unfolding end
   leaves = builds .leaves
 
   -- it has finished where no stack needs exactly 255 turns, and stands at the other end where one does
   finishes : (((s : List ℤ) × (isStack kind n s ≡ true) × FewestIn kind n groups s wanted 255) → ⊥)
-      → (isFinished (end .job .phase) ≡ true) × FinishesBy kind n groups wanted end
+      → (isFinished (end .job .phase) ≡ true) × FinishesBy terms end
   unfolding end
   finishes = builds .finishes
 
   stands : (s : List ℤ) → isStack kind n s ≡ true → FewestIn kind n groups s wanted 255
-      → AtEnd kind n groups wanted (rightLengths kind n S C) end
+      → AtEnd terms (rightLengths terms) end
   unfolding end
   stands s stack fewest = builds .stands (s, stack, fewest)
 
   lengths : (length (joined (end .segments)) ≡ length table) × (length (end .log) ≡ length log)
-      × (length (ended kind n wanted groups S C table log list .list) ≡ length list)
+      × (length (ended terms table log list .list) ≡ length list)
   unfolding end
   lengths = (builds .table-length, builds .log-length, builds .list-length)
 
 -- by the full set it ends in a finished build
 build-finishes : (kind n : ℕ) (wanted : List ℤ) (S C : ℕ) (table log list : List ℕ)
-    → buildRefusal kind n wanted (allGroups kind n) S C (length table) (length log) (length list) ≡ 0
-    → (let w = built kind n wanted (allGroups kind n) S C table log list in (isFinished (w .job .phase) ≡ true) × Finishes kind n wanted w)
-build-finishes = WholeTable.build-finishes
+    → (let terms = termsOf kind n wanted (allGroups kind n) S C in
+    buildRefusal terms (length table) (length log) (length list) ≡ 0
+    → (let w = built terms table log list in (isFinished (w .job .phase) ≡ true) × Finishes terms w))
+build-finishes kind n wanted S C table log list = WholeTable.build-finishes (termsOf kind n wanted (allGroups kind n) S C) table log list refl

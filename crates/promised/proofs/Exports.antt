@@ -15,6 +15,7 @@ use Rattle.search.specs.Look.{lookOf}
 use Rattle.search.specs.Plan.{planOf}
 use Rattle.search.specs.Settle.{settleOf}
 use Rattle.search.specs.Sweep.{sweepOf}
+use Rattle.search.specs.Terms.{termsOf}
 use Rattle.search.specs.declared.Job.{Job}
 use Rattle.tariff.specs.Price.{priceOf}
 use Rattle.tariff.specs.declared.Tariff.{Tariff}
@@ -107,7 +108,7 @@ module _ (m : HokrundJob) where
       sweeps p = p
 
   looks : (j : ℕ) (log : List ℕ) {r : List ℕ × HokrundLook} → Looks m j log r
-      → Mirrored m (λ job. lookedAt (j * job .room) (lookOf job j log)) (λ o. o .1 .refusal)
+      → Mirrored m (λ job. lookedAt (j * job .terms .room) (lookOf job j log)) (λ o. o .1 .refusal)
       (λ n. ([], record { refusal = n; start = 0; length = 0 })) r
   looks j log p = p
 
@@ -143,12 +144,12 @@ no-build r =
 module _ (kind n : ℕ) (wanted : HokrundStack) where
   module _ (groups size room : ℕ) where
     begins : {r : HokrundAnswer} → Begins kind n wanted groups size room r
-        → Given (answerOf (beginOf kind n (wanted .places) groups size room)) (λ a. a .refusal) no-build r
+        → Given (answerOf (beginOf (termsOf kind n (wanted .places) groups size room))) (λ a. a .refusal) no-build r
     unfolding no-build
     begins p = p
 
     builds : (table log list : List ℕ) {r : List ℕ × List ℕ × List ℕ × HokrundAnswer} → Builds kind n wanted groups size room table log list r
-        → Given (threeLent answerOf (buildOf kind n (wanted .places) groups size room table log list)) (λ o. o .3 .refusal)
+        → Given (threeLent answerOf (buildOf (termsOf kind n (wanted .places) groups size room) table log list)) (λ o. o .3 .refusal)
         (λ q. (table, log, list, no-build q)) r
     unfolding no-build
     builds table log list p = p

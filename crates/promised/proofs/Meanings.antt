@@ -23,7 +23,7 @@ use Rattle.search.specs.Changed.{listBytes}
 use Rattle.search.specs.Close.{isSweptWhole, closeOf}
 use Rattle.search.specs.Entries.{bytesFor, entryAt, unseen, seenIn}
 use Rattle.search.specs.Expand.{expandOf}
-use Rattle.search.specs.JobState.{beginRefusal, segmentCountOf, stackCountAt, passedOf, waitingOf, isLoaded, isSwept, directed}
+use Rattle.search.specs.JobState.{segmentCountOf, stackCountAt, passedOf, waitingOf, isLoaded, isSwept, directed}
 use Rattle.search.specs.Load.{loadOf}
 use Rattle.search.specs.Look.{lookOf}
 use Rattle.search.specs.Promise.{rightBytes, rightWords, rightLengths}
@@ -31,7 +31,9 @@ use Rattle.search.specs.PromiseBy.{RoadIn, FewestIn, CountsIn}
 use Rattle.search.specs.Segments.{segmentCount, stackCountIn}
 use Rattle.search.specs.Settle.{settleOf}
 use Rattle.search.specs.Sweep.{sweepOf}
+use Rattle.search.specs.Terms.{beginRefusal, termsOf}
 use Rattle.search.specs.declared.Job.{Job}
+use Rattle.search.specs.declared.Terms.{Terms}
 use Rattle.search.specs.declared.Phase.the-variants.{Blanking}
 use Rattle.search.specs.declared.Way.{Way}
 use Rattle.search.specs.declared.Way.the-variants.{Forward}
@@ -166,17 +168,12 @@ precedes-is n a b = refl
 -- ---- a build
 
 -- Begin's job is the one that the claims start from
-begins : (kind n : ℕ) (wanted : List ℤ) (groups S C : ℕ) → beginRefusal kind n wanted groups S C ≡ 0
-    → beginOf kind n wanted groups S C
+begins : (kind n : ℕ) (wanted : List ℤ) (groups S C : ℕ) → beginRefusal (termsOf kind n wanted groups S C) ≡ 0
+    → beginOf (termsOf kind n wanted groups S C)
     ≡ record {
       refusal = 0;
       job = record {
-        kind = kind;
-        n = n;
-        wanted = wanted;
-        groups = groups;
-        size = S;
-        room = C;
+        terms = record { kind = kind; n = n; wanted = wanted; groups = groups; size = S; room = C };
         phase = Blanking;
         way = Forward;
         loaded = 64;
@@ -190,16 +187,17 @@ unfolding beginOf begun
 begins kind n wanted groups S C accepted = rw accepted refl
 
 -- the right lengths: ⌈m/4⌉ bytes of segment j, and G × C numbers of the log area
-right-bytes : (kind n S j : ℕ) → rightBytes kind n S j ≡ bytesFor (stackCountIn (stackCount kind n) S j)
+right-bytes : (kind n : ℕ) (wanted : List ℤ) (groups S C j : ℕ)
+    → rightBytes (termsOf kind n wanted groups S C) j ≡ bytesFor (stackCountIn (stackCount kind n) S j)
 unfolding rightBytes
-right-bytes kind n S j = refl
+right-bytes kind n wanted groups S C j = refl
 
-right-words : (kind n S C : ℕ) → rightWords kind n S C ≡ segmentCount (stackCount kind n) S * C
+right-words : (kind n : ℕ) (wanted : List ℤ) (groups S C : ℕ) → rightWords (termsOf kind n wanted groups S C) ≡ segmentCount (stackCount kind n) S * C
 unfolding rightWords
-right-words kind n S C = refl
+right-words kind n wanted groups S C = refl
 
-right-lengths : (kind n S C : ℕ) → rightLengths kind n S C ≡ record { bytes = rightBytes kind n S; words = rightWords kind n S C }
-right-lengths kind n S C = refl
+right-lengths : (terms : Terms) → rightLengths terms ≡ record { bytes = rightBytes terms; words = rightWords terms }
+right-lengths terms = refl
 
 -- a buffer is lent that is the build's own, or any other of a wrong length
 module _ (right : ℕ) where
@@ -372,12 +370,7 @@ loaded-as : (x w : World)
     → loadedAs x w
     ≡ record {
       job = record {
-        kind = w .job .kind;
-        n = w .job .n;
-        wanted = w .job .wanted;
-        groups = w .job .groups;
-        size = w .job .size;
-        room = w .job .room;
+        terms = w .job .terms;
         phase = w .job .phase;
         way = w .job .way;
         loaded = x .job .loaded;

@@ -13,12 +13,14 @@ use Rattle.stacks.specs.Turn.{lastTurn, turnsIn, turnsFrom}
 use Rattle.search.specs.Begin.{begun}
 use Rattle.search.specs.Build.{World, Call, after}
 use Rattle.search.specs.Entries.{bytesFor}
-use Rattle.search.specs.JobState.{beginRefusal, isFinished}
+use Rattle.search.specs.JobState.{isFinished}
 use Rattle.search.specs.Plan.{planOf}
 use Rattle.search.specs.Promise.{rightBytes, rightWords, rightLengths}
 use Rattle.search.specs.PromiseBy.{RoadIn, FewestIn}
 use Rattle.search.specs.Segments.{segmentCount, stackCountIn, joined}
+use Rattle.search.specs.Terms.{beginRefusal, termsOf}
 use Rattle.search.specs.declared.Planned.{Planned}
+use Rattle.search.specs.declared.Terms.{Terms}
 use Rattle.tariff.specs.Price.{costOf, priceOf}
 use Rattle.tariff.specs.Promise.{PlanFirst, PriceKeeps, PricePlans, Prices, PriceFinished, OnePrice, OnePriceEach, PricedTurns, RoundedOnce, Rearranged, empty, keep, swap, again, AnyOrder, SplitAlike}
 use Rattle.tariff.specs.Tariffs.{tariffLines, isLine, covers, linesAt, hasLine, hasNoSecond, coverRefusal, tariffRefusal, priceAt}
@@ -170,32 +172,35 @@ module _ (kind n : ℕ) (wanted given : List ℤ) (groups : ℕ) (table list : L
 
 -- by any set, in any segments and with any calls
 module _ (kind n : ℕ) (wanted : List ℤ) (groups S C : ℕ) (segments : List (List ℕ)) (log changed : List ℕ)
-    (begins : beginRefusal kind n wanted groups S C ≡ 0)
+    (begins : beginRefusal (termsOf kind n wanted groups S C) ≡ 0)
     (some : length segments ≡ segmentCount (stackCount kind n) S)
     (each : (j : ℕ) → j < segmentCount (stackCount kind n) S → length (getD segments j []) ≡ bytesFor (stackCountIn (stackCount kind n) S j))
-    (area : length log ≡ segmentCount (stackCount kind n) S * C) (calls : List (Call (rightLengths kind n S C))) where
+    (area : length log ≡ segmentCount (stackCount kind n) S * C) (calls : List (Call (rightLengths (termsOf kind n wanted groups S C)))) where
+  abbrev terms : Terms
+  terms = termsOf kind n wanted groups S C
+
   abbrev w : World
-  w = after (record { job = begun kind n wanted groups S C; segments = segments; log = log; changed = changed }) calls
+  w = after (record { job = begun terms; segments = segments; log = log; changed = changed }) calls
 
   -- for any stack, any list of at least 254 turns and any tariff
   module _ (finished : isFinished (w .job .phase) ≡ true) (given : List ℤ) (list : List ℕ) (tariff : Tariff) (stack : isStack kind n given ≡ true)
       (long : 254 ≤ length list) where
     abbrev out : List ℕ × Priced
-    out = priceOf (w .job .kind) (w .job .n) (w .job .wanted) given (w .job .groups) (joined (w .segments)) list tariff
+    out = priceOf (w .job .terms .kind) (w .job .terms .n) (w .job .terms .wanted) given (w .job .terms .groups) (joined (w .segments)) list tariff
 
     -- 20 where no turns of the set lead to the wanted stack
     refused-20 : ((ks : List ℕ) → all (isMove (turnsIn kind n groups)) ks ≡ true → turnsFrom kind ks given ≡ wanted → ⊥) → out .1 .refusal ≡ 20
     unfolding PriceFinished rightBytes rightWords
     refused-20 none =
-        PriceLaws.price-finished kind n wanted groups S C segments log changed begins (record { some = some; each = each; area = area }) calls finished
+        PriceLaws.price-finished terms segments log changed begins (record { some = some; each = each; area = area }) calls finished
         given list tariff stack long .1 (λ ks road. none ks (road .turns) (road .arrives))
 
     -- where some do
     module _ (ks : List ℕ) (moves : all (isMove (turnsIn kind n groups)) ks ≡ true) (leads : turnsFrom kind ks given ≡ wanted) where
-      prices : Prices kind n groups wanted w given list tariff
+      prices : Prices terms w given list tariff
       unfolding PriceFinished rightBytes rightWords
       prices =
-          PriceLaws.price-finished kind n wanted groups S C segments log changed begins (record { some = some; each = each; area = area }) calls finished
+          PriceLaws.price-finished terms segments log changed begins (record { some = some; each = each; area = area }) calls finished
           given list tariff stack long .0 ks (record { turns = moves; arrives = leads })
 
       -- it is refused for its tariff alone

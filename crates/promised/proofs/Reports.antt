@@ -17,6 +17,7 @@ use Rattle.stacks.specs.Turn.{isTurn, turnsFrom, Fewest}
 use Rattle.search.specs.Drive.{buildOf}
 use Rattle.search.specs.Entries.{entryAt, unseen, seenIn}
 use Rattle.search.specs.Segments.{isSegmentSize}
+use Rattle.search.specs.Terms.{termsOf}
 use Rattle.text.specs.Frame.{isFrame, paneOf, placesOf, kindIn, panesIn, wantedIn, sizeIn, fieldsRefusal, bytesRefusal, firstRefusal, firstOf, laterRefusal}
 use Rattle.text.specs.Hex.{isDigit, digitOf, digitChar, isByte, isPairs, bytesOf, hexOf, lineOf, numberFrom, numberOf, fourBytes}
 use Rattle.text.specs.Lines.{inFirst, linesOf}
@@ -252,7 +253,7 @@ panes = refl
 -- the frame's build: every size, and C is 16
 build-in : (kind n : ℕ) (wanted : List ℤ) (S : ℕ) (table : List ℕ)
     → (let bytes = tableBytes kind n in
-    let end = buildOf kind n wanted (reportGroups kind n) S 16 (take bytes table) (replicate (logWords kind n S) 0) (replicate (changedBytes kind n S) 0) in
+    let end = buildOf (termsOf kind n wanted (reportGroups kind n) S 16) (take bytes table) (replicate (logWords kind n S) 0) (replicate (changedBytes kind n S) 0) in
     builtIn kind n wanted S table ≡ (end .0 ++ drop bytes table, end .3 .job))
 unfolding builtIn
 build-in kind n wanted S table = refl

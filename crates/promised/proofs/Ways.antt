@@ -8,10 +8,12 @@ use lib.IntN.{ℤ}
 use Rattle.search.specs.Begin.{begun}
 use Rattle.search.specs.Build.{World, Call, outcome, after, doClose}
 use Rattle.search.specs.EitherWay.{SearchedWhole, SameLevel, EitherWay, SameClosed, EitherWayClosed}
-use Rattle.search.specs.JobState.{beginRefusal, segmentCountOf, stackCountAt, passedOf, waitingOf, isSwept, isReverse}
+use Rattle.search.specs.JobState.{segmentCountOf, stackCountAt, passedOf, waitingOf, isSwept, isReverse}
 use Rattle.search.specs.Promise.{rightLengths, Buffers}
 use Rattle.search.specs.PromiseBy.{AtEnd}
+use Rattle.search.specs.Terms.{beginRefusal, termsOf}
 use Rattle.search.specs.declared.Phase.the-variants.{Level}
+use Rattle.search.specs.declared.Terms.{Terms}
 use Rattle.search.specs.declared.Way.{Way}
 use Rattle.search.proofs.EitherWay as Either
 
@@ -25,19 +27,23 @@ searched-from : {d : ℕ} {w : World}
 searched-from level passed settled swept = record { level = level; passed = passed; settled = settled; swept = swept }
 
 module _ (kind n : ℕ) (wanted : List ℤ) (groups S C : ℕ) (segments segments′ : List (List ℕ)) (log log′ changed changed′ : List ℕ)
-    (begins : beginRefusal kind n wanted groups S C ≡ 0) (buffers : Buffers kind n S C segments log) (buffers′ : Buffers kind n S C segments′ log′) where
+    (begins : beginRefusal (termsOf kind n wanted groups S C) ≡ 0)
+    (buffers : Buffers (termsOf kind n wanted groups S C) segments log) (buffers′ : Buffers (termsOf kind n wanted groups S C) segments′ log′) where
+  abbrev terms : Terms
+  terms = termsOf kind n wanted groups S C
+
   start : World
-  start = record { job = begun kind n wanted groups S C; segments = segments; log = log; changed = changed }
+  start = record { job = begun terms; segments = segments; log = log; changed = changed }
 
   start′ : World
-  start′ = record { job = begun kind n wanted groups S C; segments = segments′; log = log′; changed = changed′ }
+  start′ = record { job = begun terms; segments = segments′; log = log′; changed = changed′ }
 
-  module _ (calls calls′ : List (Call (rightLengths kind n S C))) (d : ℕ) where
+  module _ (calls calls′ : List (Call (rightLengths terms))) (d : ℕ) where
     module _ (whole : SearchedWhole d (after start calls)) (whole′ : SearchedWhole d (after start′ calls′)) where
-      same : SameLevel (rightLengths kind n S C) (after start calls) (after start′ calls′)
+      same : SameLevel (rightLengths terms) (after start calls) (after start′ calls′)
       unfolding EitherWay start start′
       same =
-          Either.either-way kind n wanted groups S C segments segments′ log log′ changed changed′ begins buffers buffers′ calls calls′ d whole whole′
+          Either.either-way terms segments segments′ log log′ changed changed′ begins buffers buffers′ calls calls′ d whole whole′
 
       same-segments : after start calls .segments ≡ after start′ calls′ .segments
       same-segments = same .segments
@@ -47,19 +53,19 @@ module _ (kind n : ℕ) (wanted : List ℤ) (groups S C : ℕ) (segments segment
 
       -- Close answers both alike, whatever way each is told
       same-refusals : (way way′ : Way)
-          → outcome {right = rightLengths kind n S C} (after start calls) (doClose way) .refusal
-          ≡ outcome {right = rightLengths kind n S C} (after start′ calls′) (doClose way′) .refusal
+          → outcome {right = rightLengths terms} (after start calls) (doClose way) .refusal
+          ≡ outcome {right = rightLengths terms} (after start′ calls′) (doClose way′) .refusal
       same-refusals = same .refusals
 
       same-phases : (way way′ : Way)
-          → outcome {right = rightLengths kind n S C} (after start calls) (doClose way) .world .job .phase
-          ≡ outcome {right = rightLengths kind n S C} (after start′ calls′) (doClose way′) .world .job .phase
+          → outcome {right = rightLengths terms} (after start calls) (doClose way) .world .job .phase
+          ≡ outcome {right = rightLengths terms} (after start′ calls′) (doClose way′) .world .job .phase
       same-phases = same .phases
 
   -- any two that come to the other end, Level 255, whose Close says 14, have the same table and the same counts
-  ends-alike : (calls calls′ : List (Call (rightLengths kind n S C)))
-      → AtEnd kind n groups wanted (rightLengths kind n S C) (after start calls)
-      → AtEnd kind n groups wanted (rightLengths kind n S C) (after start′ calls′)
+  ends-alike : (calls calls′ : List (Call (rightLengths terms)))
+      → AtEnd terms (rightLengths terms) (after start calls)
+      → AtEnd terms (rightLengths terms) (after start′ calls′)
       → (after start calls .segments ≡ after start′ calls′ .segments) × (after start calls .job .counts ≡ after start′ calls′ .job .counts)
   ends-alike calls calls′ end end′ =
       let whole = Either.end-whole end in
@@ -67,14 +73,14 @@ module _ (kind n : ℕ) (wanted : List ℤ) (groups S C : ℕ) (segments segment
       (same-segments calls calls′ 255 whole whole′, same-counts calls calls′ 255 whole whole′)
 
   -- each list is some calls that bring the job to level d, and a Close of it that is not refused
-  module _ (before before′ : List (Call (rightLengths kind n S C))) (way way′ : Way) (d : ℕ)
+  module _ (before before′ : List (Call (rightLengths terms))) (way way′ : Way) (d : ℕ)
       (level : after start before .job .phase ≡ Level d) (level′ : after start′ before′ .job .phase ≡ Level d)
-      (accepted : outcome {right = rightLengths kind n S C} (after start before) (doClose way) .refusal ≡ 0)
-      (accepted′ : outcome {right = rightLengths kind n S C} (after start′ before′) (doClose way′) .refusal ≡ 0) where
+      (accepted : outcome {right = rightLengths terms} (after start before) (doClose way) .refusal ≡ 0)
+      (accepted′ : outcome {right = rightLengths terms} (after start′ before′) (doClose way′) .refusal ≡ 0) where
     closed : SameClosed (after start (before ++ (doClose way ∷ []))) (after start′ (before′ ++ (doClose way′ ∷ [])))
     unfolding EitherWayClosed start start′
     closed =
-        Either.either-way-closed kind n wanted groups S C segments segments′ log log′ changed changed′ begins buffers buffers′
+        Either.either-way-closed terms segments segments′ log log′ changed changed′ begins buffers buffers′
         (before ++ (doClose way ∷ [])) (before′ ++ (doClose way′ ∷ [])) d
         (record { before = before; way = way; place = refl; level = level; accepted = accepted })
         (record { before = before′; way = way′; place = refl; level = level′; accepted = accepted′ })

@@ -325,7 +325,7 @@ module _ (job : Job) (j : ℕ) (segment : List ℕ) where
         whether-refused (λ o. o .2 .job .phase) (job .phase) (expandRefusal job j (length segment) (length log)) expand-accepted expand-refused (λ e. refl) refl
 
     pub settle-accepted : settleRefusal job j (length segment) log ≡ 0
-        → (let marks = markAll (job .size) (levelOf (job .phase)) (indexesOf (job .size) j (pending job j log)) (marksFrom job segment) in
+        → (let marks = markAll (job .terms .size) (levelOf (job .phase)) (indexesOf (job .terms .size) j (pending job j log)) (marksFrom job segment) in
         settleOf job j segment log ≡ (
           marks .segment,
           record { refusal = 0; job = markedJob job (job .passed) (set (job .waiting) j 0) marks },
@@ -367,7 +367,7 @@ module _ (job : Job) (b : ℕ) (segment list : List ℕ) where
 
 module _ (job : Job) (j : ℕ) (segment list : List ℕ) where
   pub sweep-accepted : sweepRefusal job j (length segment) (length list) ≡ 0
-      → (let marks = markAll (job .size) (levelOf (job .phase)) (indexesOf (job .size) j (reachedIn job j list)) (marksFrom job segment) in
+      → (let marks = markAll (job .terms .size) (levelOf (job .phase)) (indexesOf (job .terms .size) j (reachedIn job j list)) (marksFrom job segment) in
       sweepOf job j segment list ≡ (
         marks .segment,
         record {

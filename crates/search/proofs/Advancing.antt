@@ -22,18 +22,20 @@ use Rattle.search.specs.Drive.{hasEnded}
 use Rattle.search.specs.Entries.{bytesFor}
 use Rattle.search.specs.Expand.{childrenOf, expandRefusal, expansion, expandedJob, expandOf}
 use Rattle.search.specs.JobState.{isCoherent, isBlanking, isLevel, isFinished, isReverse, inReverse, levelOf, lastLevel, noSegment, stackCountOf, segmentCountOf, stackCountAt, movesOf, passedOf, waitingOf, countOf, isLoaded, isSwept, sweptOf, progressed, directed}
-use Rattle.search.specs.Promise.{Continues}
+use Rattle.search.specs.Promise.{Continues, rightLengths}
 use Rattle.search.specs.Settle.{settleRefusal, settleOf}
 use Rattle.search.specs.Changed.{listBytes}
 use Rattle.search.specs.Load.{loadRefusal}
 use Rattle.search.specs.Logs.{logPart, indexesOf, pending}
 use Rattle.search.specs.Marks.{markAll, marksFrom, markedJob}
 use Rattle.search.specs.Sweep.{reachedIn, withPair, sweepRefusal, sweepOf}
+use Rattle.search.specs.Terms.{N, G, m}
 use Rattle.search.specs.declared.Answer.{Answer}
 use Rattle.search.specs.declared.Expanded.{Expanded}
 use Rattle.search.specs.declared.Job.{Job}
 use Rattle.search.specs.declared.Phase.{Phase}
 use Rattle.search.specs.declared.Phase.the-variants.{Blanking, Level, Finished}
+use Rattle.search.specs.declared.Terms.{Terms}
 use Rattle.search.specs.declared.Way.{Way}
 use Rattle.search.specs.declared.Way.the-variants.{Forward}
 use Rattle.search.proofs.Accepted.{reverse-level, level-forward, level-reverse, CallFacts, LevelFacts, facts-blank, facts-expand, facts-settle, facts-load, facts-sweep, facts-close, expand-accepted, settle-accepted, sweep-accepted}
@@ -51,7 +53,7 @@ use Rattle.search.proofs.Refused.{refusalOf, refusal-is}
 use Rattle.search.proofs.SegmentLaws.{log-room-facts, log-length, log-at}
 use Rattle.search.proofs.Shapes.{room-is, segments-is, stacks-is, area-is, loaded-low}
 use Rattle.search.proofs.WorkLeft.{levelsLeft, workLeft, levels-work, stacks-work, logs-work, pairs-work, load-work, stacks-fall, stacks-stay, logs-fall, pairs-fall}
-use Rattle.search.proofs.Terms.{Terms, Given, N, G, m, moves, lengthsOf, laws, some, few}
+use Rattle.search.proofs.Given.{Given, moves, laws, some, few}
 
 -- some number below n passes a test, or none does
 some-or-none : (p : ℕ → Bool) (n : ℕ) → ((i : ℕ) × (i < n) × (p i ≡ true)) ⊎ ((i : ℕ) → i < n → p i ≡ false)
@@ -122,13 +124,13 @@ next-nearer counts (Finished d) u h = never refl u
 module _ {terms : Terms} (given : Given terms) {w : World} (invariant : Invariant terms w) where
   -- a call that carries the build on, and leaves less to do
   pub record Advances : Type 0 where
-    pub next : Continues (lengthsOf terms) w
-    pub falls : workLeft (N terms) (terms .S) (outcome w (next .call) .world .job) < workLeft (N terms) (terms .S) (w .job)
+    pub next : Continues (rightLengths terms) w
+    pub falls : workLeft (N terms) (terms .size) (outcome w (next .call) .world .job) < workLeft (N terms) (terms .size) (w .job)
 
   -- from what the call leaves
-  unfoldable pub advances : (call : Call (lengthsOf terms)) → isLentOwn call ≡ true → refusalOf w call ≡ 0
+  unfoldable pub advances : (call : Call (rightLengths terms)) → isLentOwn call ≡ true → refusalOf w call ≡ 0
       → (x : World) → outcome w call .world ≡ x → CarriesOn w x
-      → workLeft (N terms) (terms .S) (x .job) < workLeft (N terms) (terms .S) (w .job) → Advances
+      → workLeft (N terms) (terms .size) (x .job) < workLeft (N terms) (terms .size) (w .job) → Advances
   advances call mine accepted x e carries falls =
       record {
         next = record {
@@ -137,7 +139,7 @@ module _ {terms : Terms} (given : Given terms) {w : World} (invariant : Invarian
           accepted = refusal-is w call ∙ accepted;
           carries = subst (CarriesOn w) (sym e) carries;
         };
-        falls = subst (λ (y : World). workLeft (N terms) (terms .S) (y .job) < workLeft (N terms) (terms .S) (w .job)) (sym e) falls;
+        falls = subst (λ (y : World). workLeft (N terms) (terms .size) (y .job) < workLeft (N terms) (terms .size) (w .job)) (sym e) falls;
       }
 
   -- ---- Close
@@ -167,7 +169,7 @@ module _ {terms : Terms} (given : Given terms) {w : World} (invariant : Invarian
     close-advances =
         advances (doClose way) refl close-accepts (closedWorld w way) (close-world w way close-accepts)
         (changes (λ e. omega (arith, close-nearer, ap levelsLeft e)))
-        (levels-work (N terms) (terms .S) (w .job) (closedWorld w way .job) close-nearer)
+        (levels-work (N terms) (terms .size) (w .job) (closedWorld w way .job) close-nearer)
 
   -- segments with all passed and nothing waiting are ready to close, but in a reverse level
   pub all-ready : inReverse (w .job) ≡ false → ((j : ℕ) → j < G terms → m terms j ≤ passedOf (w .job) j)
@@ -200,8 +202,8 @@ module _ {terms : Terms} (given : Given terms) {w : World} (invariant : Invarian
     unfolding outcome isLentOwn isOwn refusalOf lent kept isBlanking blankedWorld progressed inReverse
     blank-advances j h left =
         advances (doBlank j own) refl accepts (blankedWorld w j) (blank-world w j accepts) (passes j (rw here left))
-        (stacks-work (N terms) (terms .S) (w .job) (blankedWorld w j .job) blanks-forward blanks-forward refl
-        (stacks-fall (N terms) (terms .S) (w .job) (blankedWorld w j .job) (some given) j left (rw here left) (λ i. each i (eq-or-ne i j))))
+        (stacks-work (N terms) (terms .size) (w .job) (blankedWorld w j .job) blanks-forward blanks-forward refl
+        (stacks-fall (N terms) (terms .size) (w .job) (blankedWorld w j .job) (some given) j left (rw here left) (λ i. each i (eq-or-ne i j))))
       where
         accepts : blankRefusal (w .job) j (length (getD (w .segments) j [])) ≡ 0
         accepts =
@@ -270,12 +272,12 @@ module _ {terms : Terms} (given : Given terms) {w : World} (invariant : Invarian
           (at-all (λ i. ltb i (stackCountAt (w .job) j)) part 0 each)
         where
           part : List ℕ
-          part = logPart (terms .C) j (waitingOf (w .job) j) (w .log)
+          part = logPart (terms .room) j (waitingOf (w .job) j) (w .log)
 
           long : length part ≡ waitingOf (w .job) j
           long =
-              log-length (terms .C) j (waitingOf (w .job) j) (w .log)
-              (omega (arith, invariant .shaped .log-length, search .waiting-fits j, suc-mul j (terms .C), mul-le-mul-right (terms .C) h))
+              log-length (terms .room) j (waitingOf (w .job) j) (w .log)
+              (omega (arith, invariant .shaped .log-length, search .waiting-fits j, suc-mul j (terms .room), mul-le-mul-right (terms .room) h))
 
           each : (k : ℕ) → k < length part → ltb (getD part k 0) (stackCountAt (w .job) j) ≡ true
           each k l =
@@ -283,7 +285,7 @@ module _ {terms : Terms} (given : Given terms) {w : World} (invariant : Invarian
               lt-ltb (getD part k 0) (stackCountAt (w .job) j)
               (omega (
                 arith,
-                log-at (terms .C) j (waitingOf (w .job) j) (w .log) k m,
+                log-at (terms .room) j (waitingOf (w .job) j) (w .log) k m,
                 search .offsets j k h m,
                 stacks-is (invariant .shaped) j,
               ))
@@ -326,11 +328,11 @@ module _ {terms : Terms} (given : Given terms) {w : World} (invariant : Invarian
       unfoldable pub settle-advances : 0 < waitingOf (w .job) j → Advances
       unfolding outcome isLentOwn isOwn refusalOf lent kept
       settle-advances more =
-          let call : Call (lengthsOf terms) = doSettle j own own in
+          let call : Call (rightLengths terms) = doSettle j own own in
           advances call refl settle-accepts (outcome w call .world) refl (empties j more settled-empty)
-          (logs-work (N terms) (terms .S) (w .job) settled search-forward settled-forward settled-phase
-          (stacks-stay (N terms) (terms .S) (w .job) settled settled-passed)
-          (logs-fall (N terms) (terms .S) (w .job) settled j h more settled-empty settled-others))
+          (logs-work (N terms) (terms .size) (w .job) settled search-forward settled-forward settled-phase
+          (stacks-stay (N terms) (terms .size) (w .job) settled settled-passed)
+          (logs-fall (N terms) (terms .size) (w .job) settled j h more settled-empty settled-others))
 
       -- with no log waiting an Expand passes a stack
       module _ (left : passedOf (w .job) j < m terms j) (none : (t : ℕ) → waitingOf (w .job) t ≡ 0) where
@@ -366,16 +368,16 @@ module _ {terms : Terms} (given : Given terms) {w : World} (invariant : Invarian
         roomy : (t : ℕ) → MustWait (w .job) j (getD (w .segments) j []) t → ⊥
         unfolding waitingOf
         roomy t must =
-            let children = childrenOf (w .job .kind) (w .job .n) (movesOf (w .job)) (j * w .job .size + passedOf (w .job) j) in
+            let children = childrenOf (w .job .terms .kind) (w .job .terms .n) (movesOf (w .job)) (j * w .job .terms .size + passedOf (w .job) j) in
             omega (
               arith,
               none t,
-              room-lacks (w .job .size) (w .job .room) j (w .job .waiting) children t (must .lacks) .1,
-              falling-le (w .job .size) t children,
-              children-length (w .job .kind) (w .job .n) (movesOf (w .job)) (j * w .job .size + passedOf (w .job) j),
+              room-lacks (w .job .terms .size) (w .job .terms .room) j (w .job .waiting) children t (must .lacks) .1,
+              falling-le (w .job .terms .size) t children,
+              children-length (w .job .terms .kind) (w .job .terms .n) (movesOf (w .job)) (j * w .job .terms .size + passedOf (w .job) j),
               subst (λ (t : Terms). length (moves t) ≤ stackPlaces) (sym (invariant .shaped .terms-is)) (laws given .few),
               (room-is (invariant .shaped)),
-              log-room-facts (terms .C) (given .room) .least,
+              log-room-facts (terms .room) (given .room) .least,
             )
 
         pub grown-here : passedOf (w .job) j < passedOf grown j
@@ -394,10 +396,10 @@ module _ {terms : Terms} (given : Given terms) {w : World} (invariant : Invarian
         unfoldable pub expand-advances : Advances
         unfolding outcome isLentOwn isOwn refusalOf lent kept
         expand-advances =
-            let call : Call (lengthsOf terms) = doExpand j own own in
+            let call : Call (rightLengths terms) = doExpand j own own in
             advances call refl expand-accepts (outcome w call .world) refl (passes j grown-here)
-            (stacks-work (N terms) (terms .S) (w .job) grown search-forward grown-forward grown-phase
-            (stacks-fall (N terms) (terms .S) (w .job) grown (some given) j left grown-here (λ i. each i (eq-or-ne i j))))
+            (stacks-work (N terms) (terms .size) (w .job) grown search-forward grown-forward grown-phase
+            (stacks-fall (N terms) (terms .size) (w .job) grown (some given) j left grown-here (λ i. each i (eq-or-ne i j))))
           where
             each : (i : ℕ) → (i ≡ j) ⊎ (i ≡ j → ⊥) → passedOf (w .job) i ≤ passedOf grown i
             each i (inl e) = omega (arith, grown-here, ap (passedOf (w .job)) e, ap (passedOf grown) e)
@@ -466,9 +468,9 @@ module _ {terms : Terms} (given : Given terms) {w : World} (invariant : Invarian
       unfoldable pub load-advances : Advances
       unfolding isLentOwn isOwn refusalOf lent loadedWorld directed inReverse
       load-advances =
-          advances (doLoad b own list) refl load-accepts (loadedWorld w b) (load-world (lengthsOf terms) w b list load-accepts)
+          advances (doLoad b own list) refl load-accepts (loadedWorld w b) (load-world (rightLengths terms) w b list load-accepts)
           (loads b j due refl (rw (segments-is (invariant .shaped)) low) (rw (segments-is (invariant .shaped)) inside) left)
-          (load-work (N terms) (terms .S) (w .job) (loadedWorld w b .job) search-reverse search-reverse refl refl due none-due)
+          (load-work (N terms) (terms .size) (w .job) (loadedWorld w b .job) search-reverse search-reverse refl refl due none-due)
 
     -- a segment is swept against the loaded one
     module _ (j : ℕ) (inside : j < G terms) (loaded : isLoaded (w .job) ≡ true) (left : isSwept (w .job) (w .job .loaded) j ≡ false) where
@@ -490,7 +492,7 @@ module _ {terms : Terms} (given : Given terms) {w : World} (invariant : Invarian
       abbrev pub swept : Job
       swept = sweepOf (w .job) j (getD (w .segments) j []) (w .changed) .1 .job
 
-      pub swept-is : {A : Type 0} (f : Job → A) → (let marks = markAll (w .job .size) (levelOf (w .job .phase)) (indexesOf (w .job .size) j (reachedIn (w .job) j (w .changed))) (marksFrom (w .job) (getD (w .segments) j [])) in
+      pub swept-is : {A : Type 0} (f : Job → A) → (let marks = markAll (w .job .terms .size) (levelOf (w .job .phase)) (indexesOf (w .job .terms .size) j (reachedIn (w .job) j (w .changed))) (marksFrom (w .job) (getD (w .segments) j [])) in
           f swept ≡ f (directed (markedJob (w .job) (w .job .passed) (w .job .waiting) marks) (w .job .way) (w .job .loaded) (withPair (w .job) j)))
       swept-is f = ap (λ (o : List ℕ × Answer). f (o .1 .job)) (sweep-accepted (w .job) j (getD (w .segments) j []) (w .changed) sweep-accepts)
 
@@ -504,11 +506,11 @@ module _ {terms : Terms} (given : Given terms) {w : World} (invariant : Invarian
       unfoldable pub sweep-advances : Advances
       unfolding outcome isLentOwn isOwn refusalOf lent kept lentList progressed directed inReverse
       sweep-advances =
-          let call : Call (lengthsOf terms) = doSweep j own ownList in
+          let call : Call (rightLengths terms) = doSweep j own ownList in
           let new = pair-new (w .job) j listed-loaded left swept swept-pairs in
           advances call refl sweep-accepts (outcome w call .world) refl (sweeps (w .job .loaded) j left new)
-          (pairs-work (N terms) (terms .S) (w .job) swept search-reverse (swept-is inReverse ∙ search-reverse) (swept-is (λ job. job .phase))
-          (pairs-fall (N terms) (terms .S) (w .job) swept (w .job .loaded) j low inside left new
+          (pairs-work (N terms) (terms .size) (w .job) swept search-reverse (swept-is inReverse ∙ search-reverse) (swept-is (λ job. job .phase))
+          (pairs-fall (N terms) (terms .size) (w .job) swept (w .job .loaded) j low inside left new
           (pair-keeps (w .job) j listed-loaded left swept swept-pairs)))
 
     -- with each pair swept the level is ready

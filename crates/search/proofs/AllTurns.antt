@@ -15,7 +15,7 @@ use Rattle.graph.specs.Walks.{isMove}
 use Rattle.graph.proofs.Tally.{tally-all}
 use Rattle.stacks.specs.Counts.{CountsBy, CountsAt}
 use Rattle.stacks.specs.Index.{rankOf, stackAt}
-use Rattle.stacks.specs.Stack.{isPaneCount, isStack, stackCount}
+use Rattle.stacks.specs.Stack.{isPaneCount}
 use Rattle.stacks.specs.Turn.{isTurn, turnsIn, allGroups, RoadBy, Road, FewestBy, Fewest}
 use Rattle.stacks.proofs.GroupLaws.{all-turns-in}
 use Rattle.stacks.proofs.Numbering.{unrank-stack, rank-unrank}
@@ -23,105 +23,108 @@ use Rattle.stacks.proofs.TurnBound.{road-bound, turn-bound-30}
 use Rattle.search.specs.Build.{World, Lengths, Call, after}
 use Rattle.search.specs.Entries.{entryAt, unseen, seenIn}
 use Rattle.search.specs.JobState.{lastLevel}
-use Rattle.search.specs.Promise.{planIn, mostTurns, Plans, Finishes, Continues, Promise, WholeBuild}
-use Rattle.search.specs.PromiseBy.{RoadIn, FewestIn, CountsIn, EntryBy, Needs, PlansBy, FinishesBy, AtEnd, PromiseBy, WholeBuildBy}
+use Rattle.search.specs.Promise.{planIn, mostTurns, IsStack, RoadAll, FewestAll, Plans, Finishes, Continues, Promise, WholeBuild}
+use Rattle.search.specs.PromiseBy.{RoadIn, FewestIn, CountsIn, RoadTo, FewestTo, EntryBy, Needs, PlansBy, FinishesBy, AtEnd, PromiseBy, WholeBuildBy}
 use Rattle.search.specs.Segments.{joined}
+use Rattle.search.specs.Terms.{N}
+use Rattle.search.specs.declared.Terms.{Terms}
 use Rattle.search.proofs.Coherence.{begin-given}
+use Rattle.search.proofs.Given.{Given}
 use Rattle.search.proofs.Turning.{turn-is-move}
 use Rattle.search.proofs.WholeBuild.{whole-build-by}
 
-module _ (kind n : ℕ) (in-range : isPaneCount kind n ≡ true) where
+module _ (kind n groups : ℕ) (in-range : isPaneCount kind n ≡ true) (full : groups ≡ allGroups kind n) where
   -- the turns of the full set are told by the test of a turn
-  full-test : isMove (turnsIn kind n (allGroups kind n)) ≡ isTurn kind n
-  full-test = ap isMove (all-turns-in kind n in-range) ∙ (λ i k. sym (turn-is-move kind n k) i)
+  full-test : isMove (turnsIn kind n groups) ≡ isTurn kind n
+  full-test =
+      ap (λ (g : ℕ). isMove (turnsIn kind n g)) full ∙ ap isMove (all-turns-in kind n in-range) ∙ (λ i k. sym (turn-is-move kind n k) i)
 
-  pub full-road : {ks : List ℕ} {s w : List ℤ} → RoadIn kind n (allGroups kind n) ks s w → Road kind n ks s w
+  pub full-road : {ks : List ℕ} {s w : List ℤ} → RoadIn kind n groups ks s w → Road kind n ks s w
   full-road {ks} {s} {w} r = subst (λ (p : ℕ → Bool). RoadBy kind p ks s w) full-test r
 
-  road-full : {ks : List ℕ} {s w : List ℤ} → Road kind n ks s w → RoadIn kind n (allGroups kind n) ks s w
+  road-full : {ks : List ℕ} {s w : List ℤ} → Road kind n ks s w → RoadIn kind n groups ks s w
   road-full {ks} {s} {w} r = subst (λ (p : ℕ → Bool). RoadBy kind p ks s w) (sym full-test) r
 
-  pub full-fewest : {s w : List ℤ} {d : ℕ} → FewestIn kind n (allGroups kind n) s w d → Fewest kind n s w d
+  pub full-fewest : {s w : List ℤ} {d : ℕ} → FewestIn kind n groups s w d → Fewest kind n s w d
   full-fewest {s} {w} {d} f = subst (λ (p : ℕ → Bool). FewestBy kind p s w d) full-test f
 
-  fewest-full : {s w : List ℤ} {d : ℕ} → Fewest kind n s w d → FewestIn kind n (allGroups kind n) s w d
+  fewest-full : {s w : List ℤ} {d : ℕ} → Fewest kind n s w d → FewestIn kind n groups s w d
   fewest-full {s} {w} {d} f = subst (λ (p : ℕ → Bool). FewestBy kind p s w d) (sym full-test) f
 
-  full-counts : {w : List ℤ} {d count : ℕ} → CountsIn kind n (allGroups kind n) w d count → CountsAt kind n w d count
+  full-counts : {w : List ℤ} {d count : ℕ} → CountsIn kind n groups w d count → CountsAt kind n w d count
   full-counts {w} {d} {count} c = subst (λ (p : ℕ → Bool). CountsBy kind n p w d count) full-test c
 
-module _ (kind n : ℕ) (wanted : List ℤ) (in-range : isPaneCount kind n ≡ true) (goal : isStack kind n wanted ≡ true) where
-  short-road : (s : List ℤ) → isStack kind n s ≡ true → (ks : List ℕ) × RoadIn kind n (allGroups kind n) ks s wanted
-  short-road s h = let r = road-bound kind n in-range s wanted h goal in (r .0, road-full kind n in-range (r .1))
+-- no stack needs more than 30 turns
+pub few-turns : {terms : Terms} → Given terms → (s : List ℤ) (d : ℕ) → IsStack terms s → FewestAll terms s d → d ≤ mostTurns
+few-turns {terms} given s d h f =
+    let r = road-bound (terms .kind) (terms .n) (given .in-range) s (terms .wanted) h (given .stack) in
+    omega (arith, f .least (r .0) (r .1), r .2, turn-bound-30 (terms .kind) (terms .n) (given .in-range))
 
-  -- no stack needs more than 30 turns
-  pub few-turns : (s : List ℤ) (d : ℕ) → isStack kind n s ≡ true → Fewest kind n s wanted d → d ≤ mostTurns
-  few-turns s d h f =
-      let r = road-bound kind n in-range s wanted h goal in omega (arith, f .least (r .0) (r .1), r .2, turn-bound-30 kind n in-range)
+module _ {terms : Terms} (given : Given terms) (full : terms .groups ≡ allGroups (terms .kind) (terms .n)) where
+  fewest-all : {s : List ℤ} {d : ℕ} → FewestTo terms s d → FewestAll terms s d
+  fewest-all = full-fewest (terms .kind) (terms .n) (terms .groups) (given .in-range) full
 
-  needs-few : (d : ℕ) → Needs kind n (allGroups kind n) wanted d → d ≤ mostTurns
-  needs-few d s = few-turns (s .0) d (s .1) (full-fewest kind n in-range (s .2))
+  short-road : (s : List ℤ) → IsStack terms s → (ks : List ℕ) × RoadTo terms ks s
+  short-road s h =
+      let r = road-bound (terms .kind) (terms .n) (given .in-range) s (terms .wanted) h (given .stack) in
+      (r .0, road-full (terms .kind) (terms .n) (terms .groups) (given .in-range) full (r .1))
 
-  pub none-deep : Needs kind n (allGroups kind n) wanted lastLevel → ⊥
+  needs-few : (d : ℕ) → Needs terms d → d ≤ mostTurns
+  needs-few d s = few-turns given (s .0) d (s .1) (fewest-all (s .2))
+
+  pub none-deep : Needs terms lastLevel → ⊥
   none-deep s = omega (arith, needs-few lastLevel s)
 
-  module _ {w : World} (f : FinishesBy kind n (allGroups kind n) wanted w) where
-    entry-all : (s : List ℤ) → isStack kind n s ≡ true
-        → (d : ℕ) × Fewest kind n s wanted d × (entryAt (joined (w .segments)) (rankOf kind n s) ≡ d % 3)
+  module _ {w : World} (f : FinishesBy terms w) where
+    entry-all : (s : List ℤ) → IsStack terms s
+        → (d : ℕ) × FewestAll terms s d × (entryAt (joined (w .segments)) (rankOf (terms .kind) (terms .n) s) ≡ d % 3)
     entry-all s h = go (f .entries s h)
       where
-        go : EntryBy kind n (allGroups kind n) wanted s (entryAt (joined (w .segments)) (rankOf kind n s))
-            → (d : ℕ) × Fewest kind n s wanted d × (entryAt (joined (w .segments)) (rankOf kind n s) ≡ d % 3)
-        go (inl r) = (r .0, full-fewest kind n in-range (r .1), r .2)
+        go : EntryBy terms s (entryAt (joined (w .segments)) (rankOf (terms .kind) (terms .n) s))
+            → (d : ℕ) × FewestAll terms s d × (entryAt (joined (w .segments)) (rankOf (terms .kind) (terms .n) s) ≡ d % 3)
+        go (inl r) = (r .0, fewest-all (r .1), r .2)
         go (inr r) = let road = short-road s h in absurd (r .0 (road .0) (road .1))
 
-    all-seen : seenIn (joined (w .segments)) (stackCount kind n) ≡ stackCount kind n
+    all-seen : seenIn (joined (w .segments)) (N terms) ≡ N terms
     unfolding seenIn unseen
     all-seen =
-        tally-all (λ v. not (eqb (entryAt (joined (w .segments)) v) unseen)) (stackCount kind n)
+        tally-all (λ v. not (eqb (entryAt (joined (w .segments)) v) unseen)) (N terms)
         (λ v l.
-        let e = entry-all (stackAt kind n v) (unrank-stack kind n v in-range l) in
-        ap not (ne-eqb (entryAt (joined (w .segments)) v) unseen
-        (λ q. omega (arith, q, e .2, ap (entryAt (joined (w .segments))) (rank-unrank kind n v in-range l), mod-lt (e .0) {m = 3} (omega arith)))))
+        let e = entry-all (stackAt (terms .kind) (terms .n) v) (unrank-stack (terms .kind) (terms .n) v (given .in-range) l) in
+        let place = ap (entryAt (joined (w .segments))) (rank-unrank (terms .kind) (terms .n) v (given .in-range) l) in
+        ap not (ne-eqb (entryAt (joined (w .segments)) v) unseen (λ q. omega (arith, q, e .2, place, mod-lt (e .0) {m = 3} (omega arith)))))
 
-    -- Plan gets the job's own kind, n and wanted stack
-    plans-all : (given : List ℤ) (list : List ℕ) → isStack kind n given ≡ true → PlansBy kind n (allGroups kind n) wanted w given list → Plans w given list
-    plans-all given list h p =
-        let out = planIn w given list in
-        let shortest : Fewest kind n given wanted (out .1 .turns) = full-fewest kind n in-range (p .shortest) in
+    -- Plan gets what Begin was given
+    plans-all : (start : List ℤ) (list : List ℕ) → IsStack terms start → PlansBy terms w start list → Plans w start list
+    plans-all start list h p =
+        let out = planIn w start list in
+        let shortest : FewestAll terms start (out .1 .turns) = fewest-all (p .shortest) in
+        let road : RoadAll terms (take (out .1 .turns) (out .0)) start =
+        full-road (terms .kind) (terms .n) (terms .groups) (given .in-range) full (p .arrives) in
         record {
           accepts = p .accepts;
-          arrives = as-job (λ k m x. Road k m (take (out .1 .turns) (out .0)) given x) (full-road kind n in-range (p .arrives));
-          shortest = as-job (λ k m x. Fewest k m given x (out .1 .turns)) shortest;
-          few = few-turns given (out .1 .turns) h shortest;
+          arrives = subst (λ (t : Terms). RoadAll t (take (out .1 .turns) (out .0)) start) (sym (f .given-terms)) road;
+          shortest = subst (λ (t : Terms). FewestAll t start (out .1 .turns)) (sym (f .given-terms)) shortest;
+          few = few-turns given start (out .1 .turns) h shortest;
         }
-      where
-        as-job : (P : ℕ → ℕ → List ℤ → Type 0) → P kind n wanted → P (w .job .kind) (w .job .n) (w .job .wanted)
-        as-job P h =
-            subst (λ (k : ℕ). P k (w .job .n) (w .job .wanted)) (sym (f .given-kind))
-            (subst (λ (m : ℕ). P kind m (w .job .wanted)) (sym (f .given-n)) (subst (P kind n) (sym (f .given-wanted)) h))
 
-    pub finishes-all : Finishes kind n wanted w
+    pub finishes-all : Finishes terms w
     finishes-all =
         record {
           entries = entry-all;
           spare = f .spare;
-          counts = λ d l. full-counts kind n in-range (f .counts d l);
+          counts = λ d l. full-counts (terms .kind) (terms .n) (terms .groups) (given .in-range) full (f .counts d l);
           past = f .past;
           added = f .added;
           all-seen = all-seen;
-          deepest = let s = f .deepest in (s .0, s .1, full-fewest kind n in-range (s .2));
-          greatest = λ s d h g. f .greatest s d h (fewest-full kind n in-range g);
-          given-kind = f .given-kind;
-          given-n = f .given-n;
-          given-wanted = f .given-wanted;
-          given-groups = f .given-groups;
-          plans = λ given list h l.
-              let road = short-road given h in plans-all given list h (f .plans given list h l (road .0) (road .1));
+          deepest = let s = f .deepest in (s .0, s .1, fewest-all (s .2));
+          greatest = λ s d h g. f .greatest s d h (fewest-full (terms .kind) (terms .n) (terms .groups) (given .in-range) full g);
+          given-terms = f .given-terms;
+          plans = λ start list h l.
+              let road = short-road start h in plans-all start list h (f .plans start list h l (road .0) (road .1));
         }
 
-  promise-all : {right : Lengths} {start : World} {calls : List (Call right)} → PromiseBy kind n (allGroups kind n) wanted right start calls
-      → Promise kind n wanted right start calls
+  promise-all : {right : Lengths} {start : World} {calls : List (Call right)} → PromiseBy terms right start calls → Promise terms right start calls
   promise-all {right} {start} {calls} p =
       record {
         by-close = p .by-close;
@@ -134,12 +137,11 @@ module _ (kind n : ℕ) (wanted : List ℤ) (in-range : isPaneCount kind n ≡ t
         stays = p .stays;
       }
     where
-      go : (Continues right (after start calls)) ⊎ (AtEnd kind n (allGroups kind n) wanted right (after start calls)) → Continues right (after start calls)
+      go : (Continues right (after start calls)) ⊎ (AtEnd terms right (after start calls)) → Continues right (after start calls)
       go (inl c) = c
       go (inr e) = absurd (none-deep (e .deep))
 
 pub whole-build : WholeBuild
 unfolding WholeBuild WholeBuildBy
-whole-build kind n wanted S C segments log changed accepted buffers calls =
-    let given = begin-given kind n wanted (allGroups kind n) S C accepted in
-    promise-all kind n wanted (given .in-range) (given .stack) (whole-build-by kind n wanted (allGroups kind n) S C segments log changed accepted buffers calls)
+whole-build terms segments log changed accepted full buffers calls =
+    promise-all (begin-given accepted) full (whole-build-by terms segments log changed accepted buffers calls)

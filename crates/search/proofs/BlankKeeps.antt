@@ -6,32 +6,32 @@ use mathlib.Core.List.{List, []}
 use Prim.Native.Nat.{ℕ, _/_, _%_, _<_}
 use native.Mathlib.Omega.{arith}
 use lib.Dec.{eqb}
-use lib.IntN.{ℤ}
 use lib.ListN.{length, getD, set, length-set}
 use lib.Seq.{getD-set-same, getD-set-other}
 use Rattle.base.proofs.Lists.{replicate-zero}
 use Rattle.base.proofs.Tests.{never, eq-or-ne}
-use Rattle.stacks.specs.Stack.{stackCount}
 use Rattle.search.specs.Begin.{begun}
 use Rattle.search.specs.Blank.{blankRefusal, goalOf, blanked, blankOf}
 use Rattle.search.specs.Build.{World, withJob, withSegment}
 use Rattle.search.specs.Entries.{bytesFor, blank, setEntry}
 use Rattle.search.specs.JobState.{countPlaces, isBlanking, stackCountOf, stackCountAt, passedOf, waitingOf, countOf, progressed, sweptOf}
-use Rattle.search.specs.Promise.{Buffers, rightBytes, rightWords}
-use Rattle.search.specs.Segments.{segmentLimit, segmentCount}
+use Rattle.search.specs.Promise.{Buffers, startOf, rightBytes, rightWords}
+use Rattle.search.specs.Segments.{segmentLimit}
+use Rattle.search.specs.Terms.{G, m}
 use Rattle.search.specs.declared.Answer.{Answer}
 use Rattle.search.specs.declared.Job.{Job}
+use Rattle.search.specs.declared.Terms.{Terms}
 use Rattle.search.proofs.Accepted.{BlankFacts, blank-facts, blank-accepted}
 use Rattle.search.proofs.EntryLaws.{set-length, blank-length}
 use Rattle.search.proofs.Invariant.{Shaped, Blanks, Invariant, InPhase, blanking, searching, ended}
 use Rattle.search.proofs.PairLaws.{none-swept}
 use Rattle.search.proofs.Shapes.{segments-is, stacks-is}
-use Rattle.search.proofs.Terms.{Terms, termsWith, Given, G, m, few}
+use Rattle.search.proofs.Given.{Given, few}
 
-pub begun-invariant : (kind n : ℕ) (wanted : List ℤ) (groups S C : ℕ) (segments : List (List ℕ)) (log changed : List ℕ) → Buffers kind n S C segments log
-    → Invariant (termsWith kind n wanted groups S C) (record { job = begun kind n wanted groups S C; segments = segments; log = log; changed = changed })
+pub begun-invariant : (terms : Terms) (segments : List (List ℕ)) (log changed : List ℕ) → Buffers terms segments log
+    → Invariant terms (startOf terms segments log changed)
 unfolding begun passedOf waitingOf sweptOf countOf rightBytes rightWords
-begun-invariant kind n wanted groups S C segments log changed buffers =
+begun-invariant terms segments log changed buffers =
     record {
       shaped = record {
         terms-is = refl;
@@ -43,7 +43,7 @@ begun-invariant kind n wanted groups S C segments log changed buffers =
         segment-bytes = buffers .each;
         log-length = buffers .area;
         loaded-fits = inl refl;
-        swept-fits = none-swept (begun kind n wanted groups S C) (segmentCount (stackCount kind n) S) (replicate-zero segmentLimit);
+        swept-fits = none-swept (begun terms) (G terms) (replicate-zero segmentLimit);
       };
       phase = blanking (record {
         phase-is = refl;
@@ -56,10 +56,10 @@ begun-invariant kind n wanted groups S C segments log changed buffers =
 
 pub blanked-length : (job : Job) (j : ℕ) → length (blanked job j) ≡ bytesFor (stackCountAt job j)
 unfolding blanked
-blanked-length job j = go (eqb (goalOf job / job .size) j)
+blanked-length job j = go (eqb (goalOf job / job .terms .size) j)
   where
-    go : (t : Bool) → length (cond t (setEntry (blank (stackCountAt job j)) (goalOf job % job .size) 0) (blank (stackCountAt job j))) ≡ bytesFor (stackCountAt job j)
-    go true = set-length (blank (stackCountAt job j)) (goalOf job % job .size) 0 ∙ blank-length (stackCountAt job j)
+    go : (t : Bool) → length (cond t (setEntry (blank (stackCountAt job j)) (goalOf job % job .terms .size) 0) (blank (stackCountAt job j))) ≡ bytesFor (stackCountAt job j)
+    go true = set-length (blank (stackCountAt job j)) (goalOf job % job .terms .size) 0 ∙ blank-length (stackCountAt job j)
     go false = blank-length (stackCountAt job j)
 
 -- the world after segment j is blanked

@@ -15,10 +15,12 @@ use Rattle.stacks.proofs.KindLaws.{count-fits}
 use Rattle.search.specs.Blank.{blanked}
 use Rattle.search.specs.Build.{World}
 use Rattle.search.specs.JobState.{lastLevel, noSegment, countLimit, segmentCountOf, passedOf, waitingOf, countOf, phaseFits, isLoaded, loadedFits, isCoherent}
+use Rattle.search.specs.Terms.{N, G, m}
+use Rattle.search.specs.declared.Terms.{Terms}
 use Rattle.search.proofs.Coherence.{facts-coherent}
 use Rattle.search.proofs.Invariant.{Shaped, Blanks, Searches, Ended, InPhase, blanking, searching, ended, Invariant, entryIn}
 use Rattle.search.proofs.Shapes.{room-is, segments-is, stacks-is, begins-is}
-use Rattle.search.proofs.Terms.{Terms, Given, N, G, m, beyond, D}
+use Rattle.search.proofs.Given.{Given, beyond, D}
 
 -- a log that is within bounds by what it may hold there
 within : (x j g C : ℕ) → (j < g → x ≤ C) → (g ≤ j → x ≡ 0) → x ≤ cond (ltb j g) C 0
@@ -33,7 +35,7 @@ module _ {terms : Terms} (given : Given terms) {w : World} (shaped : Shaped term
   unfolding countLimit
   count-small x h = omega (arith, count-fits (terms .kind) (terms .n) (given .in-range))
 
-  module _ (passed : (j : ℕ) → passedOf (w .job) j ≤ m terms j) (waiting : (j : ℕ) → waitingOf (w .job) j ≤ terms .C)
+  module _ (passed : (j : ℕ) → passedOf (w .job) j ≤ m terms j) (waiting : (j : ℕ) → waitingOf (w .job) j ≤ terms .room)
       (beyond : (j : ℕ) → G terms ≤ j → waitingOf (w .job) j ≡ 0)
       (counts : (d : ℕ) → countOf (w .job) d ≤ N terms) (fits : phaseFits (w .job .phase) ≡ true) where
     shaped-coherent : isCoherent (w .job) ≡ true
@@ -45,7 +47,7 @@ module _ {terms : Terms} (given : Given terms) {w : World} (shaped : Shaped term
           phase-fits = fits;
           passed-fits = λ j h. rw (stacks-is shaped j) (passed j);
           waiting-fits = λ j h. rw (segments-is shaped, room-is shaped)
-              (within (waitingOf (w .job) j) j (G terms) (terms .C) (λ l. waiting j) (beyond j));
+              (within (waitingOf (w .job) j) j (G terms) (terms .room) (λ l. waiting j) (beyond j));
           counts-fit = λ d. count-small (countOf (w .job) d) (counts d);
           loaded-fits = loaded (shaped .loaded-fits);
           swept-fits = λ b h. rw (segments-is shaped) (shaped .swept-fits b);
@@ -95,7 +97,7 @@ module _ {terms : Terms} (given : Given terms) {w : World} (shaped : Shaped term
             arith,
             ap (countOf (w .job)) e,
             s .counts-here,
-            tally-le (found (λ v. true) (D terms) d (entryIn (terms .S) (w .segments))) (N terms),
+            tally-le (found (λ v. true) (D terms) d (entryIn (terms .size) (w .segments))) (N terms),
           )
       count i (inr h) (inr ne) = omega (arith, s .counts-above i (omega arith))
 

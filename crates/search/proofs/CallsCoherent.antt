@@ -7,7 +7,6 @@ use Prim.Native.Nat.{ℕ, _+_, _-_, _*_, _%_, _≤_, _<_}
 use native.Mathlib.Omega.{arith}
 use lib.Arith.{digits-mod}
 use lib.Dec.{leb, ltb, eqb}
-use lib.IntN.{ℤ}
 use lib.ListN.{length, getD, set}
 use lib.Seq.{getD-set-same, getD-set-other, set-out}
 use borrow.Author.Tests.{ltb-true, lt-ltb, leb-true, le-leb, eqb-false, eq-eqb, ne-eqb}
@@ -20,21 +19,23 @@ use Rattle.search.specs.Begin.{begun, beginOf}
 use Rattle.search.specs.Blank.{blankRefusal, blankOf}
 use Rattle.search.specs.Close.{isPastLast, closeRefusal, nextPhase, nextCounts, closed, closeOf}
 use Rattle.search.specs.Entries.{entryAt, bytesFor}
-use Rattle.search.specs.JobState.{lastLevel, countPlaces, countLimit, beginRefusal, levelOf, segmentCountOf, stackCountAt, stackCountOf, passedOf, waitingOf, countOf, phaseFits, isLoaded, sweptOf, loadedFits, isCoherent, progressed, directed}
+use Rattle.search.specs.JobState.{lastLevel, countPlaces, countLimit, levelOf, segmentCountOf, stackCountAt, stackCountOf, passedOf, waitingOf, countOf, phaseFits, isLoaded, sweptOf, loadedFits, isCoherent, progressed, directed}
 use Rattle.search.specs.Load.{loadRefusal, loadOf}
 use Rattle.search.specs.Segments.{segmentLimit, stackCountIn}
 use Rattle.search.specs.Settle.{settleRefusal, settleOf}
 use Rattle.search.specs.Sweep.{sweepRefusal, isReached, reachedIn, withPair, sweepOf}
 use Rattle.search.specs.Marks.{Marks, markOne, markAll, marksFrom, markedJob}
 use Rattle.search.specs.Logs.{indexesOf, pending}
+use Rattle.search.specs.Terms.{beginRefusal}
 use Rattle.search.specs.declared.Answer.{Answer}
 use Rattle.search.specs.declared.Job.{Job}
 use Rattle.search.specs.declared.Phase.{Phase}
 use Rattle.search.specs.declared.Phase.the-variants.{Blanking, Level, Finished}
+use Rattle.search.specs.declared.Terms.{Terms}
 use Rattle.search.specs.declared.Way.{Way}
 use Rattle.search.proofs.Accepted.{SweepFacts, past-facts, close-facts, settle-facts, load-facts, sweep-facts, blank-accepted, blank-refused, settle-accepted, settle-refused, load-accepted, load-refused, sweep-accepted, sweep-refused, close-accepted, close-refused}
 use Rattle.search.proofs.Coherence.{Coherent, coherent-facts, facts-coherent, begin-given}
-use Rattle.search.proofs.Terms as Terms
+use Rattle.search.proofs.Given as Given
 use Rattle.search.proofs.PairLaws.{loaded-below, none-swept, pair-fits}
 use Rattle.search.proofs.MarkLaws.{mark-unseen, mark-seen, mark-length, mark-other, mark-new}
 
@@ -94,10 +95,10 @@ all-budget S d j m (i ∷ offsets) marks l h long =
 
 -- ---- Begin
 
-begun-coherent : (kind n : ℕ) (wanted : List ℤ) (groups S C : ℕ) → beginRefusal kind n wanted groups S C ≡ 0 → isCoherent (begun kind n wanted groups S C) ≡ true
+begun-coherent : (terms : Terms) → beginRefusal terms ≡ 0 → isCoherent (begun terms) ≡ true
 unfolding begun passedOf waitingOf sweptOf countOf phaseFits loadedFits isLoaded
-begun-coherent kind n wanted groups S C h =
-    facts-coherent (begun kind n wanted groups S C)
+begun-coherent terms h =
+    facts-coherent (begun terms)
     (record {
       begins = h;
       phase-fits = refl;
@@ -105,14 +106,14 @@ begun-coherent kind n wanted groups S C h =
       waiting-fits = λ j l. omega (arith, replicate-zero segmentLimit j);
       counts-fit = λ d. omega (arith, replicate-zero countPlaces d);
       loaded-fits = refl;
-      swept-fits = λ b l. none-swept (begun kind n wanted groups S C) (segmentCountOf (begun kind n wanted groups S C)) (replicate-zero segmentLimit) b;
+      swept-fits = λ b l. none-swept (begun terms) (segmentCountOf (begun terms)) (replicate-zero segmentLimit) b;
     })
 
-pub begin-coherent : (kind n : ℕ) (wanted : List ℤ) (groups S C : ℕ) → beginOf kind n wanted groups S C .refusal ≡ 0
-    → isCoherent (beginOf kind n wanted groups S C .job) ≡ true
+pub begin-coherent : (terms : Terms) → beginOf terms .refusal ≡ 0
+    → isCoherent (beginOf terms .job) ≡ true
 unfolding beginOf
-begin-coherent kind n wanted groups S C h =
-    rw (eq-eqb (beginRefusal kind n wanted groups S C) 0 h) (begun-coherent kind n wanted groups S C h)
+begin-coherent terms h =
+    rw (eq-eqb (beginRefusal terms) 0 h) (begun-coherent terms h)
 
 module _ (job : Job) (coherent : isCoherent job ≡ true) where
   facts : Coherent job
@@ -216,7 +217,7 @@ module _ (job : Job) (coherent : isCoherent job ≡ true) where
 
   module _ (j : ℕ) (segment log : List ℕ) (room : countOf job (levelOf (job .phase)) + stackCountAt job j ≤ countLimit) where
     abbrev marked : Marks
-    marked = markAll (job .size) (levelOf (job .phase)) (indexesOf (job .size) j (pending job j log)) (marksFrom job segment)
+    marked = markAll (job .terms .size) (levelOf (job .phase)) (indexesOf (job .terms .size) j (pending job j log)) (marksFrom job segment)
 
     settled-count : settleRefusal job j (length segment) log ≡ 0 → marked .count ≤ countLimit
     unfolding stackCountAt stackCountIn
@@ -224,8 +225,8 @@ module _ (job : Job) (coherent : isCoherent job ≡ true) where
         let f = settle-facts job j (length segment) log h in
         omega (
           arith,
-          all-budget (job .size) (levelOf (job .phase)) j (stackCountAt job j) (pending job j log) (marksFrom job segment)
-              (let l : stackCountAt job j ≤ job .size = omega arith in l) (f .1) (f .0 .long),
+          all-budget (job .terms .size) (levelOf (job .phase)) j (stackCountAt job j) (pending job j log) (marksFrom job segment)
+              (let l : stackCountAt job j ≤ job .terms .size = omega arith in l) (f .1) (f .0 .long),
           tally-le (λ i. eqb (entryAt segment i) 3) (stackCountAt job j),
         )
 
@@ -238,7 +239,7 @@ module _ (job : Job) (coherent : isCoherent job ≡ true) where
           begins = facts .begins;
           phase-fits = facts .phase-fits;
           passed-fits = facts .passed-fits;
-          waiting-fits = λ i l. set-fits (job .waiting) j 0 i (cond (ltb i (segmentCountOf job)) (job .room) 0) (λ e. omega arith) (facts .waiting-fits i l);
+          waiting-fits = λ i l. set-fits (job .waiting) j 0 i (cond (ltb i (segmentCountOf job)) (job .terms .room) 0) (λ e. omega arith) (facts .waiting-fits i l);
           counts-fit = λ d. set-fits (job .counts) (levelOf (job .phase)) (marked .count) d countLimit (λ e. settled-count h) (facts .counts-fit d);
           loaded-fits = facts .loaded-fits;
           swept-fits = facts .swept-fits;
@@ -256,7 +257,7 @@ module _ (job : Job) (coherent : isCoherent job ≡ true) where
 
   module _ (j : ℕ) (segment list : List ℕ) (room : countOf job (levelOf (job .phase)) + stackCountAt job j ≤ countLimit) where
     abbrev found : Marks
-    found = markAll (job .size) (levelOf (job .phase)) (indexesOf (job .size) j (reachedIn job j list)) (marksFrom job segment)
+    found = markAll (job .terms .size) (levelOf (job .phase)) (indexesOf (job .terms .size) j (reachedIn job j list)) (marksFrom job segment)
 
     -- what is reached is an offset of the segment
     reached-below : all (λ i. ltb i (stackCountAt job j)) (reachedIn job j list) ≡ true
@@ -264,7 +265,7 @@ module _ (job : Job) (coherent : isCoherent job ≡ true) where
     reached-below =
         at-all (λ i. ltb i (stackCountAt job j)) (reachedIn job j list) 0
         (λ k l.
-        let r = filter-from (λ i. isReached job list (j * job .size + i)) 0 (from 0 (stackCountAt job j)) k l in
+        let r = filter-from (λ i. isReached job list (j * job .terms .size + i)) 0 (from 0 (stackCountAt job j)) k l in
         lt-ltb (getD (reachedIn job j list) k 0) (stackCountAt job j)
         (omega (arith, r .1, r .3, from-length 0 (stackCountAt job j), getD-from 0 (stackCountAt job j) (r .0) 0 (omega (arith, r .1, from-length 0 (stackCountAt job j))))))
 
@@ -273,8 +274,8 @@ module _ (job : Job) (coherent : isCoherent job ≡ true) where
     found-count long =
         omega (
           arith,
-          all-budget (job .size) (levelOf (job .phase)) j (stackCountAt job j) (reachedIn job j list) (marksFrom job segment)
-              (let l : stackCountAt job j ≤ job .size = omega arith in l) reached-below long,
+          all-budget (job .terms .size) (levelOf (job .phase)) j (stackCountAt job j) (reachedIn job j list) (marksFrom job segment)
+              (let l : stackCountAt job j ≤ job .terms .size = omega arith in l) reached-below long,
           tally-le (λ i. eqb (entryAt segment i) 3) (stackCountAt job j),
         )
 
@@ -302,7 +303,7 @@ module _ (job : Job) (coherent : isCoherent job ≡ true) where
         low = loaded-below job (facts .loaded-fits) (f .loaded)
 
         few : segmentCountOf job ≤ segmentLimit
-        few = Terms.few (begin-given (job .kind) (job .n) (job .wanted) (job .groups) (job .size) (job .room) (facts .begins))
+        few = Given.few (begin-given (facts .begins))
 
     pub sweep-coherent : isCoherent (sweepOf job j segment list .1 .job) ≡ true
     sweep-coherent = go (eq-or-ne (sweepRefusal job j (length segment) (length list)) 0)

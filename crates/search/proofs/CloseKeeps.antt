@@ -26,10 +26,12 @@ use Rattle.search.specs.Close.{isDone, isSweptWhole, isReady, isPastLast
 use Rattle.search.specs.Entries.{entryAt, bytesFor, blank, setEntry}
 use Rattle.search.specs.JobState.{isCoherent, isLevel, isFinished, isReverse, inReverse, levelOf, lastLevel, noSegment, segmentCountOf, stackCountAt, passedOf, waitingOf, sweptOf, isSwept, countOf, progressed, directed}
 use Rattle.search.specs.Segments.{segmentLimit}
+use Rattle.search.specs.Terms.{N, G, m}
 use Rattle.search.specs.declared.Answer.{Answer}
 use Rattle.search.specs.declared.Job.{Job}
 use Rattle.search.specs.declared.Phase.{Phase}
 use Rattle.search.specs.declared.Phase.the-variants.{Blanking, Level, Finished}
+use Rattle.search.specs.declared.Terms.{Terms}
 use Rattle.search.specs.declared.Way.{Way}
 use Rattle.search.proofs.Accepted.{reverse-level, level-reverse, CloseFacts, past-facts, close-facts, close-accepted}
 use Rattle.search.proofs.EntryLaws.{set-bytes, get-set-same, get-set-other, blank-length, blank-bytes, blank-entry, byte-inside, spare-inside}
@@ -37,37 +39,37 @@ use Rattle.search.proofs.Invariant.{Shaped, Spares, Blanks, Searches, E
 use Rattle.search.proofs.PairLaws.{none-swept}
 use Rattle.search.proofs.SegmentLaws.{segment-some, stack-segment, stack-offset}
 use Rattle.search.proofs.Shapes.{size-is, segments-is, stacks-is, goal-is}
-use Rattle.search.proofs.Terms.{Terms, Given, N, G, m, moves, step, goal, D, levelCount, beyond, some, few, depths, goal-here}
+use Rattle.search.proofs.Given.{Given, moves, step, goal, D, levelCount, beyond, some, few, depths, goal-here}
 
 -- ---- the entries of a blanked segment
 
 module _ (job : Job) (j : ℕ) where
   -- each is 3, but for the wanted stack's
-  blanked-entry : (i : ℕ) → i / 4 < bytesFor (stackCountAt job j) → (goalOf job / job .size ≡ j → i ≡ goalOf job % job .size → ⊥)
+  blanked-entry : (i : ℕ) → i / 4 < bytesFor (stackCountAt job j) → (goalOf job / job .terms .size ≡ j → i ≡ goalOf job % job .terms .size → ⊥)
       → entryAt (blanked job j) i ≡ 3
   unfolding blanked
-  blanked-entry i h away = go (eqb (goalOf job / job .size) j) refl
+  blanked-entry i h away = go (eqb (goalOf job / job .terms .size) j) refl
     where
-      go : (t : Bool) → eqb (goalOf job / job .size) j ≡ t
-          → entryAt (cond t (setEntry (blank (stackCountAt job j)) (goalOf job % job .size) 0) (blank (stackCountAt job j))) i ≡ 3
+      go : (t : Bool) → eqb (goalOf job / job .terms .size) j ≡ t
+          → entryAt (cond t (setEntry (blank (stackCountAt job j)) (goalOf job % job .terms .size) 0) (blank (stackCountAt job j))) i ≡ 3
       go true e =
-          get-set-other (blank (stackCountAt job j)) (goalOf job % job .size) i 0 (omega arith) (away (eqb-true (goalOf job / job .size) j e))
+          get-set-other (blank (stackCountAt job j)) (goalOf job % job .terms .size) i 0 (omega arith) (away (eqb-true (goalOf job / job .terms .size) j e))
           ∙ blank-entry (stackCountAt job j) i h
       go false e = blank-entry (stackCountAt job j) i h
 
   blanked-bytes : (k : ℕ) → getD (blanked job j) k 0 < 256
   unfolding blanked
-  blanked-bytes k = go (eqb (goalOf job / job .size) j)
+  blanked-bytes k = go (eqb (goalOf job / job .terms .size) j)
     where
-      go : (t : Bool) → getD (cond t (setEntry (blank (stackCountAt job j)) (goalOf job % job .size) 0) (blank (stackCountAt job j))) k 0 < 256
-      go true = set-bytes (blank (stackCountAt job j)) (goalOf job % job .size) 0 (omega arith) (blank-bytes (stackCountAt job j)) k
+      go : (t : Bool) → getD (cond t (setEntry (blank (stackCountAt job j)) (goalOf job % job .terms .size) 0) (blank (stackCountAt job j))) k 0 < 256
+      go true = set-bytes (blank (stackCountAt job j)) (goalOf job % job .terms .size) 0 (omega arith) (blank-bytes (stackCountAt job j)) k
       go false = blank-bytes (stackCountAt job j) k
 
-  blanked-goal : (i : ℕ) → i / 4 < bytesFor (stackCountAt job j) → goalOf job / job .size ≡ j → i ≡ goalOf job % job .size
+  blanked-goal : (i : ℕ) → i / 4 < bytesFor (stackCountAt job j) → goalOf job / job .terms .size ≡ j → i ≡ goalOf job % job .terms .size
       → entryAt (blanked job j) i ≡ 0
   unfolding blanked
   blanked-goal i h e q =
-      rw (eq-eqb (goalOf job / job .size) j e, ← q)
+      rw (eq-eqb (goalOf job / job .terms .size) j e, ← q)
       (get-set-same (blank (stackCountAt job j)) i 0 (omega arith) (rw blank-length h))
 
 -- ---- the world after a close
@@ -140,7 +142,7 @@ module _ {terms : Terms} {w : World} (shaped : Shaped terms w) (ready : isReady 
 
 pub no-log : (terms : Terms) (w : World) → ((j : ℕ) → waitingOf (w .job) j ≡ 0) → (v : ℕ) → Logged terms w v → ⊥
 unfolding Logged
-no-log terms w none v l = omega (arith, l .1 .1, none (v / terms .S))
+no-log terms w none v l = omega (arith, l .1 .1, none (v / terms .size))
 
 -- with nothing passed, waiting or swept, no edge is looked at and nothing is logged
 module _ (terms : Terms) (w : World) (way : Way) where
@@ -148,13 +150,13 @@ module _ (terms : Terms) (w : World) (way : Way) where
   unfolding Looked
   no-look u v l = go (l .0)
     where
-      go : (u % terms .S < passedOf (closedWorld w way .job) (u / terms .S)) ⊎ (isSwept (closedWorld w way .job) (u / terms .S) (v / terms .S) ≡ true) → ⊥
-      go (inl h) = omega (arith, closed-passed w way (u / terms .S))
-      go (inr h) = never h (closed-pair w way (u / terms .S) (v / terms .S))
+      go : (u % terms .size < passedOf (closedWorld w way .job) (u / terms .size)) ⊎ (isSwept (closedWorld w way .job) (u / terms .size) (v / terms .size) ≡ true) → ⊥
+      go (inl h) = omega (arith, closed-passed w way (u / terms .size))
+      go (inr h) = never h (closed-pair w way (u / terms .size) (v / terms .size))
 
   no-log-after : ((j : ℕ) → waitingOf (w .job) j ≡ 0) → (v : ℕ) → Logged terms (closedWorld w way) v → ⊥
   unfolding Logged
-  no-log-after none v l = omega (arith, l .1 .1, none (v / terms .S), closed-waiting w way (v / terms .S))
+  no-log-after none v l = omega (arith, l .1 .1, none (v / terms .size), closed-waiting w way (v / terms .size))
 
 -- a level that has been searched whole, whichever way: nothing waits, and every stack of its depth is reached
 pub record Complete (terms : Terms) (w : World) (d : ℕ) : Type 0 where
@@ -175,36 +177,36 @@ module _ {terms : Terms} (given : Given terms) where
         where
           go : (passedOf (w .job) j ≡ 0) ⊎ ((passedOf (w .job) j ≡ m terms j) × (getD (w .segments) j [] ≡ blanked (w .job) j))
               → getD (w .segments) j [] ≡ blanked (w .job) j
-          go (inl z) = absurd (omega (arith, ready-passed shaped ready unlevelled j h, segment-some (N terms) (terms .S) (some given) j h))
+          go (inl z) = absurd (omega (arith, ready-passed shaped ready unlevelled j h, segment-some (N terms) (terms .size) (some given) j h))
           go (inr z) = z .1
 
       module _ (v : ℕ) (h : v < N terms) where
-        entry-blanked : entryIn (terms .S) (w .segments) v ≡ entryAt (blanked (w .job) (v / terms .S)) (v % terms .S)
+        entry-blanked : entryIn (terms .size) (w .segments) v ≡ entryAt (blanked (w .job) (v / terms .size)) (v % terms .size)
         unfolding entryIn
         entry-blanked =
-            ap (λ (bytes : List ℕ). entryAt bytes (v % terms .S)) (all-blanked (v / terms .S) (stack-segment (N terms) (terms .S) (some given) v h))
+            ap (λ (bytes : List ℕ). entryAt bytes (v % terms .size)) (all-blanked (v / terms .size) (stack-segment (N terms) (terms .size) (some given) v h))
 
-        byte-there : v % terms .S / 4 < bytesFor (stackCountAt (w .job) (v / terms .S))
+        byte-there : v % terms .size / 4 < bytesFor (stackCountAt (w .job) (v / terms .size))
         byte-there =
-            rw (stacks-is shaped (v / terms .S))
-            (byte-inside (v % terms .S) (m terms (v / terms .S)) (stack-offset (N terms) (terms .S) (some given) v h))
+            rw (stacks-is shaped (v / terms .size))
+            (byte-inside (v % terms .size) (m terms (v / terms .size)) (stack-offset (N terms) (terms .size) (some given) v h))
 
-      goal-place : goalOf (w .job) / w .job .size ≡ goal terms / terms .S
+      goal-place : goalOf (w .job) / w .job .terms .size ≡ goal terms / terms .size
       goal-place = rw (goal-is shaped, size-is shaped)
 
-      goal-offset : goalOf (w .job) % w .job .size ≡ goal terms % terms .S
+      goal-offset : goalOf (w .job) % w .job .terms .size ≡ goal terms % terms .size
       goal-offset = rw (goal-is shaped, size-is shaped)
 
-      blank-start : entryIn (terms .S) (w .segments) (goal terms) ≡ 0
+      blank-start : entryIn (terms .size) (w .segments) (goal terms) ≡ 0
       blank-start =
           let g = goal terms in
-          entry-blanked g (goal-here given) ∙ blanked-goal (w .job) (g / terms .S) (g % terms .S) (byte-there g (goal-here given)) goal-place (sym goal-offset)
+          entry-blanked g (goal-here given) ∙ blanked-goal (w .job) (g / terms .size) (g % terms .size) (byte-there g (goal-here given)) goal-place (sym goal-offset)
 
-      blank-away : (v : ℕ) → v < N terms → (v ≡ goal terms → ⊥) → entryIn (terms .S) (w .segments) v ≡ 3
+      blank-away : (v : ℕ) → v < N terms → (v ≡ goal terms → ⊥) → entryIn (terms .size) (w .segments) v ≡ 3
       blank-away v h ne =
           entry-blanked v h
-          ∙ blanked-entry (w .job) (v / terms .S) (v % terms .S) (byte-there v h)
-          (λ e q. ne (cc (div-add-mod' v (terms .S), div-add-mod' (goal terms) (terms .S), goal-place, goal-offset)))
+          ∙ blanked-entry (w .job) (v / terms .size) (v % terms .size) (byte-there v h)
+          (λ e q. ne (cc (div-add-mod' v (terms .size), div-add-mod' (goal terms) (terms .size), goal-place, goal-offset)))
 
       blank-spares : Spares terms (closedWorld w way)
       unfolding closedWorld
@@ -216,7 +218,7 @@ module _ {terms : Terms} (given : Given terms) where
                 (λ e q. omega (
                   arith,
                   goal-offset,
-                  stack-offset (N terms) (terms .S) (some given) (goal terms) (goal-here given),
+                  stack-offset (N terms) (terms .size) (some given) (goal terms) (goal-here given),
                   ap (m terms) (sym goal-place ∙ e),
                 ));
           }
@@ -289,15 +291,15 @@ module _ {terms : Terms} (given : Given terms) where
               (λ u k h e m. (met u k h m (test-cases (isReverse (w .job .way))), (k, m, refl)));
         }
       where
-        home : (u : ℕ) → u < N terms → u / terms .S < G terms
-        home u h = stack-segment (N terms) (terms .S) (some given) u h
+        home : (u : ℕ) → u < N terms → u / terms .size < G terms
+        home u h = stack-segment (N terms) (terms .size) (some given) u h
 
         met : (u k : ℕ) → u < N terms → isMove (moves terms) k ≡ true → (isReverse (w .job .way) ≡ true) ⊎ (isReverse (w .job .way) ≡ false)
-            → (u % terms .S < passedOf (w .job) (u / terms .S)) ⊎ (isSwept (w .job) (u / terms .S) (step terms k u / terms .S) ≡ true)
+            → (u % terms .size < passedOf (w .job) (u / terms .size)) ⊎ (isSwept (w .job) (u / terms .size) (step terms k u / terms .size) ≡ true)
         met u k h m (inl reverse) =
-            inr (ready-reverse reverse (u / terms .S) (step terms k u / terms .S) (home u h) (home (step terms k u) (depths given .graph .inside k u m h)))
+            inr (ready-reverse reverse (u / terms .size) (step terms k u / terms .size) (home u h) (home (step terms k u) (depths given .graph .inside k u m h)))
         met u k h m (inr forward) =
-            inl (rw (ready-forward forward (u / terms .S) (home u h)) (stack-offset (N terms) (terms .S) (some given) u h))
+            inl (rw (ready-forward forward (u / terms .size) (home u h)) (stack-offset (N terms) (terms .size) (some given) u h))
 
   -- ---- from a level to the next, or to the end, however it was searched
 
@@ -327,21 +329,21 @@ module _ {terms : Terms} (given : Given terms) where
       level-empty v h e =
           never (eq-eqb (D terms v) d e) (tally-zero (λ u. eqb (D terms u) d) (N terms) (sym count-whole ∙ empty) v h)
 
-      all-above : (v : ℕ) → v < N terms → D terms v < beyond → (D terms v < d) × (entryIn (terms .S) (w .segments) v ≡ D terms v % 3)
+      all-above : (v : ℕ) → v < N terms → D terms v < beyond → (D terms v < d) × (entryIn (terms .size) (w .segments) v ≡ D terms v % 3)
       all-above v h near = go (Levels.level-end (depths given) (search .level) level-empty v h)
         where
-          go : ((D terms v < d) × (entryIn (terms .S) (w .segments) v ≡ D terms v % 3))
-              ⊎ ((D terms v ≡ beyond) × (entryIn (terms .S) (w .segments) v ≡ 3))
-              → (D terms v < d) × (entryIn (terms .S) (w .segments) v ≡ D terms v % 3)
+          go : ((D terms v < d) × (entryIn (terms .size) (w .segments) v ≡ D terms v % 3))
+              ⊎ ((D terms v ≡ beyond) × (entryIn (terms .size) (w .segments) v ≡ 3))
+              → (D terms v < d) × (entryIn (terms .size) (w .segments) v ≡ D terms v % 3)
           go (inl r) = r
           go (inr r) = absurd (omega (arith, r .0))
 
-      all-beyond : (v : ℕ) → v < N terms → D terms v ≡ beyond → entryIn (terms .S) (w .segments) v ≡ 3
+      all-beyond : (v : ℕ) → v < N terms → D terms v ≡ beyond → entryIn (terms .size) (w .segments) v ≡ 3
       all-beyond v h far = go (Levels.level-end (depths given) (search .level) level-empty v h)
         where
-          go : ((D terms v < d) × (entryIn (terms .S) (w .segments) v ≡ D terms v % 3))
-              ⊎ ((D terms v ≡ beyond) × (entryIn (terms .S) (w .segments) v ≡ 3))
-              → entryIn (terms .S) (w .segments) v ≡ 3
+          go : ((D terms v < d) × (entryIn (terms .size) (w .segments) v ≡ D terms v % 3))
+              ⊎ ((D terms v ≡ beyond) × (entryIn (terms .size) (w .segments) v ≡ 3))
+              → entryIn (terms .size) (w .segments) v ≡ 3
           go (inl r) = absurd (omega (arith, r .0, far, search .last))
           go (inr r) = r .1
 

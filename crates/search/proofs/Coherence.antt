@@ -1,12 +1,10 @@
--- Coherent jobs: what coherence says, and that it asks of the first six fields what Begin asks of its arguments.
+-- Coherent jobs: what coherence says, and that it asks of its terms what Begin asks.
 use mathlib.Core.Path.{_≡_}
 use mathlib.Core.Logic.{_⊎_, inl, inr}
 use mathlib.Core.Bool.{true, _&&_, cond}
-use mathlib.Core.List.{List}
 use Prim.Native.Nat.{ℕ, _-_, _^_, _≤_, _<_}
 use native.Mathlib.Omega.{arith}
 use lib.Dec.{leb, ltb, eqb}
-use lib.IntN.{ℤ}
 use lib.ListN.{length, getD, List·getD-eq-default}
 use borrow.Author.Tests.{leb-true, le-leb, ltb-true, lt-ltb, eqb-true, eq-eqb}
 use Rattle.base.specs.Words.{unless, all, from}
@@ -14,51 +12,55 @@ use Rattle.base.proofs.Counting.{all-at, at-all, all-below, below-all}
 use Rattle.base.proofs.Tests.{unless-zero, and-left, and-right, and-both, lt-or-ge}
 use Rattle.stacks.specs.Operations.{kindRefusal}
 use Rattle.stacks.specs.Turn.{isGroupSet}
-use Rattle.stacks.specs.Stack.{isKind, isPaneCount, isStack, stackCount}
-use Rattle.search.specs.JobState.{countLimit, beginRefusal, segmentCountOf, stackCountAt, passedOf, waitingOf, countOf, phaseFits, segmentFits, countFits, isCoherent, sweptOf, sweptFits, loadedFits}
+use Rattle.stacks.specs.Stack.{isKind, isPaneCount, isStack}
+use Rattle.search.specs.JobState.{countLimit, segmentCountOf, stackCountAt, passedOf, waitingOf, countOf, phaseFits, segmentFits, countFits, countsFit, isCoherent, sweptOf, sweptFits, loadedFits}
 use Rattle.search.specs.Segments.{segmentLimit, isSegmentSize, isLogRoom}
+use Rattle.search.specs.Terms.{N, beginRefusal}
 use Rattle.search.specs.declared.Job.{Job}
-use Rattle.search.proofs.Terms.{Terms, termsWith, Given}
+use Rattle.search.specs.declared.Terms.{Terms}
+use Rattle.search.proofs.Given.{Given}
 
 -- ---- what an accepted Begin was given
 
-pub begin-given : (kind n : ℕ) (wanted : List ℤ) (groups S C : ℕ) → beginRefusal kind n wanted groups S C ≡ 0 → Given (termsWith kind n wanted groups S C)
+pub begin-given : {terms : Terms} → beginRefusal terms ≡ 0 → Given terms
 unfolding beginRefusal kindRefusal
-begin-given kind n wanted groups S C h =
-    let room : ℕ = unless (isLogRoom C) 6 0 in
-    let segments : ℕ = unless (isSegmentSize (stackCount kind n) S) 5 room in
-    let named : ℕ = unless (isGroupSet kind n groups) 21 segments in
-    let stack : ℕ = unless (isStack kind n wanted) 3 named in
+begin-given {terms} h =
+    let kind = terms .kind in
+    let n = terms .n in
+    let room : ℕ = unless (isLogRoom (terms .room)) 6 0 in
+    let segments : ℕ = unless (isSegmentSize (N terms) (terms .size)) 5 room in
+    let named : ℕ = unless (isGroupSet kind n (terms .groups)) 21 segments in
+    let stack : ℕ = unless (isStack kind n (terms .wanted)) 3 named in
     let a = unless-zero (isKind kind) 0 (unless (isPaneCount kind n) 2 stack) h in
     let b = unless-zero (isPaneCount kind n) 1 stack (a .1) in
-    let c = unless-zero (isStack kind n wanted) 2 named (b .1) in
-    let e = unless-zero (isGroupSet kind n groups) 20 segments (c .1) in
-    let d = unless-zero (isSegmentSize (stackCount kind n) S) 4 room (e .1) in
-    record { is-kind = a .0; in-range = b .0; stack = c .0; of-set = e .0; segments = d .0; room = unless-zero (isLogRoom C) 5 0 (d .1) .0 }
+    let c = unless-zero (isStack kind n (terms .wanted)) 2 named (b .1) in
+    let e = unless-zero (isGroupSet kind n (terms .groups)) 20 segments (c .1) in
+    let d = unless-zero (isSegmentSize (N terms) (terms .size)) 4 room (e .1) in
+    record { is-kind = a .0; in-range = b .0; stack = c .0; of-set = e .0; segments = d .0; room = unless-zero (isLogRoom (terms .room)) 5 0 (d .1) .0 }
 
-pub given-begin : (terms : Terms) → Given terms → beginRefusal (terms .kind) (terms .n) (terms .wanted) (terms .groups) (terms .S) (terms .C) ≡ 0
+pub given-begin : (terms : Terms) → Given terms → beginRefusal terms ≡ 0
 unfolding beginRefusal kindRefusal
 given-begin terms g = rw (g .is-kind, g .in-range, g .stack, g .of-set, g .segments, g .room)
 
 -- ---- coherence
 
 pub record Coherent (job : Job) : Type 0 where
-  pub begins : beginRefusal (job .kind) (job .n) (job .wanted) (job .groups) (job .size) (job .room) ≡ 0
+  pub begins : beginRefusal (job .terms) ≡ 0
   pub phase-fits : phaseFits (job .phase) ≡ true
   pub passed-fits : (j : ℕ) → j < segmentLimit → passedOf job j ≤ stackCountAt job j
-  pub waiting-fits : (j : ℕ) → j < segmentLimit → waitingOf job j ≤ cond (ltb j (segmentCountOf job)) (job .room) 0
+  pub waiting-fits : (j : ℕ) → j < segmentLimit → waitingOf job j ≤ cond (ltb j (segmentCountOf job)) (job .terms .room) 0
   pub counts-fit : (d : ℕ) → countOf job d ≤ countLimit
   pub loaded-fits : loadedFits job ≡ true
   pub swept-fits : (b : ℕ) → b < segmentLimit → sweptOf job b < cond (ltb b (segmentCountOf job)) (2 ^ segmentCountOf job) 1
 
 module _ (job : Job) where
   pub coherent-facts : isCoherent job ≡ true → Coherent job
-  unfolding isCoherent segmentFits countFits countOf sweptFits
+  unfolding isCoherent segmentFits countFits countsFit countOf sweptFits
   coherent-facts h =
-      let begins = eqb (beginRefusal (job .kind) (job .n) (job .wanted) (job .groups) (job .size) (job .room)) 0 in
+      let begins = eqb (beginRefusal (job .terms)) 0 in
       let phase = phaseFits (job .phase) in
       let segments = all (segmentFits job) (from 0 segmentLimit) in
-      let counts = all countFits (job .counts) in
+      let counts = countsFit job in
       let swept = all (sweptFits job) (from 0 segmentLimit) in
       let five = and-left (begins && phase && segments && counts && loadedFits job) swept h in
       let four = and-left (begins && phase && segments && counts) (loadedFits job) five in
@@ -67,12 +69,12 @@ module _ (job : Job) where
       let each : (j : ℕ) → j < segmentLimit → segmentFits job j ≡ true =
       λ j l. all-below (segmentFits job) segmentLimit j (and-right (begins && phase) segments three) l in
       record {
-        begins = eqb-true (beginRefusal (job .kind) (job .n) (job .wanted) (job .groups) (job .size) (job .room)) 0 (and-left begins phase two);
+        begins = eqb-true (beginRefusal (job .terms)) 0 (and-left begins phase two);
         phase-fits = and-right begins phase two;
         passed-fits = λ j l. leb-true (passedOf job j) (stackCountAt job j)
-            (and-left (leb (passedOf job j) (stackCountAt job j)) (leb (waitingOf job j) (cond (ltb j (segmentCountOf job)) (job .room) 0)) (each j l));
-        waiting-fits = λ j l. leb-true (waitingOf job j) (cond (ltb j (segmentCountOf job)) (job .room) 0)
-            (and-right (leb (passedOf job j) (stackCountAt job j)) (leb (waitingOf job j) (cond (ltb j (segmentCountOf job)) (job .room) 0)) (each j l));
+            (and-left (leb (passedOf job j) (stackCountAt job j)) (leb (waitingOf job j) (cond (ltb j (segmentCountOf job)) (job .terms .room) 0)) (each j l));
+        waiting-fits = λ j l. leb-true (waitingOf job j) (cond (ltb j (segmentCountOf job)) (job .terms .room) 0)
+            (and-right (leb (passedOf job j) (stackCountAt job j)) (leb (waitingOf job j) (cond (ltb j (segmentCountOf job)) (job .terms .room) 0)) (each j l));
         counts-fit = λ d. go d (and-right (begins && phase && segments) counts four) (lt-or-ge d (length (job .counts)));
         loaded-fits = and-right (begins && phase && segments && counts) (loadedFits job) five;
         swept-fits = λ b l. ltb-true (sweptOf job b) (cond (ltb b (segmentCountOf job)) (2 ^ segmentCountOf job) 1)
@@ -84,22 +86,22 @@ module _ (job : Job) where
       go d h (inr l) = rw (List·getD-eq-default (job .counts) 0 l) (omega arith)
 
   pub facts-coherent : Coherent job → isCoherent job ≡ true
-  unfolding isCoherent segmentFits countFits countOf sweptFits
+  unfolding isCoherent segmentFits countFits countsFit countOf sweptFits
   facts-coherent c =
-      let begins = eqb (beginRefusal (job .kind) (job .n) (job .wanted) (job .groups) (job .size) (job .room)) 0 in
+      let begins = eqb (beginRefusal (job .terms)) 0 in
       let phase = phaseFits (job .phase) in
       let segments = all (segmentFits job) (from 0 segmentLimit) in
-      let counts = all countFits (job .counts) in
+      let counts = countsFit job in
       let swept = all (sweptFits job) (from 0 segmentLimit) in
       and-both (begins && phase && segments && counts && loadedFits job) swept
       (and-both (begins && phase && segments && counts) (loadedFits job)
       (and-both (begins && phase && segments) counts
       (and-both (begins && phase) segments
-      (and-both begins phase (eq-eqb (beginRefusal (job .kind) (job .n) (job .wanted) (job .groups) (job .size) (job .room)) 0 (c .begins)) (c .phase-fits))
+      (and-both begins phase (eq-eqb (beginRefusal (job .terms)) 0 (c .begins)) (c .phase-fits))
       (below-all (segmentFits job) segmentLimit
-      (λ j l. and-both (leb (passedOf job j) (stackCountAt job j)) (leb (waitingOf job j) (cond (ltb j (segmentCountOf job)) (job .room) 0))
+      (λ j l. and-both (leb (passedOf job j) (stackCountAt job j)) (leb (waitingOf job j) (cond (ltb j (segmentCountOf job)) (job .terms .room) 0))
       (le-leb (passedOf job j) (stackCountAt job j) (c .passed-fits j l))
-      (le-leb (waitingOf job j) (cond (ltb j (segmentCountOf job)) (job .room) 0) (c .waiting-fits j l)))))
+      (le-leb (waitingOf job j) (cond (ltb j (segmentCountOf job)) (job .terms .room) 0) (c .waiting-fits j l)))))
       (at-all countFits (job .counts) 0 (λ d l. le-leb (getD (job .counts) d 0) countLimit (c .counts-fit d))))
       (c .loaded-fits))
       (below-all (sweptFits job) segmentLimit

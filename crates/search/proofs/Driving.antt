@@ -20,11 +20,14 @@ use Rattle.search.specs.Entries.{bytesFor, entryAt}
 use Rattle.search.specs.Expand.{isParent}
 use Rattle.search.specs.JobState.{isBlanking, isFinished, isReverse, inReverse, levelOf, lastLevel, segmentCountOf, stackCountAt, passedOf, waitingOf, isLoaded, isSwept, sweptOf, directed}
 use Rattle.search.specs.Load.{changedOf, loadRefusal, loadOf}
+use Rattle.search.specs.Promise.{rightLengths}
 use Rattle.search.specs.Segments.{segmentCount, stackCountIn}
+use Rattle.search.specs.Terms.{N, G, m}
 use Rattle.search.specs.declared.Answer.{Answer}
 use Rattle.search.specs.declared.Job.{Job}
 use Rattle.search.specs.declared.Phase.{Phase}
 use Rattle.search.specs.declared.Phase.the-variants.{Blanking, Level, Finished}
+use Rattle.search.specs.declared.Terms.{Terms}
 use Rattle.search.proofs.Accepted.{load-accepted, load-refused}
 use Rattle.search.proofs.Advancing.{Advances, advances, on-unfinished, close-advances, all-ready, blanks-forward, blank-advances, search-forward, settle-advances, expand-advances, search-reverse, load-advances, sweep-advances, swept-ready, pair-left}
 use Rattle.search.proofs.ChangedLaws.{list-length}
@@ -36,7 +39,7 @@ use Rattle.search.proofs.Shapes.{size-is, count-is, segments-is, stacks
 use Rattle.search.proofs.Staging.{redirected}
 use Rattle.search.proofs.Steps.{step-keeps}
 use Rattle.search.proofs.WorkLeft.{workLeft, levelsLeft, phaseLeft, phaseMost, phase-less}
-use Rattle.search.proofs.Terms.{Terms, termsOf, Given, N, G, m, lengthsOf}
+use Rattle.search.proofs.Given.{Given}
 
 -- ---- the driver's choice, case by case
 
@@ -394,18 +397,18 @@ module _ {terms : Terms} (given : Given terms) where
   unfolding held laid listBytesAt
   laid-stored list wide w invariant fits =
       let shaped = invariant .shaped in
-      let sizes = segment-size-facts (N terms) (terms .S) (given .segments) in
-      let some : 0 < terms .S = omega (arith, sizes .least) in
-      let whole : Segmented (N terms) (terms .S) (w .segments) = shaped-segmented shaped given in
+      let sizes = segment-size-facts (N terms) (terms .size) (given .segments) in
+      let some : 0 < terms .size = omega (arith, sizes .least) in
+      let whole : Segmented (N terms) (terms .size) (w .segments) = shaped-segmented shaped given in
       let front : ℕ = listBytesAt (w .job) (w .job .loaded) in
       let all : List ℕ = w .changed ++ drop (length (w .changed)) list in
       record {
         invariant = subst (Invariant terms)
             (ap (λ (segments : List (List ℕ)). record { job = w .job; segments = segments; log = w .log; changed = take front all })
-            (sym (rw (count-is shaped, size-is shaped) (cut-joined (N terms) (terms .S) some (sizes .four) (w .segments) whole))))
+            (sym (rw (count-is shaped, size-is shaped) (cut-joined (N terms) (terms .size) some (sizes .four) (w .segments) whole))))
             (rechanged invariant (take front all) (λ d s r l. take-at (w .changed) (drop (length (w .changed)) list) front
             (s .listed r l .long ∙ ap listBytes (sym (stacks-is shaped (w .job .loaded))))));
-        table-long = joined-length (N terms) (terms .S) (w .segments) whole;
+        table-long = joined-length (N terms) (terms .size) (w .segments) whole;
         list-long = length-append (w .changed) (drop (length (w .changed)) list) ∙ omega (arith, length-drop (length (w .changed)) list, wide);
       }
 
@@ -445,13 +448,13 @@ module _ {terms : Terms} (given : Given terms) where
   module _ {s : Store} (stored : Stored terms s) where
     -- the world after the driver's call
     abbrev called : World
-    called = outcome {right = lengthsOf terms} (held s) (nextCall (s .job) (s .list)) .world
+    called = outcome {right = rightLengths terms} (held s) (nextCall (s .job) (s .list)) .world
 
     called-is : advanced s ≡ laid (s .list) called
     unfolding advanced held
     called-is =
         ap (λ (o : Outcome). laid (s .list) (o .world))
-        (next-same (lengthsOf (termsOf (s .job))) (lengthsOf terms) (held s) (s .list))
+        (next-same (rightLengths ((s .job .terms))) (rightLengths terms) (held s) (s .list))
 
     pub advanced-stored : Stored terms (advanced s)
     unfolding held
@@ -461,23 +464,23 @@ module _ {terms : Terms} (given : Given terms) where
         (omega (
           arith,
           stored .list-long,
-          changed-fits {right = lengthsOf terms} (stored .invariant .shaped)
+          changed-fits {right = rightLengths terms} (stored .invariant .shaped)
               (omega (arith, stored .list-long, length-take (listBytesAt (s .job) (s .job .loaded)) (s .list)))
               (nextCall (s .job) (s .list)),
         )))
 
     pub advanced-falls : hasEnded (s .job) ≡ false
-        → workLeft (N terms) (terms .S) (advanced s .job) < workLeft (N terms) (terms .S) (s .job)
+        → workLeft (N terms) (terms .size) (advanced s .job) < workLeft (N terms) (terms .size) (s .job)
     unfolding Nexts held laid
     advanced-falls on =
         let a = next-advances given (stored .invariant) (s .list) (stored .list-long) on in
-        subst (λ (x : Store). workLeft (N terms) (terms .S) (x .job) < workLeft (N terms) (terms .S) (s .job)) (sym called-is)
-        (subst (λ (c : Call (lengthsOf terms)). workLeft (N terms) (terms .S) (outcome (held s) c .world .job) < workLeft (N terms) (terms .S) (s .job))
+        subst (λ (x : Store). workLeft (N terms) (terms .size) (x .job) < workLeft (N terms) (terms .size) (s .job)) (sym called-is)
+        (subst (λ (c : Call (rightLengths terms)). workLeft (N terms) (terms .size) (outcome (held s) c .world .job) < workLeft (N terms) (terms .size) (s .job))
         (a .1)
         (a .0 .falls))
 
     -- with nothing left to do it has ended
-    idle-ended : workLeft (N terms) (terms .S) (s .job) ≤ 0 → hasEnded (s .job) ≡ true
+    idle-ended : workLeft (N terms) (terms .size) (s .job) ≤ 0 → hasEnded (s .job) ≡ true
     idle-ended h = go (test-cases (hasEnded (s .job)))
       where
         go : (hasEnded (s .job) ≡ true) ⊎ (hasEnded (s .job) ≡ false) → hasEnded (s .job) ≡ true
@@ -485,25 +488,25 @@ module _ {terms : Terms} (given : Given terms) where
         go (inr e) = absurd (omega (arith, advanced-falls e))
 
   -- as many calls as there is work left bring it to its end, and more change nothing
-  pub drive-keeps : (calls : ℕ) (s : Store) → Stored terms s → workLeft (N terms) (terms .S) (s .job) ≤ calls
+  pub drive-keeps : (calls : ℕ) (s : Store) → Stored terms s → workLeft (N terms) (terms .size) (s .job) ≤ calls
       → Stored terms (drive calls s) × (hasEnded (drive calls s .job) ≡ true)
   unfolding drive
   drive-keeps zero s stored h = (stored, idle-ended stored h)
   drive-keeps (suc calls) s stored h = go (λ x i l. drive-keeps calls x i l) (hasEnded (s .job)) refl
     where
-      go : ((x : Store) → Stored terms x → workLeft (N terms) (terms .S) (x .job) ≤ calls
+      go : ((x : Store) → Stored terms x → workLeft (N terms) (terms .size) (x .job) ≤ calls
           → Stored terms (drive calls x) × (hasEnded (drive calls x .job) ≡ true))
           → (t : Bool) → hasEnded (s .job) ≡ t
           → (let x = cond t s (drive calls (advanced s)) in Stored terms x × (hasEnded (x .job) ≡ true))
       go rest true e = (stored, e)
       go rest false e = rest (advanced s) (advanced-stored stored) (omega (arith, advanced-falls stored e))
 
-  drive-more : (calls : ℕ) (s : Store) → Stored terms s → workLeft (N terms) (terms .S) (s .job) ≤ calls
+  drive-more : (calls : ℕ) (s : Store) → Stored terms s → workLeft (N terms) (terms .size) (s .job) ≤ calls
       → drive (suc calls) s ≡ drive calls s
   drive-more zero s stored h = drive-done 1 s (idle-ended stored h) ∙ sym (drive-done 0 s (idle-ended stored h))
   drive-more (suc calls) s stored h = go (λ x i l. drive-more calls x i l) (test-cases (hasEnded (s .job)))
     where
-      go : ((x : Store) → Stored terms x → workLeft (N terms) (terms .S) (x .job) ≤ calls → drive (suc calls) x ≡ drive calls x)
+      go : ((x : Store) → Stored terms x → workLeft (N terms) (terms .size) (x .job) ≤ calls → drive (suc calls) x ≡ drive calls x)
           → (hasEnded (s .job) ≡ true) ⊎ (hasEnded (s .job) ≡ false) → drive (suc (suc calls)) s ≡ drive (suc calls) s
       go rest (inl e) = drive-done (suc (suc calls)) s e ∙ sym (drive-done (suc calls) s e)
       go rest (inr e) =
@@ -511,7 +514,7 @@ module _ {terms : Terms} (given : Given terms) where
           ∙ rest (advanced s) (advanced-stored stored) (omega (arith, advanced-falls stored e))
           ∙ sym (drive-on calls s e)
 
-  pub drive-advanced : (calls : ℕ) (s : Store) → Stored terms s → workLeft (N terms) (terms .S) (s .job) ≤ calls
+  pub drive-advanced : (calls : ℕ) (s : Store) → Stored terms s → workLeft (N terms) (terms .size) (s .job) ≤ calls
       → hasEnded (s .job) ≡ false → drive calls s ≡ drive calls (advanced s)
   drive-advanced zero s stored h on = absurd (omega (arith, advanced-falls stored on))
   drive-advanced (suc calls) s stored h on =

@@ -7,7 +7,6 @@ use mathlib.Core.List.{List, [], _∷_}
 use Prim.Native.Nat.{ℕ, _+_, _*_, _%_, _<_, _≤_}
 use native.Mathlib.Omega.{arith}
 use lib.Dec.{leb, eqb}
-use lib.IntN.{ℤ}
 use lib.ListN.{getD}
 use lib.Seq.{ext-getD}
 use borrow.Author.Tests.{le-leb, lt-leb}
@@ -20,9 +19,12 @@ use Rattle.search.specs.Close.{isReady, isPastLast, isSweptWhole, nextPh
 use Rattle.search.specs.EitherWay.{SearchedWhole, SameLevel, EitherWay, JustClosed, EitherWayClosed}
 use Rattle.search.specs.Entries.{entryAt, bytesFor}
 use Rattle.search.specs.JobState.{lastLevel, segmentCountOf, countOf, isSwept, isReverse, isLevel, isFinished, levelOf, progressed, directed}
+use Rattle.search.specs.Promise.{rightLengths}
 use Rattle.search.specs.PromiseBy.{AtEnd}
+use Rattle.search.specs.Terms.{N, G, m}
 use Rattle.search.specs.declared.Phase.{Phase}
 use Rattle.search.specs.declared.Phase.the-variants.{Level}
+use Rattle.search.specs.declared.Terms.{Terms}
 use Rattle.search.specs.declared.Way.{Way}
 use Rattle.search.proofs.Accepted.{close-facts, close-phase}
 use Rattle.search.proofs.Advancing.{all-ready, search-forward, swept-ready}
@@ -37,12 +39,12 @@ use Rattle.search.proofs.Refused.{refusalOf, refusal-is}
 use Rattle.search.proofs.SegmentLaws.{segment-stack}
 use Rattle.search.proofs.Shapes.{segments-is, stacks-is}
 use Rattle.search.proofs.Steps.{after-keeps}
-use Rattle.search.proofs.Terms.{Terms, Given, N, G, m, D, levelCount, lengthsOf, some}
+use Rattle.search.proofs.Given.{Given, D, levelCount, some}
 use Rattle.search.proofs.WholeBuild.{after-append}
 
 -- what a level that is searched whole leaves, by the depths
 record Levelled (terms : Terms) (d : ℕ) (w : World) : Type 0 where
-  entries : (v : ℕ) → v < N terms → entryIn (terms .S) (w .segments) v ≡ cond (leb (D terms v) d) (D terms v % 3) 3
+  entries : (v : ℕ) → v < N terms → entryIn (terms .size) (w .segments) v ≡ cond (leb (D terms v) d) (D terms v % 3) 3
   counts : (i : ℕ) → countOf (w .job) i ≡ cond (leb i d) (levelCount terms i) 0
 
 level-searches : {terms : Terms} {w : World} → Invariant terms w → (d : ℕ) → w .job .phase ≡ Level d → Searches terms w d
@@ -91,19 +93,19 @@ module _ {terms : Terms} (given : Given terms) where
       levelled : Levelled terms d w
       levelled = record { entries = entry; counts = λ i. count i (lt-or-ge i d) (eq-or-ne i d) }
         where
-          found : (v : ℕ) → v < N terms → D terms v ≡ d → entryIn (terms .S) (w .segments) v ≡ d % 3
+          found : (v : ℕ) → v < N terms → D terms v ≡ d → entryIn (terms .size) (w .segments) v ≡ d % 3
           found = level-found (search .level) (no-log terms w (complete .none-waits)) (complete .reached)
 
-          deep : (v : ℕ) → d < D terms v → (entryIn (terms .S) (w .segments) v ≡ 3) ⊎ ((D terms v ≡ d) × (entryIn (terms .S) (w .segments) v ≡ d % 3))
-              → entryIn (terms .S) (w .segments) v ≡ 3
+          deep : (v : ℕ) → d < D terms v → (entryIn (terms .size) (w .segments) v ≡ 3) ⊎ ((D terms v ≡ d) × (entryIn (terms .size) (w .segments) v ≡ d % 3))
+              → entryIn (terms .size) (w .segments) v ≡ 3
           deep v l (inl e) = e
           deep v l (inr e) = absurd (omega (arith, e .0))
 
-          entry : (v : ℕ) → v < N terms → entryIn (terms .S) (w .segments) v ≡ cond (leb (D terms v) d) (D terms v % 3) 3
+          entry : (v : ℕ) → v < N terms → entryIn (terms .size) (w .segments) v ≡ cond (leb (D terms v) d) (D terms v % 3) 3
           entry v h = go (lt-or-ge (D terms v) d) (eq-or-ne (D terms v) d)
             where
               go : (D terms v < d) ⊎ (d ≤ D terms v) → (D terms v ≡ d) ⊎ (D terms v ≡ d → ⊥)
-                  → entryIn (terms .S) (w .segments) v ≡ cond (leb (D terms v) d) (D terms v % 3) 3
+                  → entryIn (terms .size) (w .segments) v ≡ cond (leb (D terms v) d) (D terms v % 3) 3
               go (inl l) e = rw (le-leb (D terms v) d (omega arith)) (search .level .below v h l)
               go (inr l) (inl e) = rw (le-leb (D terms v) d (omega arith)) (found v h e ∙ sym (ap (λ (x : ℕ). x % 3) e))
               go (inr l) (inr ne) = rw (lt-leb (D terms v) d (omega arith)) (deep v (omega arith) (search .level .above v h l))
@@ -126,15 +128,15 @@ module _ {terms : Terms} (given : Given terms) where
         → entryAt (getD (w .segments) j []) i ≡ entryAt (getD (w′ .segments) j []) i
     same-entry j h i k = go (lt-or-ge i (m terms j))
       where
-        at : (x : World) → i < m terms j → entryIn (terms .S) (x .segments) (j * terms .S + i) ≡ entryAt (getD (x .segments) j []) i
-        at x l = entry-own (N terms) (terms .S) (some given) (x .segments) j i l
+        at : (x : World) → i < m terms j → entryIn (terms .size) (x .segments) (j * terms .size + i) ≡ entryAt (getD (x .segments) j []) i
+        at x l = entry-own (N terms) (terms .size) (some given) (x .segments) j i l
 
         go : (i < m terms j) ⊎ (m terms j ≤ i) → entryAt (getD (w .segments) j []) i ≡ entryAt (getD (w′ .segments) j []) i
         go (inl l) =
-            let v : j * terms .S + i < N terms = segment-stack (N terms) (terms .S) (some given) j i l in
+            let v : j * terms .size + i < N terms = segment-stack (N terms) (terms .size) (some given) j i l in
             sym (at w l)
-            ∙ levelled invariant search ready .entries (j * terms .S + i) v
-            ∙ sym (levelled invariant′ search′ ready′ .entries (j * terms .S + i) v)
+            ∙ levelled invariant search ready .entries (j * terms .size + i) v
+            ∙ sym (levelled invariant′ search′ ready′ .entries (j * terms .size + i) v)
             ∙ at w′ l
         go (inr l) = search .spares .spare j i h l k ∙ sym (search′ .spares .spare j i h l k)
 
@@ -172,35 +174,35 @@ module _ {terms : Terms} (given : Given terms) where
         by : ℕ → List ℕ → Phase → Phase
         by r counts phase = cond (eqb r 0) (nextPhase counts phase) phase
 
-    same-level : SameLevel (lengthsOf terms) w w′
+    same-level : SameLevel (rightLengths terms) w w′
     unfolding outcome closeOf
     same-level =
         record { segments = same-segments; counts = same-counts; refusals = λ way way′. same-refusal; phases = same-closed }
 
 pub either-way : EitherWay
 unfolding EitherWay
-either-way kind n wanted groups S C segments segments′ log log′ changed changed′ accepted buffers buffers′ calls calls′ d whole whole′ =
-    let given = begin-given kind n wanted groups S C accepted in
-    let a = after-keeps given (begun-invariant kind n wanted groups S C segments log changed buffers) calls in
-    let b = after-keeps given (begun-invariant kind n wanted groups S C segments′ log′ changed′ buffers′) calls′ in
+either-way terms segments segments′ log log′ changed changed′ accepted buffers buffers′ calls calls′ d whole whole′ =
+    let given = begin-given accepted in
+    let a = after-keeps given (begun-invariant terms segments log changed buffers) calls in
+    let b = after-keeps given (begun-invariant terms segments′ log′ changed′ buffers′) calls′ in
     let s = level-searches a d (whole .level) in
     let t = level-searches b d (whole′ .level) in
     same-level given a b s t (whole-ready given a s whole) (whole-ready given b t whole′)
 
 -- the other end of a build is the last level, searched whole, so any two builds of a Begin that come to it have the same table and counts
-pub end-whole : {kind n groups : ℕ} {wanted : List ℤ} {right : Lengths} {w : World} → AtEnd kind n groups wanted right w → SearchedWhole lastLevel w
+pub end-whole : {terms : Terms} {right : Lengths} {w : World} → AtEnd terms right w → SearchedWhole lastLevel w
 end-whole end = record { level = end .level; passed = end .passed; settled = λ forward. end .settled; swept = end .swept }
 
 -- ---- a level that is closed
 
-module _ {terms : Terms} (given : Given terms) {start : World} (begins : Invariant terms start) {d : ℕ} {calls : List (Call (lengthsOf terms))}
+module _ {terms : Terms} (given : Given terms) {start : World} (begins : Invariant terms start) {d : ℕ} {calls : List (Call (rightLengths terms))}
     (close : JustClosed start d calls) where
   abbrev last : World
   last = after start (close .before)
 
   accepts : closeRefusal (last .job) ≡ 0
   unfolding refusalOf
-  accepts = sym (refusal-is {right = lengthsOf terms} last (doClose (close .way))) ∙ close .accepted
+  accepts = sym (refusal-is {right = rightLengths terms} last (doClose (close .way))) ∙ close .accepted
 
   -- it was searched whole
   closed-whole : SearchedWhole d last
@@ -208,7 +210,7 @@ module _ {terms : Terms} (given : Given terms) {start : World} (begins : Invaria
       let invariant = after-keeps given begins (close .before) in
       ready-whole given invariant (level-searches invariant d (close .level)) (close-facts (last .job) accepts .ready)
 
-  leads : after start calls ≡ outcome {right = lengthsOf terms} last (doClose (close .way)) .world
+  leads : after start calls ≡ outcome {right = rightLengths terms} last (doClose (close .way)) .world
   unfolding after
   leads = ap (after start) (close .place) ∙ after-append start (close .before) (doClose (close .way) ∷ [])
 
@@ -225,12 +227,12 @@ module _ {terms : Terms} (given : Given terms) {start : World} (begins : Invaria
 
 pub either-way-closed : EitherWayClosed
 unfolding EitherWayClosed EitherWay
-either-way-closed kind n wanted groups S C segments segments′ log log′ changed changed′ accepted buffers buffers′ calls calls′ d close close′ =
-    let given = begin-given kind n wanted groups S C accepted in
-    let a = begun-invariant kind n wanted groups S C segments log changed buffers in
-    let b = begun-invariant kind n wanted groups S C segments′ log′ changed′ buffers′ in
+either-way-closed terms segments segments′ log log′ changed changed′ accepted buffers buffers′ calls calls′ d close close′ =
+    let given = begin-given accepted in
+    let a = begun-invariant terms segments log changed buffers in
+    let b = begun-invariant terms segments′ log′ changed′ buffers′ in
     let same =
-    either-way kind n wanted groups S C segments segments′ log log′ changed changed′ accepted buffers buffers′ (close .before) (close′ .before) d
+    either-way terms segments segments′ log log′ changed changed′ accepted buffers buffers′ (close .before) (close′ .before) d
     (closed-whole given a close) (closed-whole given b close′) in
     record {
       segments = leads-segments given a close ∙ same .segments ∙ sym (leads-segments given b close′);

@@ -72,15 +72,15 @@ module _ (S t : ℕ) where
   falling-le children = tally-le (λ c. eqb (c / S) t) children
 
 module _ (job : Job) (j : ℕ) where
-  pub place-here : (c : ℕ) (e : Expansion) → c / job .size ≡ j
-      → placeChild job j c e ≡ record { at = e .at; waits = e .waits; on = e .on; marks = markOne (job .size) (levelOf (job .phase)) c (e .marks); logs = e .logs }
+  pub place-here : (c : ℕ) (e : Expansion) → c / job .terms .size ≡ j
+      → placeChild job j c e ≡ record { at = e .at; waits = e .waits; on = e .on; marks = markOne (job .terms .size) (levelOf (job .phase)) c (e .marks); logs = e .logs }
   unfolding placeChild
-  place-here c e h = rw (eq-eqb (c / job .size) j h)
+  place-here c e h = rw (eq-eqb (c / job .terms .size) j h)
 
-  pub place-elsewhere : (c : ℕ) (e : Expansion) → (c / job .size ≡ j → ⊥)
-      → placeChild job j c e ≡ record { at = e .at; waits = e .waits; on = e .on; marks = e .marks; logs = logOne (job .room) (c / job .size) (c % job .size) (e .logs) }
+  pub place-elsewhere : (c : ℕ) (e : Expansion) → (c / job .terms .size ≡ j → ⊥)
+      → placeChild job j c e ≡ record { at = e .at; waits = e .waits; on = e .on; marks = e .marks; logs = logOne (job .terms .room) (c / job .terms .size) (c % job .terms .size) (e .logs) }
   unfolding placeChild
-  place-elsewhere c e h = rw (ne-eqb (c / job .size) j h)
+  place-elsewhere c e h = rw (ne-eqb (c / job .terms .size) j h)
 
   -- children move no stack past, and let no call wait
   pub place-at : (children : List ℕ) (e : Expansion) → placeAll job j children e .at ≡ e .at
@@ -96,10 +96,10 @@ module _ (job : Job) (j : ℕ) where
   module _ (e : Expansion) where
     -- the children of the next stack, and the segment that they wait for: the lowest other one that lacks room, or G
     abbrev pub nextChildren : List ℕ
-    nextChildren = childrenOf (job .kind) (job .n) (movesOf job) (j * job .size + e .at)
+    nextChildren = childrenOf (job .terms .kind) (job .terms .n) (movesOf job) (j * job .terms .size + e .at)
 
     abbrev pub nextWait : ℕ
-    nextWait = firstFrom (lacksRoom (job .size) (job .room) j (e .logs .waiting) nextChildren) 0 (segmentCountOf job)
+    nextWait = firstFrom (lacksRoom (job .terms .size) (job .terms .room) j (e .logs .waiting) nextChildren) 0 (segmentCountOf job)
 
     -- the next stack is taken for one of the level before
     abbrev pub isDue : Bool

@@ -26,7 +26,7 @@ use Rattle.search.proofs.CallsCoherent.{set-fits, unseenIn, mark-budget
 use Rattle.search.proofs.Children.{children-inside}
 use Rattle.search.proofs.Coherence.{Coherent, coherent-facts, facts-coherent, begin-given}
 use Rattle.search.proofs.ExpandCases.{NextCase, stopped, skipped, blocked, expanded, next-case, next-at, nextChildren, nextWait, first-before, room-enough, falling-here, falling-elsewhere, place-here, place-elsewhere, place-at}
-use Rattle.search.proofs.Terms.{termsOf, Given, laws}
+use Rattle.search.proofs.Given.{Given, laws}
 use Rattle.search.proofs.MarkLaws.{mark-length}
 use Rattle.search.proofs.SegmentLaws.{SegmentSizeFacts, segment-size-facts, segment-stack, stack-segment, stack-offset}
 
@@ -42,26 +42,26 @@ raised xs u t = go (eq-or-ne t u) (lt-or-ge u (length xs))
 -- place p is none of those at which a call appends, that comes to these waiting numbers
 abbrev pub Untouched : Job → List ℕ → ℕ → Type 0
 Untouched job waiting p =
-    (t i : ℕ) → t < segmentCountOf job → waitingOf job t ≤ i → i < getD waiting t 0 → p ≡ t * job .room + i → ⊥
+    (t i : ℕ) → t < segmentCountOf job → waitingOf job t ≤ i → i < getD waiting t 0 → p ≡ t * job .terms .room + i → ⊥
 
 -- log is what the log area held before
 module _ (job : Job) (coherent : isCoherent job ≡ true) (j : ℕ) (inside : j < segmentCountOf job) (log : List ℕ) where
   facts : Coherent job
   facts = coherent-facts job coherent
 
-  given : Given (termsOf job)
-  given = begin-given (job .kind) (job .n) (job .wanted) (job .groups) (job .size) (job .room) (facts .begins)
+  given : Given (job .terms)
+  given = begin-given (facts .begins)
 
-  sizes : SegmentSizeFacts (stackCountOf job) (job .size)
+  sizes : SegmentSizeFacts (stackCountOf job) (job .terms .size)
   unfolding stackCountOf
-  sizes = segment-size-facts (stackCountOf job) (job .size) (given .segments)
+  sizes = segment-size-facts (stackCountOf job) (job .terms .size) (given .segments)
 
-  some : 0 < job .size
+  some : 0 < job .terms .size
   some = omega (arith, sizes .least)
 
   -- the logs that a segment may have
   abbrev logBound : ℕ → ℕ
-  logBound t = cond (ltb t (segmentCountOf job)) (job .room) 0
+  logBound t = cond (ltb t (segmentCountOf job)) (job .terms .room) 0
 
   -- a call that has appended to the logs, and written nowhere else
   record Appending (logs : Logs) : Type 0 where
@@ -80,24 +80,24 @@ module _ (job : Job) (coherent : isCoherent job ≡ true) (j : ℕ) (inside : j 
 
   -- every other log has room for the children that fall there
   record Room (children : List ℕ) (e : Expansion) : Type 0 where
-    free : (t : ℕ) → t < segmentCountOf job → (t ≡ j → ⊥) → getD (e .logs .waiting) t 0 + fallingIn (job .size) t children ≤ job .room
+    free : (t : ℕ) → t < segmentCountOf job → (t ≡ j → ⊥) → getD (e .logs .waiting) t 0 + fallingIn (job .terms .size) t children ≤ job .terms .room
 
   few : (t : ℕ) → t < segmentCountOf job → t < segmentLimit
   unfolding segmentCountOf
   few t h = omega (arith, sizes .few)
 
   module _ (total c : ℕ) (children : List ℕ) (e : Expansion) (low : c < stackCountOf job) (fitting : Fitting total e) (room : Room (c ∷ children) e) where
-    home : c / job .size < segmentCountOf job
+    home : c / job .terms .size < segmentCountOf job
     unfolding segmentCountOf
-    home = stack-segment (stackCountOf job) (job .size) some c low
+    home = stack-segment (stackCountOf job) (job .terms .size) some c low
 
-    offset : c % job .size < stackCountAt job (c / job .size)
+    offset : c % job .terms .size < stackCountAt job (c / job .terms .size)
     unfolding stackCountAt
-    offset = stack-offset (stackCountOf job) (job .size) some c low
+    offset = stack-offset (stackCountOf job) (job .terms .size) some c low
 
-    placed-here : c / job .size ≡ j → Fitting total (placeChild job j c e) × Room children (placeChild job j c e)
+    placed-here : c / job .terms .size ≡ j → Fitting total (placeChild job j c e) × Room children (placeChild job j c e)
     placed-here h =
-        let S = job .size in
+        let S = job .terms .size in
         let d = levelOf (job .phase) in
         let fits : c % S < stackCountAt job j = subst (λ (t : ℕ). c % S < stackCountAt job t) h offset in
         rw (place-here job j c e h) (
@@ -108,15 +108,15 @@ module _ (job : Job) (coherent : isCoherent job ≡ true) (j : ℕ) (inside : j 
             waiting = fitting .waiting;
             appending = fitting .appending;
           },
-          record { free = λ t l ne. omega (arith, room .free t l ne, falling-elsewhere (job .size) t c children (λ q. ne (sym q ∙ h))) },
+          record { free = λ t l ne. omega (arith, room .free t l ne, falling-elsewhere (job .terms .size) t c children (λ q. ne (sym q ∙ h))) },
         )
 
-    placed-elsewhere : (c / job .size ≡ j → ⊥) → Fitting total (placeChild job j c e) × Room children (placeChild job j c e)
+    placed-elsewhere : (c / job .terms .size ≡ j → ⊥) → Fitting total (placeChild job j c e) × Room children (placeChild job j c e)
     unfolding logOne
     placed-elsewhere ne =
-        let u = c / job .size in
+        let u = c / job .terms .size in
         let old = e .logs .waiting in
-        let fall = falling-here (job .size) u c children refl in
+        let fall = falling-here (job .terms .size) u c children refl in
         let free = room .free u home ne in
         rw (place-elsewhere job j c e ne) (
           record {
@@ -132,46 +132,46 @@ module _ (job : Job) (coherent : isCoherent job ≡ true) (j : ℕ) (inside : j 
         )
       where
         -- the new entry stands at a place of its own
-        appended : Appending (logOne (job .room) (c / job .size) (c % job .size) (e .logs))
+        appended : Appending (logOne (job .terms .room) (c / job .terms .size) (c % job .terms .size) (e .logs))
         appended =
-            let u = c / job .size in
+            let u = c / job .terms .size in
             let old = e .logs .waiting in
             let was = fitting .appending in
             record {
-              log-long = length-set (e .logs .log) (u * job .room + getD old u 0) (c % job .size) ∙ was .log-long;
+              log-long = length-set (e .logs .log) (u * job .terms .room + getD old u 0) (c % job .terms .size) ∙ was .log-long;
               places = length-set old u (getD old u 0 + 1) ∙ was .places;
               more = λ t. omega (arith, was .more t, raised old u t);
               kept = λ wide p free.
                   let new = getD-set-same old u (getD old u 0 + 1) 0 (omega (arith, few u home, was .places)) in
-                  getD-set-other (e .logs .log) (u * job .room + getD old u 0) p (c % job .size) 0 (free u (getD old u 0) home (was .more u) (omega arith))
+                  getD-set-other (e .logs .log) (u * job .terms .room + getD old u 0) p (c % job .terms .size) 0 (free u (getD old u 0) home (was .more u) (omega arith))
                   ∙ was .kept wide p (λ t i l m g. free t i l m (omega (arith, raised old u t)));
             }
 
-        after : (t : ℕ) → getD (e .logs .waiting) t 0 + fallingIn (job .size) t (c ∷ children) ≤ job .room
-            → (t ≡ c / job .size) ⊎ (t ≡ c / job .size → ⊥)
-            → getD (set (e .logs .waiting) (c / job .size) (getD (e .logs .waiting) (c / job .size) 0 + 1)) t 0 + fallingIn (job .size) t children ≤ job .room
+        after : (t : ℕ) → getD (e .logs .waiting) t 0 + fallingIn (job .terms .size) t (c ∷ children) ≤ job .terms .room
+            → (t ≡ c / job .terms .size) ⊎ (t ≡ c / job .terms .size → ⊥)
+            → getD (set (e .logs .waiting) (c / job .terms .size) (getD (e .logs .waiting) (c / job .terms .size) 0 + 1)) t 0 + fallingIn (job .terms .size) t children ≤ job .terms .room
         after t h (inl q) =
-            let u = c / job .size in
+            let u = c / job .terms .size in
             let old = e .logs .waiting in
-            let fall = falling-here (job .size) t c children (sym q) in
+            let fall = falling-here (job .terms .size) t c children (sym q) in
             let same = ap (λ (x : ℕ). getD old x 0) q in
             omega (
               arith,
-              set-fits old u (getD old u 0 + 1) t (job .room - fallingIn (job .size) t children) (λ z. omega arith) (omega arith),
+              set-fits old u (getD old u 0 + 1) t (job .terms .room - fallingIn (job .terms .size) t children) (λ z. omega arith) (omega arith),
             )
         after t h (inr other) =
-            let u = c / job .size in
+            let u = c / job .terms .size in
             let old = e .logs .waiting in
             omega (
               arith,
-              falling-elsewhere (job .size) t c children (λ z. other (sym z)),
+              falling-elsewhere (job .terms .size) t c children (λ z. other (sym z)),
               getD-set-other old u t (getD old u 0 + 1) 0 other,
             )
 
     placed : Fitting total (placeChild job j c e) × Room children (placeChild job j c e)
-    placed = go (eq-or-ne (c / job .size) j)
+    placed = go (eq-or-ne (c / job .terms .size) j)
       where
-        go : (c / job .size ≡ j) ⊎ (c / job .size ≡ j → ⊥) → Fitting total (placeChild job j c e) × Room children (placeChild job j c e)
+        go : (c / job .terms .size ≡ j) ⊎ (c / job .terms .size ≡ j → ⊥) → Fitting total (placeChild job j c e) × Room children (placeChild job j c e)
         go (inl h) = placed-here h
         go (inr ne) = placed-elsewhere ne
 
@@ -189,14 +189,14 @@ module _ (job : Job) (coherent : isCoherent job ≡ true) (j : ℕ) (inside : j 
       record {
         free = λ t h ne. omega (
           arith,
-          room-enough (job .size) (job .room) j (e .logs .waiting) (nextChildren job j e) t
-              (first-before (lacksRoom (job .size) (job .room) j (e .logs .waiting) (nextChildren job j e)) 0 (segmentCountOf job) t (omega arith) (omega arith))
+          room-enough (job .terms .size) (job .terms .room) j (e .logs .waiting) (nextChildren job j e) t
+              (first-before (lacksRoom (job .terms .size) (job .terms .room) j (e .logs .waiting) (nextChildren job j e)) 0 (segmentCountOf job) t (omega arith) (omega arith))
               ne,
           bound t h,
         );
       }
     where
-      bound : (t : ℕ) → t < segmentCountOf job → getD (e .logs .waiting) t 0 ≤ job .room
+      bound : (t : ℕ) → t < segmentCountOf job → getD (e .logs .waiting) t 0 ≤ job .terms .room
       bound t h = rw (lt-ltb t (segmentCountOf job) h) at (fitting .waiting t (few t h))
 
   passed-fits : (total : ℕ) (e : Expansion) → e .at < stackCountAt job j → Fitting total e → Fitting total (passOne job j e)
@@ -230,8 +230,8 @@ module _ (job : Job) (coherent : isCoherent job ≡ true) (j : ℕ) (inside : j 
 
       low : (i : ℕ) → i < length (nextChildren job j e) → getD (nextChildren job j e) i 0 < stackCountOf job
       low =
-          children-inside (job .kind) (job .n) (movesOf job) (j * job .size + e .at) (given .in-range) (laws given)
-          (segment-stack (stackCountOf job) (job .size) some j (e .at) h)
+          children-inside (job .terms .kind) (job .terms .n) (movesOf job) (j * job .terms .size + e .at) (given .in-range) (laws given)
+          (segment-stack (stackCountOf job) (job .terms .size) some j (e .at) h)
 
       go : NextCase job j e → Fitting total (expandNext job j e)
       go (stopped s i) = rw i fitting

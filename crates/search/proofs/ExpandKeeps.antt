@@ -16,7 +16,9 @@ use Rattle.search.specs.Entries.{entryAt}
 use Rattle.search.specs.Expand.{Expansion, isParent, childrenOf, placeChild, placeAll, passOne, waitFor, expandNext, expandRun, expansion, expandedJob, expandRefusal}
 use Rattle.search.specs.JobState.{stackCountOf, segmentCountOf, stackCountAt, levelOf, passedOf, countOf}
 use Rattle.search.specs.Logs.{logOne, fallingIn, lacksRoom}
+use Rattle.search.specs.Terms.{N, G, m}
 use Rattle.search.specs.declared.Expanded.{Expanded}
+use Rattle.search.specs.declared.Terms.{Terms}
 use Rattle.search.proofs.Accepted.{forward-level, expand-facts, expand-accepted}
 use Rattle.search.proofs.Children.{child-listed, listed-child, children-inside}
 use Rattle.search.proofs.ExpandCases.{first-before, room-enough, falling-here, falling-elsewhere, place-here, place-elsewhere, place-at, NextCase, stopped, skipped, blocked, expanded, next-case, next-at, nextWait}
@@ -25,19 +27,19 @@ use Rattle.search.proofs.MarkLaws.{entry-place, marked-before, marked-a
 use Rattle.search.proofs.SegmentLaws.{stack-segment, segment-stack}
 use Rattle.search.proofs.Shapes.{segments-is}
 use Rattle.search.proofs.Staging.{Searching, Staged, Held, stage, stage-start, stage-mark, stage-marked, stage-log, stage-pass, stage-end, log-waiting, log-waiting-other, log-more, log-held}
-use Rattle.search.proofs.Terms.{Terms, termsOf, Given, N, G, m, moves, step, D, laws, depths, some, few}
+use Rattle.search.proofs.Given.{Given, moves, step, D, laws, depths, some, few}
 
 -- with the terms and the level read from the job itself
-module _ (w : World) (given : Given (termsOf (w .job))) (search : Searching (termsOf (w .job)) w (levelOf (w .job .phase)))
-    (j : ℕ) (inside : j < G (termsOf (w .job))) where
+module _ (w : World) (given : Given (w .job .terms)) (search : Searching (w .job .terms) w (levelOf (w .job .phase)))
+    (j : ℕ) (inside : j < G (w .job .terms)) where
   abbrev terms : Terms
-  terms = termsOf (w .job)
+  terms = (w .job .terms)
 
   abbrev S : ℕ
-  S = w .job .size
+  S = w .job .terms .size
 
   abbrev C : ℕ
-  C = w .job .room
+  C = w .job .terms .room
 
   abbrev d : ℕ
   d = levelOf (w .job .phase)
@@ -146,7 +148,7 @@ module _ (w : World) (given : Given (termsOf (w .job))) (search : Searching (ter
       entry = entry-place (N terms) S (some given) (w .segments) j (omega (arith, search .shaped .segments-length)) (e .marks .segment) (e .at) h
 
       children : List ℕ
-      children = childrenOf (w .job .kind) (w .job .n) (moves terms) u
+      children = childrenOf (w .job .terms .kind) (w .job .terms .n) (moves terms) u
 
       after : Expansion
       after = placeAll (w .job) j children e
@@ -157,7 +159,7 @@ module _ (w : World) (given : Given (termsOf (w .job))) (search : Searching (ter
 
       near : isParent d (entryAt (e .marks .segment) (e .at)) ≡ true → (k : ℕ) → k < length children → D terms (getD children k 0) ≤ d
       near due k l =
-          let c = listed-child (w .job .kind) (w .job .n) (moves terms) u k l in
+          let c = listed-child (w .job .terms .kind) (w .job .terms .n) (moves terms) u k l in
           subst (λ (v : ℕ). D terms v ≤ d) (sym (c .2))
           (child-near (depths given)
           (going .level) u (c .0) low (entry ∙ eqb-true (entryAt (e .marks .segment) (e .at)) ((d - 1) % 3) due) (c .1))
@@ -173,7 +175,7 @@ module _ (w : World) (given : Given (termsOf (w .job))) (search : Searching (ter
           )
 
       placing : isParent d (entryAt (e .marks .segment) (e .at)) ≡ true → G terms ≤ nextWait (w .job) j e → Placing children e after
-      placing due l = place-all children e going (children-inside (w .job .kind) (w .job .n) (moves terms) u (given .in-range) (laws given) low) (near due) (roomy l)
+      placing due l = place-all children e going (children-inside (w .job .terms .kind) (w .job .terms .n) (moves terms) u (given .in-range) (laws given) low) (near due) (roomy l)
 
       at-same : after .at ≡ e .at
       at-same = place-at (w .job) j children e
@@ -181,7 +183,7 @@ module _ (w : World) (given : Given (termsOf (w .job))) (search : Searching (ter
       child : Placing children e after → (k : ℕ) → isMove (moves terms) k ≡ true
           → Placed after (step terms k (j * S + after .at))
       child placing k m =
-          let c = child-listed (w .job .kind) (w .job .n) (moves terms) u k m in
+          let c = child-listed (w .job .terms .kind) (w .job .terms .n) (moves terms) u k m in
           subst (Placed after) (c .2 ∙ ap (λ (x : ℕ). step terms k (j * S + x)) (sym at-same)) (placing .done (c .0) (c .1))
 
       go : NextCase (w .job) j e → Going (expandNext (w .job) j e)

@@ -24,8 +24,8 @@ use Rattle.search.proofs.ExpandCases.{first-before, first-passes, place
 pub record MustWait (job : Job) (j : ℕ) (segment : List ℕ) (t : ℕ) : Type 0 where
   pub due : isParent (levelOf (job .phase)) (entryAt segment (passedOf job j)) ≡ true
   pub inside : t < segmentCountOf job
-  pub lacks : lacksRoom (job .size) (job .room) j (job .waiting) (childrenOf (job .kind) (job .n) (movesOf job) (j * job .size + passedOf job j)) t ≡ true
-  pub lowest : (u : ℕ) → u < t → lacksRoom (job .size) (job .room) j (job .waiting) (childrenOf (job .kind) (job .n) (movesOf job) (j * job .size + passedOf job j)) u ≡ false
+  pub lacks : lacksRoom (job .terms .size) (job .terms .room) j (job .waiting) (childrenOf (job .terms .kind) (job .terms .n) (movesOf job) (j * job .terms .size + passedOf job j)) t ≡ true
+  pub lowest : (u : ℕ) → u < t → lacksRoom (job .terms .size) (job .terms .room) j (job .waiting) (childrenOf (job .terms .kind) (job .terms .n) (movesOf job) (j * job .terms .size + passedOf job j)) u ≡ false
 
 -- there is one such segment at most
 must-unique : {job : Job} {j : ℕ} {segment : List ℕ} {t u : ℕ} → MustWait job j segment t → MustWait job j segment u → t ≡ u
@@ -85,7 +85,7 @@ module _ (job : Job) (j : ℕ) where
   abbrev WaitsOn : Expansion → Type 0
   WaitsOn e =
       e .waits ≡ true → (e .on < segmentCountOf job)
-      × (lacksRoom (job .size) (job .room) j (e .logs .waiting) (nextChildren job j e) (e .on) ≡ true)
+      × (lacksRoom (job .terms .size) (job .terms .room) j (e .logs .waiting) (nextChildren job j e) (e .on) ≡ true)
 
   run-on : (left : ℕ) (e : Expansion) → WaitsOn e → WaitsOn (expandRun job j left e)
   unfolding expandRun passOne waitFor
@@ -96,7 +96,7 @@ module _ (job : Job) (j : ℕ) where
       go (stopped s i) = rw i h
       go (skipped s due i) = rw i (λ t. never t s)
       go (blocked s due l i) =
-          rw i (λ t. (l, first-passes (lacksRoom (job .size) (job .room) j (e .logs .waiting) (nextChildren job j e)) 0 (segmentCountOf job) (omega arith)))
+          rw i (λ t. (l, first-passes (lacksRoom (job .terms .size) (job .terms .room) j (e .logs .waiting) (nextChildren job j e)) 0 (segmentCountOf job) (omega arith)))
       go (expanded s due l i) = rw i (λ t. never t (place-waits job j (nextChildren job j e) e ∙ s))
 
 -- ---- the answer
@@ -143,7 +143,7 @@ module _ (job : Job) (j : ℕ) (segment log : List ℕ) (accepted : expandRefusa
   end-case = go (next-case job j start)
     where
       lacks : ℕ → Bool
-      lacks = lacksRoom (job .size) (job .room) j (job .waiting) (nextChildren job j start)
+      lacks = lacksRoom (job .terms .size) (job .terms .room) j (job .waiting) (nextChildren job j start)
 
       more : expandNext job j start .at ≡ suc (passedOf job j) → passedOf job j < end .at
       more i = rw end-first (omega (arith, run-from job j (stackCountAt job j - suc (passedOf job j)) (expandNext job j start)))

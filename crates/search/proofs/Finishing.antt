@@ -1,7 +1,7 @@
 -- A finished build is what we promise of one: its table, its counts, its deepest level, and every plan from it.
 use mathlib.Core.Path.{_≡_, refl, sym, ap, _∙_, subst}
 use mathlib.Core.Logic.{_⊎_, inl, inr}
-use mathlib.Core.Bool.{true, not}
+use mathlib.Core.Bool.{not}
 use mathlib.Core.List.{List, _++_, map}
 use Prim.Native.Nat.{ℕ, suc, _+_, _-_, _*_, _/_, _≤_, _<_, min}
 use native.Mathlib.Nat.{zero-add, mul-assoc, mod-lt}
@@ -18,7 +18,6 @@ use Rattle.graph.proofs.Depths.{between}
 use Rattle.graph.proofs.Distance.{dist-cut}
 use Rattle.graph.proofs.Tally.{tally-same, tally-values}
 use Rattle.stacks.specs.Index.{rankOf, stackAt}
-use Rattle.stacks.specs.Stack.{isStack}
 use Rattle.stacks.specs.Turn.{turnsIn}
 use Rattle.stacks.proofs.Numbering.{rank-lt, unrank-stack, rank-unrank}
 use Rattle.stacks.proofs.KindLaws.{count-pos}
@@ -26,17 +25,19 @@ use Rattle.search.specs.Build.{World}
 use Rattle.search.specs.Entries.{entryAt, unseen, seenIn, bytesFor}
 use Rattle.search.specs.JobState.{countOf, levelOf, lastLevel, countPlaces}
 use Rattle.search.specs.Plan.{planLimit, entryOf, routeFrom, planRefusal, planOf}
-use Rattle.search.specs.Promise.{planIn}
-use Rattle.search.specs.PromiseBy.{RoadIn, FewestIn, NoRoad, EntryBy, Needs, PlansBy, FinishesBy, PlanArrives}
+use Rattle.search.specs.Promise.{planIn, IsStack}
+use Rattle.search.specs.PromiseBy.{RoadIn, FewestIn, RoadTo, FewestTo, NoRoad, EntryBy, Needs, PlansBy, FinishesBy, PlanArrives}
 use Rattle.search.specs.Segments.{joined}
+use Rattle.search.specs.Terms.{N, G}
 use Rattle.search.specs.declared.Planned.{Planned}
+use Rattle.search.specs.declared.Terms.{Terms}
 use Rattle.search.proofs.Accepted.{names-refusal}
 use Rattle.search.proofs.Fewest.{depth, move-depths, fewest-unique, depth-road, depth-fewest, counts-by}
 use Rattle.search.proofs.Invariant.{Shaped, Ended, entryIn}
 use Rattle.search.proofs.PlanLaws.{RowFacts, PlanFacts, plan-facts, plan-goes-on, plan-unseen, RightTable, route-within, route-arrives, plan-seen, plan-there, plan-fewest}
 use Rattle.search.proofs.Shapes.{shaped-segmented}
 use Rattle.search.proofs.SegmentLaws.{Segmented, last-segment, segment-last, spare-offset, bytes-last, joined-entry, joined-length, joined-spare}
-use Rattle.search.proofs.Terms.{Terms, Given, N, G, moves, step, goal, beyond, D, levelCount, laws, depths}
+use Rattle.search.proofs.Given.{Given, moves, step, goal, beyond, D, levelCount, laws, depths}
 use Rattle.search.proofs.Turning.{set-turns}
 
 -- ---- a plan over a right table
@@ -76,10 +77,10 @@ plan-arrives kind n wanted given groups table list h =
     )
 
 -- what we promise of a plan, as PlansBy says it of a world
-pub record PlanIs (kind n groups : ℕ) (wanted given : List ℤ) (out : List ℕ × Planned) : Type 0 where
-  pub accepts : out .1 .refusal ≡ 0
-  pub arrives : RoadIn kind n groups (take (out .1 .turns) (out .0)) given wanted
-  pub shortest : FewestIn kind n groups given wanted (out .1 .turns)
+record PlanIs (terms : Terms) (given : List ℤ) (out : List ℕ × Planned) : Type 0 where
+  accepts : out .1 .refusal ≡ 0
+  arrives : RoadTo terms (take (out .1 .turns) (out .0)) given
+  shortest : FewestTo terms given (out .1 .turns)
 
 -- a plan fits in the levels that are searched
 plans-fit : suc planLimit < beyond
@@ -87,8 +88,7 @@ plans-fit = omega arith
 
 module _ {terms : Terms} (begun : Given terms) where
   -- an index at a depth that is searched is that of a stack that needs as many moves
-  pub depth-needs : (d : ℕ) → (v : ℕ) × (v < N terms) × (D terms v ≡ d) → d < beyond
-      → Needs (terms .kind) (terms .n) (terms .groups) (terms .wanted) d
+  pub depth-needs : (d : ℕ) → (v : ℕ) × (v < N terms) × (D terms v ≡ d) → d < beyond → Needs terms d
   depth-needs d v near =
       let s = stackAt (terms .kind) (terms .n) (v .0) in
       let stack = unrank-stack (terms .kind) (terms .n) (v .0) (begun .in-range) (v .1) in
@@ -96,19 +96,19 @@ module _ {terms : Terms} (begun : Given terms) where
       ap (D terms) (rank-unrank (terms .kind) (terms .n) (v .0) (begun .in-range) (v .1)) ∙ v .2 in (
         s,
         stack,
-        subst (FewestIn (terms .kind) (terms .n) (terms .groups) s (terms .wanted)) here
+        subst (FewestTo terms s) here
             (depth-fewest (terms .kind) (terms .n) (terms .wanted) beyond (begun .in-range) (begun .stack) (laws begun) s stack (omega (arith, here))),
       )
 
-  row-is : (table : List ℕ) → length table ≡ bytesFor (N terms) → (given : List ℤ) (list : List ℕ) → isStack (terms .kind) (terms .n) given ≡ true
+  row-is : (table : List ℕ) → length table ≡ bytesFor (N terms) → (given : List ℤ) (list : List ℕ) → IsStack terms given
       → planLimit ≤ length list → RowFacts (terms .kind) (terms .n) (terms .wanted) given (terms .groups) (length table) (length list)
   row-is table long given list h l =
       record { of-kind = begun .is-kind; of-panes = begun .in-range; goal = begun .stack; start = h; of-set = begun .of-set; long = long; wide = l }
 
   plan-is : (table : List ℕ) → RightTable (terms .kind) (terms .n) (moves terms) (terms .wanted) beyond table → length table ≡ bytesFor (N terms)
-      → (given : List ℤ) (list : List ℕ) → isStack (terms .kind) (terms .n) given ≡ true
+      → (given : List ℤ) (list : List ℕ) → IsStack terms given
       → D terms (rankOf (terms .kind) (terms .n) given) ≤ planLimit → planLimit ≤ length list
-      → PlanIs (terms .kind) (terms .n) (terms .groups) (terms .wanted) given (planOf (terms .kind) (terms .n) (terms .wanted) given (terms .groups) table list)
+      → PlanIs terms given (planOf (terms .kind) (terms .n) (terms .wanted) given (terms .groups) table list)
   unfolding PlanArrives
   plan-is table right long given list h near l =
       let kind = terms .kind in
@@ -133,7 +133,7 @@ module _ {terms : Terms} (begun : Given terms) where
       }
 
   module _ {w : World} (shaped : Shaped terms w) {d : ℕ} (ended : Ended terms w d) where
-    whole : Segmented (N terms) (terms .S) (w .segments)
+    whole : Segmented (N terms) (terms .size) (w .segments)
     whole = shaped-segmented shaped begun
 
     table-right : RightTable (terms .kind) (terms .n) (moves terms) (terms .wanted) beyond (joined (w .segments))
@@ -141,7 +141,7 @@ module _ {terms : Terms} (begun : Given terms) where
     table-right s h near =
         let v = rankOf (terms .kind) (terms .n) s in
         let l = rank-lt (terms .kind) (terms .n) s (begun .in-range) h in
-        joined-entry (N terms) (terms .S) (w .segments) whole v l ∙ ended .entries v l near
+        joined-entry (N terms) (terms .size) (w .segments) whole v l ∙ ended .entries v l near
 
     level-is : levelOf (w .job .phase) ≡ d
     unfolding levelOf
@@ -150,16 +150,16 @@ module _ {terms : Terms} (begun : Given terms) where
     spare-is : (i : ℕ) → N terms ≤ i → i < 4 * length (joined (w .segments)) → entryAt (joined (w .segments)) i ≡ 3
     spare-is i h l =
         let g = G terms - 1 in
-        let last : suc g ≡ G terms = last-segment (N terms) (terms .S) (whole .some) (count-pos (terms .kind) (terms .n)) in
-        joined-spare (N terms) (terms .S) (w .segments) whole i (count-pos (terms .kind) (terms .n)) h
-        ∙ ended .spares .spare g (i - g * terms .S) (omega arith) (spare-offset (N terms) (terms .S) (whole .some) i (count-pos (terms .kind) (terms .n)) h)
+        let last : suc g ≡ G terms = last-segment (N terms) (terms .size) (whole .some) (count-pos (terms .kind) (terms .n)) in
+        joined-spare (N terms) (terms .size) (w .segments) whole i (count-pos (terms .kind) (terms .n)) h
+        ∙ ended .spares .spare g (i - g * terms .size) (omega arith) (spare-offset (N terms) (terms .size) (whole .some) i (count-pos (terms .kind) (terms .n)) h)
         (omega (
           arith,
-          joined-length (N terms) (terms .S) (w .segments) whole,
-          segment-last (N terms) (terms .S) (whole .some) g last,
-          bytes-last (N terms) (terms .S) (whole .some) g (whole .four) last,
-          mul-assoc g (terms .S / 4) 4,
-          ap (λ (x : ℕ). g * x) (let q : terms .S ≡ terms .S / 4 * 4 = omega (arith, whole .four) in q),
+          joined-length (N terms) (terms .size) (w .segments) whole,
+          segment-last (N terms) (terms .size) (whole .some) g last,
+          bytes-last (N terms) (terms .size) (whole .some) g (whole .four) last,
+          mul-assoc g (terms .size / 4) 4,
+          ap (λ (x : ℕ). g * x) (let q : terms .size ≡ terms .size / 4 * 4 = omega (arith, whole .four) in q),
         ))
 
     -- an index has a depth that is searched, or none
@@ -170,18 +170,18 @@ module _ {terms : Terms} (begun : Given terms) where
         go (inl near) = inl near
         go (inr far) = inr (omega (arith, depths begun .cut v))
 
-    module _ (s : List ℤ) (h : isStack (terms .kind) (terms .n) s ≡ true) where
+    module _ (s : List ℤ) (h : IsStack terms s) where
       abbrev place : ℕ
       place = rankOf (terms .kind) (terms .n) s
 
       inside : place < N terms
       inside = rank-lt (terms .kind) (terms .n) s (begun .in-range) h
 
-      fewest-is : D terms place < beyond → FewestIn (terms .kind) (terms .n) (terms .groups) s (terms .wanted) (D terms place)
+      fewest-is : D terms place < beyond → FewestTo terms s (D terms place)
       fewest-is = depth-fewest (terms .kind) (terms .n) (terms .wanted) beyond (begun .in-range) (begun .stack) (laws begun) s h
 
       -- a stack beyond the levels has no road, however long: from a road's stacks one would be at the last level, which is empty
-      far-roadless : D terms place ≡ beyond → NoRoad (terms .kind) (terms .n) (terms .groups) (terms .wanted) s
+      far-roadless : D terms place ≡ beyond → NoRoad terms s
       far-roadless far ks road =
           let b : ℕ = beyond + length ks in
           let near : depth (terms .kind) (terms .n) (moves terms) (terms .wanted) b place ≤ length ks =
@@ -193,49 +193,46 @@ module _ {terms : Terms} (begun : Given terms) where
           place lastLevel inside (omega (arith, cut place)) (omega arith) in
           omega (arith, ended .greatest (u .0) (u .1) (omega (arith, cut (u .0), u .2)), cut (u .0), u .2, ended .last)
 
-      entry-is : EntryBy (terms .kind) (terms .n) (terms .groups) (terms .wanted) s (entryAt (joined (w .segments)) place)
+      entry-is : EntryBy terms s (entryAt (joined (w .segments)) place)
       unfolding entryIn
       entry-is = go (near-or-far place)
         where
-          go : (D terms place < beyond) ⊎ (D terms place ≡ beyond)
-              → EntryBy (terms .kind) (terms .n) (terms .groups) (terms .wanted) s (entryAt (joined (w .segments)) place)
+          go : (D terms place < beyond) ⊎ (D terms place ≡ beyond) → EntryBy terms s (entryAt (joined (w .segments)) place)
           go (inl near) = inl (D terms place, fewest-is near, table-right s h near)
           go (inr far) =
-              inr (far-roadless far, joined-entry (N terms) (terms .S) (w .segments) whole place inside ∙ ended .unreached place inside far)
+              inr (far-roadless far, joined-entry (N terms) (terms .size) (w .segments) whole place inside ∙ ended .unreached place inside far)
 
-      road-near : (ks : List ℕ) → RoadIn (terms .kind) (terms .n) (terms .groups) ks s (terms .wanted) → D terms place < beyond
+      road-near : (ks : List ℕ) → RoadTo terms ks s → D terms place < beyond
       road-near ks road = go (near-or-far place)
         where
           go : (D terms place < beyond) ⊎ (D terms place ≡ beyond) → D terms place < beyond
           go (inl near) = near
           go (inr far) = absurd (far-roadless far ks road)
 
-      roadless-unseen : NoRoad (terms .kind) (terms .n) (terms .groups) (terms .wanted) s → entryOf (terms .kind) (terms .n) (joined (w .segments)) s ≡ unseen
+      roadless-unseen : NoRoad terms s → entryOf (terms .kind) (terms .n) (joined (w .segments)) s ≡ unseen
       unfolding entryOf unseen
       roadless-unseen none = go entry-is
         where
-          go : EntryBy (terms .kind) (terms .n) (terms .groups) (terms .wanted) s (entryAt (joined (w .segments)) place)
-              → entryAt (joined (w .segments)) place ≡ 3
+          go : EntryBy terms s (entryAt (joined (w .segments)) place) → entryAt (joined (w .segments)) place ≡ 3
           go (inl r) = absurd (none (r .1 .road) (r .1 .leads))
           go (inr r) = r .1
 
     long : length (joined (w .segments)) ≡ bytesFor (N terms)
-    long = joined-length (N terms) (terms .S) (w .segments) whole
+    long = joined-length (N terms) (terms .size) (w .segments) whole
 
-    plans-is : (given : List ℤ) (list : List ℕ) → isStack (terms .kind) (terms .n) given ≡ true → planLimit ≤ length list
-        → (ks : List ℕ) → RoadIn (terms .kind) (terms .n) (terms .groups) ks given (terms .wanted)
-        → PlansBy (terms .kind) (terms .n) (terms .groups) (terms .wanted) w given list
+    plans-is : (given : List ℤ) (list : List ℕ) → IsStack terms given → planLimit ≤ length list
+        → (ks : List ℕ) → RoadTo terms ks given → PlansBy terms w given list
     plans-is given list h l ks road =
         let near = road-near given h ks road in
         let p =
-        subst (λ (t : Terms). PlanIs (terms .kind) (terms .n) (terms .groups) (terms .wanted) given (planOf (t .kind) (t .n) (t .wanted) given (t .groups) (joined (w .segments)) list))
+        subst (λ (t : Terms). PlanIs terms given (planOf (t .kind) (t .n) (t .wanted) given (t .groups) (joined (w .segments)) list))
         (sym (shaped .terms-is))
         (plan-is (joined (w .segments)) table-right long given list h
         (omega (arith, ended .greatest (place given h) (inside given h) near, ended .last)) l) in
         record { accepts = p .accepts; arrives = p .arrives; shortest = p .shortest }
 
-    refuses-is : (given : List ℤ) (list : List ℕ) → isStack (terms .kind) (terms .n) given ≡ true → planLimit ≤ length list
-        → NoRoad (terms .kind) (terms .n) (terms .groups) (terms .wanted) given → planIn w given list .1 .refusal ≡ 20
+    refuses-is : (given : List ℤ) (list : List ℕ) → IsStack terms given → planLimit ≤ length list
+        → NoRoad terms given → planIn w given list .1 .refusal ≡ 20
     refuses-is given list h l none =
         let table : List ℕ = joined (w .segments) in
         subst (λ (t : Terms). planOf (t .kind) (t .n) (t .wanted) given (t .groups) table list .1 .refusal ≡ 20) (sym (shaped .terms-is))
@@ -257,13 +254,13 @@ module _ {terms : Terms} (begun : Given terms) where
         same v l (inl near) =
             lt-ltb (D terms v) countPlaces near
             ∙ sym (ap not (ne-eqb (entryAt (joined (w .segments)) v) unseen
-            (λ e. omega (arith, joined-entry (N terms) (terms .S) (w .segments) whole v l, ended .entries v l near, mod-lt (D terms v) {m = 3} (omega arith)))))
+            (λ e. omega (arith, joined-entry (N terms) (terms .size) (w .segments) whole v l, ended .entries v l near, mod-lt (D terms v) {m = 3} (omega arith)))))
         same v l (inr far) =
             le-ltb (D terms v) countPlaces (omega (arith, far))
             ∙ sym (ap not (eq-eqb (entryAt (joined (w .segments)) v) unseen
-            (joined-entry (N terms) (terms .S) (w .segments) whole v l ∙ ended .unreached v l far)))
+            (joined-entry (N terms) (terms .size) (w .segments) whole v l ∙ ended .unreached v l far)))
 
-    pub ended-finishes : FinishesBy (terms .kind) (terms .n) (terms .groups) (terms .wanted) w
+    pub ended-finishes : FinishesBy terms w
     unfolding countOf
     ended-finishes =
         record {
@@ -273,19 +270,15 @@ module _ {terms : Terms} (begun : Given terms) where
               (ended .counts i (omega arith));
           past = λ i h. ended .counts-past i (omega (arith, level-is));
           added = added-is;
-          deepest = subst (Needs (terms .kind) (terms .n) (terms .groups) (terms .wanted)) (sym level-is)
-              (depth-needs d (ended .deepest) (omega (arith, ended .last)));
+          deepest = subst (Needs terms) (sym level-is) (depth-needs d (ended .deepest) (omega (arith, ended .last)));
           greatest = greatest-is;
           below = omega (arith, level-is, ended .last);
-          given-kind = ap (λ (t : Terms). t .kind) (shaped .terms-is);
-          given-n = ap (λ (t : Terms). t .n) (shaped .terms-is);
-          given-wanted = ap (λ (t : Terms). t .wanted) (shaped .terms-is);
-          given-groups = ap (λ (t : Terms). t .groups) (shaped .terms-is);
+          given-terms = shaped .terms-is;
           plans = plans-is;
           refuses = refuses-is;
         }
       where
-        greatest-is : (s : List ℤ) (i : ℕ) → isStack (terms .kind) (terms .n) s ≡ true → FewestIn (terms .kind) (terms .n) (terms .groups) s (terms .wanted) i
+        greatest-is : (s : List ℤ) (i : ℕ) → IsStack terms s → FewestTo terms s i
             → i ≤ levelOf (w .job .phase)
         greatest-is s i h f =
             let near = road-near s h (f .road) (f .leads) in

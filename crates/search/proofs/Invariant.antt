@@ -21,9 +21,11 @@ use Rattle.search.specs.Changed.{listBytes, bitAt}
 use Rattle.search.specs.Entries.{entryAt, bytesFor}
 use Rattle.search.specs.JobState.{passedOf, waitingOf, countOf, sweptOf, isSwept, isReverse, lastLevel, noSegment, countPlaces}
 use Rattle.search.specs.Segments.{segmentLimit}
+use Rattle.search.specs.Terms.{N, G, m}
 use Rattle.search.specs.declared.Job.{Job}
 use Rattle.search.specs.declared.Phase.the-variants.{Blanking, Level, Finished}
-use Rattle.search.proofs.Terms.{Terms, termsOf, N, G, m, moves, step, beyond, D, levelCount}
+use Rattle.search.specs.declared.Terms.{Terms}
+use Rattle.search.proofs.Given.{moves, step, beyond, D, levelCount}
 
 -- the entry of the stack at index v, in its own segment
 unfoldable pub entryIn : ℕ → List (List ℕ) → ℕ → ℕ
@@ -32,7 +34,7 @@ entryIn S segments v = entryAt (getD segments (v / S) []) (v % S)
 -- in this level, stack u was passed, or its segment is swept by v's, and it has child v
 unfoldable pub Looked : Terms → Job → ℕ → ℕ → Type 0
 Looked terms job u v =
-    ((u % terms .S < passedOf job (u / terms .S)) ⊎ (isSwept job (u / terms .S) (v / terms .S) ≡ true))
+    ((u % terms .size < passedOf job (u / terms .size)) ⊎ (isSwept job (u / terms .size) (v / terms .size) ≡ true))
     × ((k : ℕ) × (isMove (moves terms) k ≡ true) × (step terms k u ≡ v))
 
 -- a stack of this depth has the entry of the level before d
@@ -43,18 +45,18 @@ isDue d depth = ltb depth d && eqb (depth % 3) ((d - 1) % 3)
 unfoldable pub Logged : Terms → World → ℕ → Type 0
 Logged terms w v =
     (v < N terms)
-    × ((i : ℕ) × (i < waitingOf (w .job) (v / terms .S)) × (getD (w .log) (v / terms .S * terms .C + i) 0 ≡ v % terms .S))
+    × ((i : ℕ) × (i < waitingOf (w .job) (v / terms .size)) × (getD (w .log) (v / terms .size * terms .room + i) 0 ≡ v % terms .size))
 
 module _ (terms : Terms) where
   pub record Shaped (w : World) : Type 0 where
-    pub terms-is : termsOf (w .job) ≡ terms
+    pub terms-is : w .job .terms ≡ terms
     pub passed-length : length (w .job .passed) ≡ segmentLimit
     pub waiting-length : length (w .job .waiting) ≡ segmentLimit
     pub swept-length : length (w .job .swept) ≡ segmentLimit
     pub counts-length : length (w .job .counts) ≡ countPlaces
     pub segments-length : length (w .segments) ≡ G terms
     pub segment-bytes : (j : ℕ) → j < G terms → length (getD (w .segments) j []) ≡ bytesFor (m terms j)
-    pub log-length : length (w .log) ≡ G terms * terms .C
+    pub log-length : length (w .log) ≡ G terms * terms .room
     -- nothing of G or above is loaded or swept
     pub loaded-fits : (w .job .loaded ≡ noSegment) ⊎ (w .job .loaded < G terms)
     pub swept-fits : (b : ℕ) → sweptOf (w .job) b < cond (ltb b (G terms)) (2 ^ G terms) 1
@@ -74,7 +76,7 @@ module _ (terms : Terms) where
 
   pub record Listing (w : World) (d : ℕ) : Type 0 where
     pub long : length (w .changed) ≡ listBytes (m terms (w .job .loaded))
-    pub bits : (i : ℕ) → i < m terms (w .job .loaded) → bitAt (w .changed) i ≡ isDue d (D terms (w .job .loaded * terms .S + i))
+    pub bits : (i : ℕ) → i < m terms (w .job .loaded) → bitAt (w .changed) i ≡ isDue d (D terms (w .job .loaded * terms .size + i))
 
   pub record Searches (w : World) (d : ℕ) : Type 0 where
     pub phase-is : w .job .phase ≡ Level d
@@ -82,14 +84,14 @@ module _ (terms : Terms) where
     -- the level before is not empty
     pub before : (v : ℕ) × (v < N terms) × (suc (D terms v) ≡ d)
     pub passed-fits : (j : ℕ) → passedOf (w .job) j ≤ m terms j
-    pub waiting-fits : (j : ℕ) → waitingOf (w .job) j ≤ terms .C
+    pub waiting-fits : (j : ℕ) → waitingOf (w .job) j ≤ terms .room
     pub waiting-beyond : (j : ℕ) → G terms ≤ j → waitingOf (w .job) j ≡ 0
     -- what waits is an offset of its segment, so that Settle never says 12
-    pub offsets : (t i : ℕ) → t < G terms → i < waitingOf (w .job) t → getD (w .log) (t * terms .C + i) 0 < m terms t
-    pub level : Levels.Level (N terms) (D terms) d (entryIn (terms .S) (w .segments)) (Looked terms (w .job)) (Logged terms w)
+    pub offsets : (t i : ℕ) → t < G terms → i < waitingOf (w .job) t → getD (w .log) (t * terms .room + i) 0 < m terms t
+    pub level : Levels.Level (N terms) (D terms) d (entryIn (terms .size) (w .segments)) (Looked terms (w .job)) (Logged terms w)
     pub spares : Spares w
     pub counts-below : (i : ℕ) → i < d → countOf (w .job) i ≡ levelCount terms i
-    pub counts-here : countOf (w .job) d ≡ tally (found (λ v. true) (D terms) d (entryIn (terms .S) (w .segments))) (from 0 (N terms))
+    pub counts-here : countOf (w .job) d ≡ tally (found (λ v. true) (D terms) d (entryIn (terms .size) (w .segments))) (from 0 (N terms))
     pub counts-above : (i : ℕ) → d < i → countOf (w .job) i ≡ 0
     -- in a reverse level nothing waits, and what is loaded is listed
     pub idle : isReverse (w .job .way) ≡ true → (j : ℕ) → waitingOf (w .job) j ≡ 0
@@ -101,8 +103,8 @@ module _ (terms : Terms) where
     pub none-passed : (j : ℕ) → passedOf (w .job) j ≡ 0
     pub none-waits : (j : ℕ) → waitingOf (w .job) j ≡ 0
     -- of each stack that has a road, and of each that has none
-    pub entries : (v : ℕ) → v < N terms → D terms v < beyond → entryIn (terms .S) (w .segments) v ≡ D terms v % 3
-    pub unreached : (v : ℕ) → v < N terms → D terms v ≡ beyond → entryIn (terms .S) (w .segments) v ≡ 3
+    pub entries : (v : ℕ) → v < N terms → D terms v < beyond → entryIn (terms .size) (w .segments) v ≡ D terms v % 3
+    pub unreached : (v : ℕ) → v < N terms → D terms v ≡ beyond → entryIn (terms .size) (w .segments) v ≡ 3
     pub greatest : (v : ℕ) → v < N terms → D terms v < beyond → D terms v ≤ d
     pub spares : Spares w
     pub counts : (i : ℕ) → i < beyond → countOf (w .job) i ≡ levelCount terms i

@@ -8,7 +8,7 @@ pub mod Turning
 pub mod Fewest
 pub mod AllStacks
 pub mod Children
-pub mod Terms
+pub mod Given
 -- jobs and calls, one at a time
 pub mod Coherence
 pub mod Accepted

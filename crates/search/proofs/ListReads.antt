@@ -20,13 +20,14 @@ use Rattle.search.specs.Load.{loadRefusal, changedOf, loadOf}
 use Rattle.search.specs.Logs.{indexesOf}
 use Rattle.search.specs.Marks.{markAll, marksFrom, markedJob}
 use Rattle.search.specs.Sweep.{sweepRefusal, isChanged, isReached, reachedIn, withPair, sweepOf}
+use Rattle.search.specs.Terms.{N, m}
 use Rattle.search.specs.declared.Answer.{Answer}
 use Rattle.search.specs.declared.Job.{Job}
 use Rattle.search.proofs.Accepted.{sweep-facts, sweep-accepted, sweep-refused}
 use Rattle.search.proofs.Children.{children-inside}
 use Rattle.search.proofs.Coherence.{coherent-facts, begin-given}
 use Rattle.search.proofs.SegmentLaws.{stack-offset, segment-stack}
-use Rattle.search.proofs.Terms.{Given, termsOf, N, m, some, laws}
+use Rattle.search.proofs.Given.{Given, some, laws}
 
 -- Load gives the same for two lists of one length, and refused each is left as it was
 module _ (job : Job) (b : ℕ) (segment list list′ : List ℕ) (long : length list ≡ length list′) where
@@ -52,31 +53,31 @@ module _ (job : Job) (b : ℕ) (segment list list′ : List ℕ) (long : length 
 -- Sweep gives the same for two lists of one length with the same bits of the loaded segment's stacks
 module _ (job : Job) (j : ℕ) (segment list list′ : List ℕ) (long : length list ≡ length list′)
     (bits : (i : ℕ) → i < stackCountAt job (job .loaded) → bitAt list i ≡ bitAt list′ i) where
-  module _ (given : Given (termsOf job)) where
-    changed-same : (c : ℕ) → c < N (termsOf job) → isChanged (job .size) (job .loaded) list c ≡ isChanged (job .size) (job .loaded) list′ c
+  module _ (given : Given (job .terms)) where
+    changed-same : (c : ℕ) → c < N (job .terms) → isChanged (job .terms .size) (job .loaded) list c ≡ isChanged (job .terms .size) (job .loaded) list′ c
     unfolding isChanged stackCountAt stackCountOf
-    changed-same c h = go (eq-or-ne (c / job .size) (job .loaded))
+    changed-same c h = go (eq-or-ne (c / job .terms .size) (job .loaded))
       where
-        go : (c / job .size ≡ job .loaded) ⊎ (c / job .size ≡ job .loaded → ⊥)
-            → (eqb (c / job .size) (job .loaded) && bitAt list (c % job .size)) ≡ (eqb (c / job .size) (job .loaded) && bitAt list′ (c % job .size))
+        go : (c / job .terms .size ≡ job .loaded) ⊎ (c / job .terms .size ≡ job .loaded → ⊥)
+            → (eqb (c / job .terms .size) (job .loaded) && bitAt list (c % job .terms .size)) ≡ (eqb (c / job .terms .size) (job .loaded) && bitAt list′ (c % job .terms .size))
         go (inl e) =
-            ap (λ (t : Bool). eqb (c / job .size) (job .loaded) && t)
-            (bits (c % job .size) (subst (λ (t : ℕ). c % job .size < m (termsOf job) t) e (stack-offset (N (termsOf job)) (job .size) (some given) c h)))
-        go (inr ne) = rw (ne-eqb (c / job .size) (job .loaded) ne)
+            ap (λ (t : Bool). eqb (c / job .terms .size) (job .loaded) && t)
+            (bits (c % job .terms .size) (subst (λ (t : ℕ). c % job .terms .size < m (job .terms) t) e (stack-offset (N (job .terms)) (job .terms .size) (some given) c h)))
+        go (inr ne) = rw (ne-eqb (c / job .terms .size) (job .loaded) ne)
 
     reached-same : reachedIn job j list ≡ reachedIn job j list′
     unfolding reachedIn isReached stackCountAt stackCountOf
     reached-same =
-        filter-same (λ i. isReached job list (j * job .size + i)) (λ i. isReached job list′ (j * job .size + i)) 0 (from 0 (m (termsOf job) j))
+        filter-same (λ i. isReached job list (j * job .terms .size + i)) (λ i. isReached job list′ (j * job .terms .size + i)) 0 (from 0 (m (job .terms) j))
         (λ i l.
-        let inside : i < m (termsOf job) j = omega (arith, from-length 0 (m (termsOf job) j)) in
-        let v = j * job .size + getD (from 0 (m (termsOf job) j)) i 0 in
-        let low : v < N (termsOf job) =
-        subst (λ (x : ℕ). j * job .size + x < N (termsOf job)) (sym (getD-from 0 (m (termsOf job) j) i 0 inside ∙ zero-add i))
-        (segment-stack (N (termsOf job)) (job .size) (some given) j i inside) in
-        any-same (isChanged (job .size) (job .loaded) list) (isChanged (job .size) (job .loaded) list′) 0 (childrenOf (job .kind) (job .n) (movesOf job) v)
-        (λ k h. changed-same (getD (childrenOf (job .kind) (job .n) (movesOf job) v) k 0)
-        (children-inside (job .kind) (job .n) (movesOf job) v (given .in-range) (laws given) low k h)))
+        let inside : i < m (job .terms) j = omega (arith, from-length 0 (m (job .terms) j)) in
+        let v = j * job .terms .size + getD (from 0 (m (job .terms) j)) i 0 in
+        let low : v < N (job .terms) =
+        subst (λ (x : ℕ). j * job .terms .size + x < N (job .terms)) (sym (getD-from 0 (m (job .terms) j) i 0 inside ∙ zero-add i))
+        (segment-stack (N (job .terms)) (job .terms .size) (some given) j i inside) in
+        any-same (isChanged (job .terms .size) (job .loaded) list) (isChanged (job .terms .size) (job .loaded) list′) 0 (childrenOf (job .terms .kind) (job .terms .n) (movesOf job) v)
+        (λ k h. changed-same (getD (childrenOf (job .terms .kind) (job .terms .n) (movesOf job) v) k 0)
+        (children-inside (job .terms .kind) (job .terms .n) (movesOf job) v (given .in-range) (laws given) low k h)))
 
   pub sweep-list-own : sweepOf job j segment list ≡ sweepOf job j segment list′
   sweep-list-own = go (eq-or-ne (sweepRefusal job j (length segment) (length list)) 0)
@@ -86,7 +87,7 @@ module _ (job : Job) (j : ℕ) (segment list list′ : List ℕ) (long : length 
 
       swept : List ℕ → List ℕ × Answer
       swept offsets =
-          let marks = markAll (job .size) (levelOf (job .phase)) (indexesOf (job .size) j offsets) (marksFrom job segment) in (
+          let marks = markAll (job .terms .size) (levelOf (job .phase)) (indexesOf (job .terms .size) j offsets) (marksFrom job segment) in (
             marks .segment,
             record { refusal = 0; job = directed (markedJob job (job .passed) (job .waiting) marks) (job .way) (job .loaded) (withPair job j) },
           )
@@ -95,7 +96,7 @@ module _ (job : Job) (j : ℕ) (segment list list′ : List ℕ) (long : length 
           → sweepOf job j segment list ≡ sweepOf job j segment list′
       go (inl e) =
           let facts = coherent-facts job (sweep-facts job j (length segment) (length list) e .called .coherent) in
-          let given = begin-given (job .kind) (job .n) (job .wanted) (job .groups) (job .size) (job .room) (facts .begins) in
+          let given = begin-given (facts .begins) in
           sweep-accepted job j segment list e ∙ ap swept (reached-same given) ∙ sym (sweep-accepted job j segment list′ (sym same ∙ e))
       go (inr ne) =
           sweep-refused job j segment list ne

@@ -15,8 +15,10 @@ use Rattle.search.specs.Entries.{entryAt}
 use Rattle.search.specs.Expand.{isParent}
 use Rattle.search.specs.JobState.{levelOf, passedOf, sweptOf, isSwept, stackCountAt, directed}
 use Rattle.search.specs.Load.{loadRefusal, changedOf}
+use Rattle.search.specs.Terms.{N, G, m}
 use Rattle.search.specs.declared.Answer.{Answer}
 use Rattle.search.specs.declared.Job.{Job}
+use Rattle.search.specs.declared.Terms.{Terms}
 use Rattle.search.proofs.Accepted.{load-facts, load-accepted}
 use Rattle.search.proofs.ChangedLaws.{list-length, list-bit, list-spare}
 use Rattle.search.proofs.Invariant.{Listing, Looked, entryIn, isDue}
@@ -24,7 +26,7 @@ use Rattle.search.proofs.MarkLaws.{entry-own}
 use Rattle.search.proofs.SegmentLaws.{segment-stack}
 use Rattle.search.proofs.Shapes.{segments-is, stacks-is}
 use Rattle.search.proofs.Staging.{Searching, redirect, redirected}
-use Rattle.search.proofs.Terms.{Terms, Given, N, G, m, D, some}
+use Rattle.search.proofs.Given.{Given, D, some}
 
 pub load-spare : (job : Job) (b : ℕ) (segment : List ℕ) (i : ℕ) → stackCountAt job b ≤ i → i < 8 * listBytes (stackCountAt job b)
     → bitAt (changedOf job b segment) i ≡ false
@@ -44,7 +46,7 @@ load-world right w b list accepted =
 
 module _ {terms : Terms} (given : Given terms) {w : World} {d : ℕ} (search : Searching terms w d) where
   -- an entry is that of the level before exactly at these depths
-  due-is : (v : ℕ) → v < N terms → isParent d (entryIn (terms .S) (w .segments) v) ≡ isDue d (D terms v)
+  due-is : (v : ℕ) → v < N terms → isParent d (entryIn (terms .size) (w .segments) v) ≡ isDue d (D terms v)
   unfolding isParent isDue
   due-is v h =
       same-test (eqb entry ((d - 1) % 3)) (ltb (D terms v) d && eqb (D terms v % 3) ((d - 1) % 3))
@@ -57,7 +59,7 @@ module _ {terms : Terms} (given : Given terms) {w : World} {d : ℕ} (search : S
       ∙ eqb-true (D terms v % 3) ((d - 1) % 3) (and-right (ltb (D terms v) d) (eqb (D terms v % 3) ((d - 1) % 3)) t)))
     where
       entry : ℕ
-      entry = entryIn (terms .S) (w .segments) v
+      entry = entryIn (terms .size) (w .segments) v
 
   loaded-keeps : (b : ℕ) → b < G terms → Searching terms (loadedWorld w b) d
   unfolding loadedWorld directed passedOf sweptOf isSwept Looked entryIn levelOf changedOf
@@ -71,15 +73,15 @@ module _ {terms : Terms} (given : Given terms) {w : World} {d : ℕ} (search : S
       count : stackCountAt (w .job) b ≡ m terms b
       count = stacks-is (search .shaped) b
 
-      place : (i : ℕ) → i < m terms b → entryIn (terms .S) (w .segments) (b * terms .S + i) ≡ entryAt segment i
-      place = entry-own (N terms) (terms .S) (some given) (w .segments) b
+      place : (i : ℕ) → i < m terms b → entryIn (terms .size) (w .segments) (b * terms .size + i) ≡ entryAt segment i
+      place = entry-own (N terms) (terms .size) (some given) (w .segments) b
 
-      bit-is : (i : ℕ) → i < m terms b → bitAt (changedOf (w .job) b segment) i ≡ isDue d (D terms (b * terms .S + i))
+      bit-is : (i : ℕ) → i < m terms b → bitAt (changedOf (w .job) b segment) i ≡ isDue d (D terms (b * terms .size + i))
       bit-is i l =
           list-bit (stackCountAt (w .job) b) (λ i. isParent (levelOf (w .job .phase)) (entryAt segment i)) i (rw count l)
           ∙ ap (λ (x : ℕ). isParent x (entryAt segment i)) (ap levelOf (search .searches .phase-is))
           ∙ ap (isParent d) (sym (place i l))
-          ∙ due-is (b * terms .S + i) (segment-stack (N terms) (terms .S) (some given) b i l)
+          ∙ due-is (b * terms .size + i) (segment-stack (N terms) (terms .size) (some given) b i l)
 
       listing : Listing terms (loadedWorld w b) d
       listing =

@@ -70,7 +70,7 @@ module _ (job : Job) (j : ℕ) where
     same : e′ ≡ swap log e
     long : length (e .logs .log) ≡ length log
     appended : (t i : ℕ) → waitingOf job t ≤ i → i < getD (e .logs .waiting) t 0
-        → getD (e .logs .log) (t * job .room + i) 0 ≡ getD log (t * job .room + i) 0
+        → getD (e .logs .log) (t * job .terms .room + i) 0 ≡ getD log (t * job .terms .room + i) 0
 
   -- over that log area itself
   twin-of : {e e′ : Expansion} (twin : Twin e e′) → Twin e (swap (twin .log) e)
@@ -79,16 +79,16 @@ module _ (job : Job) (j : ℕ) where
   child-twin : (c : ℕ) {e e′ : Expansion} → Twin e e′ → Twin (placeChild job j c e) (placeChild job j c e′)
   unfolding placeChild logOne
   child-twin c {e} {e′} twin =
-      subst (λ (x : Expansion). Twin (placeChild job j c e) (placeChild job j c x)) (sym (twin .same)) (go (eqb (c / job .size) j))
+      subst (λ (x : Expansion). Twin (placeChild job j c e) (placeChild job j c x)) (sym (twin .same)) (go (eqb (c / job .terms .size) j))
     where
       S : ℕ
-      S = job .size
+      S = job .terms .size
 
       w : ℕ
       w = getD (e .logs .waiting) (c / S) 0
 
       place : ℕ
-      place = c / S * job .room + w
+      place = c / S * job .terms .room + w
 
       by : Bool → Expansion → Expansion
       by here x =
@@ -97,14 +97,14 @@ module _ (job : Job) (j : ℕ) where
             waits = x .waits;
             on = x .on;
             marks = cond here (markOne S (levelOf (job .phase)) c (x .marks)) (x .marks);
-            logs = cond here (x .logs) (logOne (job .room) (c / S) (c % S) (x .logs));
+            logs = cond here (x .logs) (logOne (job .terms .room) (c / S) (c % S) (x .logs));
           }
 
       new : (t i : ℕ) → waitingOf job t ≤ i → (i < getD (e .logs .waiting) t 0) ⊎ ((t ≡ c / S) × (i ≡ w))
-          → getD (set (e .logs .log) place (c % S)) (t * job .room + i) 0 ≡ getD (set (twin .log) place (c % S)) (t * job .room + i) 0
-      new t i h (inl l) = set-alike (e .logs .log) (twin .log) place (c % S) (t * job .room + i) (twin .long) (inr (twin .appended t i h l))
+          → getD (set (e .logs .log) place (c % S)) (t * job .terms .room + i) 0 ≡ getD (set (twin .log) place (c % S)) (t * job .terms .room + i) 0
+      new t i h (inl l) = set-alike (e .logs .log) (twin .log) place (c % S) (t * job .terms .room + i) (twin .long) (inr (twin .appended t i h l))
       new t i h (inr r) =
-          set-alike (e .logs .log) (twin .log) place (c % S) (t * job .room + i) (twin .long) (inl (λ k. r .0 k * job .room + r .1 k))
+          set-alike (e .logs .log) (twin .log) place (c % S) (t * job .terms .room + i) (twin .long) (inl (λ k. r .0 k * job .terms .room + r .1 k))
 
       go : (here : Bool) → Twin (by here e) (by here (swap (twin .log) e))
       go true = record { log = twin .log; same = refl; long = twin .long; appended = twin .appended }
@@ -132,8 +132,8 @@ module _ (job : Job) (j : ℕ) where
   next-twin : {e e′ : Expansion} → Twin e e′ → Twin (expandNext job j e) (expandNext job j e′)
   unfolding expandNext expandStack
   next-twin {e} {e′} twin =
-      let children = childrenOf (job .kind) (job .n) (movesOf job) (j * job .size + e .at) in
-      let t = firstFrom (lacksRoom (job .size) (job .room) j (e .logs .waiting) children) 0 (segmentCountOf job) in
+      let children = childrenOf (job .terms .kind) (job .terms .n) (movesOf job) (j * job .terms .size + e .at) in
+      let t = firstFrom (lacksRoom (job .terms .size) (job .terms .room) j (e .logs .waiting) children) 0 (segmentCountOf job) in
       subst (λ (x : Expansion). Twin (expandNext job j e) (expandNext job j x)) (sym (twin .same))
       (go children t (e .waits) (isParent (levelOf (job .phase)) (entryAt (e .marks .segment) (e .at))) (ltb t (segmentCountOf job)))
     where
@@ -164,7 +164,7 @@ module _ (job : Job) (j : ℕ) where
       segments : out .0 ≡ out′ .0
       answers : out .2 ≡ out′ .2
       appended : (t i : ℕ) → waitingOf job t ≤ i → i < waitingOf (out .2 .job) t
-          → getD (out .1) (t * job .room + i) 0 ≡ getD (out′ .1) (t * job .room + i) 0
+          → getD (out .1) (t * job .terms .room + i) 0 ≡ getD (out′ .1) (t * job .terms .room + i) 0
 
     expand-alike : Alike (expandOf job j segment log) (expandOf job j segment log′)
     unfolding expandedJob progressed waitingOf
@@ -213,17 +213,17 @@ appends-alike job j segment log log′ wide long =
     }
 
 module _ (job : Job) (j : ℕ) (log log′ : List ℕ) (long : length log ≡ length log′)
-    (stretch : take (job .room) (drop (j * job .room) log) ≡ take (job .room) (drop (j * job .room) log′)) where
+    (stretch : take (job .terms .room) (drop (j * job .terms .room) log) ≡ take (job .terms .room) (drop (j * job .terms .room) log′)) where
   -- what waits fits the stretch
   pending-same : isCoherent job ≡ true → j < segmentCountOf job → pending job j log ≡ pending job j log′
   unfolding pending segmentCountOf stackCountOf
   pending-same h inside =
       let facts = coherent-facts job h in
-      let given = begin-given (job .kind) (job .n) (job .wanted) (job .groups) (job .size) (job .room) (facts .begins) in
-      let few = segment-size-facts (stackCount (job .kind) (job .n)) (job .size) (given .segments) .few in
-      let fits : waitingOf job j ≤ job .room =
-      subst (λ (b : Bool). waitingOf job j ≤ cond b (job .room) 0) (lt-ltb j (segmentCountOf job) inside) (facts .waiting-fits j (omega arith)) in
-      log-same (job .room) j (waitingOf job j) log log′ fits stretch
+      let given = begin-given (facts .begins) in
+      let few = segment-size-facts (stackCount (job .terms .kind) (job .terms .n)) (job .terms .size) (given .segments) .few in
+      let fits : waitingOf job j ≤ job .terms .room =
+      subst (λ (b : Bool). waitingOf job j ≤ cond b (job .terms .room) 0) (lt-ltb j (segmentCountOf job) inside) (facts .waiting-fits j (omega arith)) in
+      log-same (job .terms .room) j (waitingOf job j) log log′ fits stretch
 
   -- Settle and Look give the same for two log areas of one length with the same stretch of segment j
   pub settle-log-own : (segment : List ℕ) → settleOf job j segment log ≡ settleOf job j segment log′
@@ -233,7 +233,7 @@ module _ (job : Job) (j : ℕ) (log log′ : List ℕ) (long : length log ≡ le
       by : ℕ → List ℕ → List ℕ × Answer
       by logs offsets =
           let r = levelRefusal job j (length segment) logs (unless (all (λ i. ltb i (stackCountAt job j)) offsets) 12 0) in
-          let marks = markAll (job .size) (levelOf (job .phase)) (indexesOf (job .size) j offsets) (marksFrom job segment) in
+          let marks = markAll (job .terms .size) (levelOf (job .phase)) (indexesOf (job .terms .size) j offsets) (marksFrom job segment) in
           cond (eqb r 0)
           (marks .segment, record { refusal = 0; job = markedJob job (job .passed) (set (job .waiting) j 0) marks })
           (segment, record { refusal = r; job = job })

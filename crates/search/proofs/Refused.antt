@@ -19,11 +19,11 @@ use Rattle.search.specs.Close.{closeRefusal, closeOf}
 use Rattle.search.specs.Drive.{buildRefusal, buildOf}
 use Rattle.search.specs.Entries.{bytesFor}
 use Rattle.search.specs.Expand.{expandRefusal, expandOf}
-use Rattle.search.specs.JobState.{beginRefusal, isCoherent, isBlanking, inForward, inReverse, segmentCountOf, stackCountAt, passedOf, logLength, isLoaded, isSwept}
+use Rattle.search.specs.JobState.{isCoherent, isBlanking, inForward, inReverse, segmentCountOf, stackCountAt, passedOf, logLength, isLoaded, isSwept}
 use Rattle.search.specs.Logs.{pending}
 use Rattle.search.specs.Look.{lookRefusal, lookOf}
 use Rattle.search.specs.Plan.{planRefusal, planOf}
-use Rattle.search.specs.Promise.{rightBytes, rightWords}
+use Rattle.search.specs.Promise.{rightBytes, rightWords, rightLengths}
 use Rattle.search.specs.PromiseCalls.{RefusedSame, StandsAlone, noBuild, givenBack, noStack, RefusedKeeps, isInside, wrongRefusal, RefusesWrong}
 use Rattle.search.specs.Read.{readRefusal, readOf}
 use Rattle.search.specs.Changed.{listBytes}
@@ -31,13 +31,14 @@ use Rattle.search.specs.Load.{loadRefusal, loadOf}
 use Rattle.search.specs.Refusals.{callRefusal, segmentRefusal, levelRefusal}
 use Rattle.search.specs.Settle.{settleRefusal, settleOf}
 use Rattle.search.specs.Sweep.{sweepRefusal, sweepOf}
+use Rattle.search.specs.Terms.{beginRefusal}
 use Rattle.search.specs.declared.Answer.{Answer}
 use Rattle.search.specs.declared.Expanded.{Expanded}
 use Rattle.search.specs.declared.Job.{Job}
+use Rattle.search.specs.declared.Terms.{Terms}
 use Rattle.search.proofs.Accepted.{LevelFacts, blank-facts, expand-facts, settle-facts, look-facts, load-facts, sweep-facts, load-refused, load-refusal, sweep-refused, sweep-refusal, blank-refused, blank-refusal, expand-refused, expand-refusal, settle-refused, settle-refusal, close-refused}
 use Rattle.search.proofs.Invariant.{Shaped}
 use Rattle.search.proofs.Shapes.{stacks-is, area-is}
-use Rattle.search.proofs.Terms.{Terms, lengthsOf}
 
 -- what a call gives back as it was lent it, the build keeps
 kept-lent : {right : ℕ} (buffer : Lent right) (mine : List ℕ) → kept buffer mine (lent buffer mine) ≡ mine
@@ -133,9 +134,9 @@ refused-keeps =
           let r = stackRefusal kind n i in alone (λ a. a .refusal) noStack r (stackOf kind n i) (eqb-true r 0) (λ h. rw h) refl;
       turn = λ kind n s k.
           let r = turnRefusal kind n s k in alone (λ a. a .refusal) noStack r (turnedOf kind n s k) (eqb-true r 0) (λ h. rw h) refl;
-      begin = λ kind n wanted groups S C.
-          let r = beginRefusal kind n wanted groups S C in
-          alone (λ a. a .refusal) noBuild r (beginOf kind n wanted groups S C) (eqb-true r 0) (λ h. rw h) refl;
+      begin = λ terms.
+          let r = beginRefusal terms in
+          alone (λ a. a .refusal) noBuild r (beginOf terms) (eqb-true r 0) (λ h. rw h) refl;
       blank = λ job j segment.
           alone (λ o. o .1 .refusal) (λ q. (segment, givenBack job q)) (blankRefusal job j (length segment)) (blankOf job j segment)
           (λ h. rw h refl) (λ h. rw h) refl;
@@ -160,9 +161,9 @@ refused-keeps =
       plan = λ kind n wanted given groups table list.
           alone (λ o. o .1 .refusal) (λ q. (list, record { refusal = q; turns = 0 })) (planRefusal kind n wanted given groups table (length list) 0)
           (planOf kind n wanted given groups table list) (λ h. rw h refl) (λ h. rw h) refl;
-      build = λ kind n wanted groups S C table log list.
+      build = λ terms table log list.
           alone (λ o. o .3 .refusal) (λ q. (table, log, list, noBuild q))
-          (buildRefusal kind n wanted groups S C (length table) (length log) (length list)) (buildOf kind n wanted groups S C table log list)
+          (buildRefusal terms (length table) (length log) (length list)) (buildOf terms table log list)
           (λ h. rw h refl) (λ h. rw h) refl;
     }
 
@@ -183,23 +184,23 @@ own-list job (otherList xs) changed h = go (eqb (length xs) right) refl h
     go false e l = absurd (eqb-false (length xs) right e l)
 
 module _ {terms : Terms} {w : World} (shaped : Shaped terms w) where
-  own-segment : (j : ℕ) (segment : Lent (lengthsOf terms .bytes j))
+  own-segment : (j : ℕ) (segment : Lent (rightLengths terms .bytes j))
       → length (lent segment (getD (w .segments) j [])) ≡ bytesFor (stackCountAt (w .job) j) → isOwn segment ≡ true
   unfolding rightBytes lent isOwn
   own-segment j own h = refl
   own-segment j (other xs wrong) h = absurd (wrong (h ∙ ap bytesFor (stacks-is shaped j)))
 
-  own-log : (log : Lent (lengthsOf terms .words)) → length (lent log (w .log)) ≡ logLength (w .job) → isOwn log ≡ true
+  own-log : (log : Lent (rightLengths terms .words)) → length (lent log (w .log)) ≡ logLength (w .job) → isOwn log ≡ true
   unfolding rightWords lent isOwn
   own-log own h = refl
   own-log (other xs wrong) h = absurd (wrong (h ∙ area-is shaped))
 
-  own-both : (j : ℕ) (segment : Lent (lengthsOf terms .bytes j)) (log : Lent (lengthsOf terms .words))
+  own-both : (j : ℕ) (segment : Lent (rightLengths terms .bytes j)) (log : Lent (rightLengths terms .words))
       → LevelFacts (w .job) j (length (lent segment (getD (w .segments) j []))) (length (lent log (w .log)))
       → (isOwn segment && isOwn log) ≡ true
   own-both j segment log f = and-both (isOwn segment) (isOwn log) (own-segment j segment (f .long)) (own-log log (f .wide))
 
-  own-accepted : (call : Call (lengthsOf terms)) → refusalOf w call ≡ 0 → isLentOwn call ≡ true
+  own-accepted : (call : Call (rightLengths terms)) → refusalOf w call ≡ 0 → isLentOwn call ≡ true
   unfolding refusalOf isLentOwn
   own-accepted (doBlank j segment) e = own-segment j segment (blank-facts (w .job) j (length (lent segment (getD (w .segments) j []))) e .long)
   own-accepted (doExpand j segment log) e =
@@ -215,7 +216,7 @@ module _ {terms : Terms} {w : World} (shaped : Shaped terms w) where
   own-accepted (doClose way) e = refl
 
   -- a call lent another buffer is refused
-  pub accepted-own : (call : Call (lengthsOf terms)) → outcome w call .refusal ≡ 0 → isLentOwn call ≡ true
+  pub accepted-own : (call : Call (rightLengths terms)) → outcome w call .refusal ≡ 0 → isLentOwn call ≡ true
   accepted-own call h = own-accepted call (sym (refusal-is w call) ∙ h)
 
 -- ---- by which number
@@ -236,7 +237,7 @@ module _ {terms : Terms} {w : World} (shaped : Shaped terms w) (coherent : isCoh
   row inPhase j rest x (inl out) = rw (coherent, out)
   row inPhase j rest x (inr e) = rw (coherent, e)
 
-  row-outside : (call : Call (lengthsOf terms)) → isInside (segmentCountOf (w .job)) call ≡ false → refusalOf w call ≡ wrongRefusal (w .job) call
+  row-outside : (call : Call (rightLengths terms)) → isInside (segmentCountOf (w .job)) call ≡ false → refusalOf w call ≡ wrongRefusal (w .job) call
   unfolding refusalOf isInside wrongRefusal blankRefusal expandRefusal settleRefusal lookRefusal loadRefusal sweepRefusal levelRefusal segmentRefusal
   row-outside (doBlank j segment) out = row (isBlanking (w .job .phase)) j _ 10 (inl out)
   row-outside (doExpand j segment log) out = row (inForward (w .job)) j _ 10 (inl out)
@@ -247,17 +248,17 @@ module _ {terms : Terms} {w : World} (shaped : Shaped terms w) (coherent : isCoh
   row-outside (doClose way) out = absurd (true≢false out)
 
   -- a buffer of a wrong length
-  wrong-segment : (j rest : ℕ) (xs : List ℕ) → (length xs ≡ lengthsOf terms .bytes j → ⊥)
+  wrong-segment : (j rest : ℕ) (xs : List ℕ) → (length xs ≡ rightLengths terms .bytes j → ⊥)
       → unless (eqb (length xs) (bytesFor (stackCountAt (w .job) j))) 10 rest ≡ 10
   unfolding rightBytes
   wrong-segment j rest xs wrong = ten (length xs) (bytesFor (stackCountAt (w .job) j)) rest (λ e. wrong (e ∙ ap bytesFor (stacks-is shaped j)))
 
-  wrong-log : (rest : ℕ) (xs : List ℕ) → (length xs ≡ lengthsOf terms .words → ⊥) → unless (eqb (length xs) (logLength (w .job))) 10 rest ≡ 10
+  wrong-log : (rest : ℕ) (xs : List ℕ) → (length xs ≡ rightLengths terms .words → ⊥) → unless (eqb (length xs) (logLength (w .job))) 10 rest ≡ 10
   unfolding rightWords
   wrong-log rest xs wrong = ten (length xs) (logLength (w .job)) rest (λ e. wrong (e ∙ area-is shaped))
 
   -- behind the segment's
-  row-log : (j bytes rest : ℕ) (xs : List ℕ) → (length xs ≡ lengthsOf terms .words → ⊥)
+  row-log : (j bytes rest : ℕ) (xs : List ℕ) → (length xs ≡ rightLengths terms .words → ⊥)
       → levelRefusal (w .job) j bytes (length xs) rest ≡ unless (inForward (w .job)) 8 (unless (ltb j (segmentCountOf (w .job))) 9 10)
   unfolding levelRefusal segmentRefusal
   row-log j bytes rest xs wrong =
@@ -265,7 +266,7 @@ module _ {terms : Terms} {w : World} (shaped : Shaped terms w) (coherent : isCoh
       let long : Bool = eqb bytes (bytesFor (stackCountAt (w .job) j)) in
       row (inForward (w .job)) j (unless long 10 words) 10 (inr (ten-after long words (wrong-log rest xs wrong)))
 
-  row-buffers : (call : Call (lengthsOf terms)) → isLentOwn call ≡ false → refusalOf w call ≡ wrongRefusal (w .job) call
+  row-buffers : (call : Call (rightLengths terms)) → isLentOwn call ≡ false → refusalOf w call ≡ wrongRefusal (w .job) call
   unfolding refusalOf isLentOwn isOwn lent wrongRefusal blankRefusal expandRefusal settleRefusal lookRefusal loadRefusal sweepRefusal levelRefusal segmentRefusal
   row-buffers (doBlank j own) not-own = absurd (true≢false not-own)
   row-buffers (doBlank j (other xs wrong)) not-own = row (isBlanking (w .job .phase)) j _ 10 (inr (wrong-segment j _ xs wrong))
@@ -315,7 +316,7 @@ module _ {terms : Terms} {w : World} (shaped : Shaped terms w) (coherent : isCoh
       wrong
       (sym (ap (λ (t : Bool). length (cond t (w .changed) list)) (ne-eqb (length list) (listBytes (stackCountAt (w .job) (w .job .loaded))) wrong)) ∙ e)
 
-  pub refuses-wrong : RefusesWrong (lengthsOf terms) w
+  pub refuses-wrong : RefusesWrong (rightLengths terms) w
   unfolding refusalOf wrongRefusal
   refuses-wrong =
       record {

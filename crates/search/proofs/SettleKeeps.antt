@@ -13,27 +13,29 @@ use Rattle.search.specs.JobState.{levelOf, passedOf, waitingOf, countOf,
 use Rattle.search.specs.Settle.{settleRefusal}
 use Rattle.search.specs.Marks.{Marks, markAll}
 use Rattle.search.specs.Logs.{Logs, logPart, indexesOf, pending}
+use Rattle.search.specs.Terms.{N, G, m}
 use Rattle.search.specs.declared.Answer.{Answer}
+use Rattle.search.specs.declared.Terms.{Terms}
 use Rattle.search.proofs.Accepted.{forward-level, settle-facts, settle-accepted}
 use Rattle.search.proofs.Invariant.{entryIn}
 use Rattle.search.proofs.SegmentLaws.{segment-stack, segment-stack-div, segment-stack-mod, log-length, log-at}
 use Rattle.search.proofs.Shapes.{room-is, size-is, segments-is}
 use Rattle.search.proofs.Staging.{Searching, Staged, Held, stage, stage-start, stage-empty, stage-end, Marking, Due, mark-all}
-use Rattle.search.proofs.Terms.{Terms, Given, N, G, m, some}
+use Rattle.search.proofs.Given.{Given, some}
 
 module _ {terms : Terms} (given : Given terms) {w : World} {d : ℕ} (search : Searching terms w d) (j : ℕ) (inside : j < G terms) where
   pub settle-stage : Staged terms w d j
-      (markAll (terms .S) d (indexesOf (terms .S) j (logPart (terms .C) j (waitingOf (w .job) j) (w .log)))
+      (markAll (terms .size) d (indexesOf (terms .size) j (logPart (terms .room) j (waitingOf (w .job) j) (w .log)))
       (record { segment = getD (w .segments) j []; count = countOf (w .job) d }))
       (record { log = w .log; waiting = set (w .job .waiting) j 0 }) (passedOf (w .job) j)
   unfolding countOf waitingOf indexesOf
   settle-stage = stage-empty given search j inside (marking .staged) seen
     where
       offsets : List ℕ
-      offsets = logPart (terms .C) j (waitingOf (w .job) j) (w .log)
+      offsets = logPart (terms .room) j (waitingOf (w .job) j) (w .log)
 
       stacks : List ℕ
-      stacks = map (λ i. j * terms .S + i) offsets
+      stacks = map (λ i. j * terms .size + i) offsets
 
       start : Marks
       start = record { segment = getD (w .segments) j []; count = countOf (w .job) d }
@@ -46,37 +48,37 @@ module _ {terms : Terms} (given : Given terms) {w : World} {d : ℕ} (search : S
 
       long : length offsets ≡ waitingOf (w .job) j
       long =
-          log-length (terms .C) j (waitingOf (w .job) j) (w .log)
-          (omega (arith, search .shaped .log-length, search .searches .waiting-fits j, suc-mul j (terms .C), mul-le-mul-right (terms .C) inside))
+          log-length (terms .room) j (waitingOf (w .job) j) (w .log)
+          (omega (arith, search .shaped .log-length, search .searches .waiting-fits j, suc-mul j (terms .room), mul-le-mul-right (terms .room) inside))
 
       many : length stacks ≡ waitingOf (w .job) j
-      many = length-map offsets (λ i. j * terms .S + i) ∙ long
+      many = length-map offsets (λ i. j * terms .size + i) ∙ long
 
       -- stack k of the list stands at the k-th number of the log
-      place : (k : ℕ) → k < length stacks → getD stacks k 0 ≡ j * terms .S + getD (w .log) (j * terms .C + k) 0
+      place : (k : ℕ) → k < length stacks → getD stacks k 0 ≡ j * terms .size + getD (w .log) (j * terms .room + k) 0
       place k h =
-          getD-map (λ i. j * terms .S + i) offsets k 0 0 (omega (arith, many, long))
-          ∙ ap (λ (i : ℕ). j * terms .S + i) (log-at (terms .C) j (waitingOf (w .job) j) (w .log) k (rw many at h))
+          getD-map (λ i. j * terms .size + i) offsets k 0 0 (omega (arith, many, long))
+          ∙ ap (λ (i : ℕ). j * terms .size + i) (log-at (terms .room) j (waitingOf (w .job) j) (w .log) k (rw many at h))
 
       due : (k : ℕ) → k < length stacks → Due given search j inside (getD stacks k 0)
       due k h =
-          let o = getD (w .log) (j * terms .C + k) 0 in
+          let o = getD (w .log) (j * terms .room + k) 0 in
           let fits : o < m terms j = search .searches .offsets j k inside (rw many at h) in
-          let own-segment = segment-stack-div (N terms) (terms .S) (some given) j o fits in
-          let own-place = segment-stack-mod (N terms) (terms .S) (some given) j o fits in
-          let low : j * terms .S + o < N terms = segment-stack (N terms) (terms .S) (some given) j o fits in
+          let own-segment = segment-stack-div (N terms) (terms .size) (some given) j o fits in
+          let own-place = segment-stack-mod (N terms) (terms .size) (some given) j o fits in
+          let low : j * terms .size + o < N terms = segment-stack (N terms) (terms .size) (some given) j o fits in
           subst (Due given search j inside) (sym (place k h))
           (record {
             low = low;
             here = own-segment;
-            near = first .level .logged (j * terms .S + o)
+            near = first .level .logged (j * terms .size + o)
                 (low, (k, rw own-segment (rw many at h), rw (own-segment, own-place) refl)) .1;
           })
 
-      marking : Marking given search j inside logs (passedOf (w .job) j) stacks start (markAll (terms .S) d stacks start)
+      marking : Marking given search j inside logs (passedOf (w .job) j) stacks start (markAll (terms .size) d stacks start)
       marking = mark-all given search j inside logs (passedOf (w .job) j) stacks start first due
 
-      seen : (v : ℕ) → v < N terms → v / terms .S ≡ j → entryIn (terms .S) (set (w .segments) j (markAll (terms .S) d stacks start .segment)) v ≡ 3 → Held terms logs v → ⊥
+      seen : (v : ℕ) → v < N terms → v / terms .size ≡ j → entryIn (terms .size) (set (w .segments) j (markAll (terms .size) d stacks start .segment)) v ≡ 3 → Held terms logs v → ⊥
       seen v h here e held =
           let k = held .1 .0 in
           let l : k < length stacks = omega (arith, many, ap (λ (x : ℕ). getD (w .job .waiting) x 0) here) in
@@ -85,11 +87,11 @@ module _ {terms : Terms} (given : Given terms) {w : World} {d : ℕ} (search : S
             arith,
             place k l,
             held .1 .2,
-            ap (λ (x : ℕ). getD (w .log) (x * terms .C + k) 0) here,
-            div-add-mod' v (terms .S),
-            ap (λ (x : ℕ). x * terms .S) here,
+            ap (λ (x : ℕ). getD (w .log) (x * terms .room + k) 0) here,
+            div-add-mod' v (terms .size),
+            ap (λ (x : ℕ). x * terms .size) here,
           ) in
-          marking .done k l (ap (entryIn (terms .S) (set (w .segments) j (markAll (terms .S) d stacks start .segment))) this ∙ e)
+          marking .done k l (ap (entryIn (terms .size) (set (w .segments) j (markAll (terms .size) d stacks start .segment))) this ∙ e)
 
 module _ {terms : Terms} (given : Given terms) {w : World} {d : ℕ} (search : Searching terms w d) where
   pub settle-keeps : (right : Lengths) (j : ℕ) → settleRefusal (w .job) j (length (getD (w .segments) j [])) (w .log) ≡ 0
@@ -115,7 +117,7 @@ module _ {terms : Terms} (given : Given terms) {w : World} {d : ℕ} (search : S
           withJob (progressed (w .job) (w .job .phase) passed (set (w .job .waiting) j 0) (set (w .job .counts) d (marks .count)))
           (withSegment j (marks .segment) w)
 
-      same : settled (w .job .size) (levelOf (w .job .phase)) (pending (w .job) j (w .log)) (w .job .passed)
-          ≡ settled (terms .S) d (logPart (terms .C) j (waitingOf (w .job) j) (w .log)) (set (w .job .passed) j (passedOf (w .job) j))
+      same : settled (w .job .terms .size) (levelOf (w .job .phase)) (pending (w .job) j (w .log)) (w .job .passed)
+          ≡ settled (terms .size) d (logPart (terms .room) j (waitingOf (w .job) j) (w .log)) (set (w .job .passed) j (passedOf (w .job) j))
       same = λ i. settled (size-is (search .shaped) i) (levelOf (search .searches .phase-is i))
           (logPart (room-is (search .shaped) i) j (waitingOf (w .job) j) (w .log)) (sym (set-getD (w .job .passed) j 0) i)

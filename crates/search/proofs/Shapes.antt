@@ -9,18 +9,20 @@ use borrow.Author.Tests.{eq-eqb, not-true}
 use Rattle.base.proofs.Tests.{never}
 use Rattle.search.specs.Blank.{goalOf}
 use Rattle.search.specs.Build.{World}
-use Rattle.search.specs.JobState.{noSegment, isLoaded, beginRefusal, stackCountOf, segmentCountOf, stackCountAt, logLength}
+use Rattle.search.specs.JobState.{noSegment, isLoaded, stackCountOf, segmentCountOf, stackCountAt, logLength}
+use Rattle.search.specs.Terms.{beginRefusal, N, G, m}
+use Rattle.search.specs.declared.Terms.{Terms}
 use Rattle.search.proofs.Coherence.{given-begin}
 use Rattle.search.proofs.Invariant.{Shaped}
 use Rattle.search.proofs.SegmentLaws.{Segmented, segment-size-facts}
-use Rattle.search.proofs.Terms.{Terms, Given, N, G, m, goal}
+use Rattle.search.proofs.Given.{Given, goal}
 
 module _ {terms : Terms} {w : World} (shaped : Shaped terms w) where
-  pub size-is : w .job .size ≡ terms .S
-  size-is = ap (λ (t : Terms). t .S) (shaped .terms-is)
+  pub size-is : w .job .terms .size ≡ terms .size
+  size-is = ap (λ (t : Terms). t .size) (shaped .terms-is)
 
-  pub room-is : w .job .room ≡ terms .C
-  room-is = ap (λ (t : Terms). t .C) (shaped .terms-is)
+  pub room-is : w .job .terms .room ≡ terms .room
+  room-is = ap (λ (t : Terms). t .room) (shaped .terms-is)
 
   pub count-is : stackCountOf (w .job) ≡ N terms
   unfolding stackCountOf
@@ -34,9 +36,9 @@ module _ {terms : Terms} {w : World} (shaped : Shaped terms w) where
   unfolding stackCountAt stackCountOf
   stacks-is j = ap (λ (t : Terms). m t j) (shaped .terms-is)
 
-  pub area-is : logLength (w .job) ≡ G terms * terms .C
+  pub area-is : logLength (w .job) ≡ G terms * terms .room
   unfolding logLength segmentCountOf stackCountOf
-  area-is = ap (λ (t : Terms). G t * t .C) (shaped .terms-is)
+  area-is = ap (λ (t : Terms). G t * t .room) (shaped .terms-is)
 
   pub goal-is : goalOf (w .job) ≡ goal terms
   unfolding goalOf
@@ -51,11 +53,10 @@ module _ {terms : Terms} {w : World} (shaped : Shaped terms w) where
       go (inl e) = never (eq-eqb (w .job .loaded) noSegment e) (not-true (eqb (w .job .loaded) noSegment) h)
       go (inr l) = l
 
-  pub begins-is : Given terms → beginRefusal (w .job .kind) (w .job .n) (w .job .wanted) (w .job .groups) (w .job .size) (w .job .room) ≡ 0
-  begins-is given =
-      ap (λ (t : Terms). beginRefusal (t .kind) (t .n) (t .wanted) (t .groups) (t .S) (t .C)) (shaped .terms-is) ∙ given-begin terms given
+  pub begins-is : Given terms → beginRefusal (w .job .terms) ≡ 0
+  begins-is given = ap beginRefusal (shaped .terms-is) ∙ given-begin terms given
 
-  pub shaped-segmented : Given terms → Segmented (N terms) (terms .S) (w .segments)
+  pub shaped-segmented : Given terms → Segmented (N terms) (terms .size) (w .segments)
   shaped-segmented given =
-      let facts = segment-size-facts (N terms) (terms .S) (given .segments) in
+      let facts = segment-size-facts (N terms) (terms .size) (given .segments) in
       record { some = omega (arith, facts .least); four = facts .four; count = shaped .segments-length; sizes = shaped .segment-bytes }

@@ -28,10 +28,12 @@ use Rattle.search.specs.JobState.{passedOf, waitingOf, countOf, sweptOf,
 use Rattle.search.specs.Segments.{segmentLimit}
 use Rattle.search.specs.Marks.{Marks, markOne, markAll}
 use Rattle.search.specs.Logs.{Logs, logOne}
+use Rattle.search.specs.Terms.{N, G, m}
+use Rattle.search.specs.declared.Terms.{Terms}
 use Rattle.search.proofs.Invariant.{Shaped, Searches, Listing, Looked, Logged, entryIn}
 use Rattle.search.proofs.MarkLaws.{mark-length, mark-bytes, mark-other, mark-marked, mark-count, marked-before, marked-after}
 use Rattle.search.proofs.SegmentLaws.{stack-segment, stack-offset}
-use Rattle.search.proofs.Terms.{Terms, Given, N, G, m, moves, step, D, some, few}
+use Rattle.search.proofs.Given.{Given, moves, step, D, some, few}
 
 pub record MarksFit (terms : Terms) (j : ℕ) (marks : Marks) : Type 0 where
   pub bytes : length (marks .segment) ≡ bytesFor (m terms j)
@@ -40,61 +42,61 @@ pub record MarksFit (terms : Terms) (j : ℕ) (marks : Marks) : Type 0 where
 
 pub record LogsFit (terms : Terms) (logs : Logs) : Type 0 where
   pub waiting-length : length (logs .waiting) ≡ segmentLimit
-  pub log-length : length (logs .log) ≡ G terms * terms .C
-  pub waiting-fits : (t : ℕ) → getD (logs .waiting) t 0 ≤ terms .C
+  pub log-length : length (logs .log) ≡ G terms * terms .room
+  pub waiting-fits : (t : ℕ) → getD (logs .waiting) t 0 ≤ terms .room
   pub waiting-beyond : (t : ℕ) → G terms ≤ t → getD (logs .waiting) t 0 ≡ 0
-  pub offsets : (t i : ℕ) → t < G terms → i < getD (logs .waiting) t 0 → getD (logs .log) (t * terms .C + i) 0 < m terms t
+  pub offsets : (t i : ℕ) → t < G terms → i < getD (logs .waiting) t 0 → getD (logs .log) (t * terms .room + i) 0 < m terms t
 
 -- stack v waits in its log; stack u was passed, or its segment is swept by v's, and it has child v
 abbrev pub Held : Terms → Logs → ℕ → Type 0
 Held terms logs v =
-    (v < N terms) × ((i : ℕ) × (i < getD (logs .waiting) (v / terms .S) 0) × (getD (logs .log) (v / terms .S * terms .C + i) 0 ≡ v % terms .S))
+    (v < N terms) × ((i : ℕ) × (i < getD (logs .waiting) (v / terms .size) 0) × (getD (logs .log) (v / terms .size * terms .room + i) 0 ≡ v % terms .size))
 
 abbrev pub Met : Terms → List ℕ → List ℕ → ℕ → ℕ → Type 0
 Met terms swept passed u v =
-    ((u % terms .S < getD passed (u / terms .S) 0) ⊎ (eqb (getD swept (u / terms .S) 0 / 2 ^ (v / terms .S) % 2) 1 ≡ true))
+    ((u % terms .size < getD passed (u / terms .size) 0) ⊎ (eqb (getD swept (u / terms .size) 0 / 2 ^ (v / terms .size) % 2) 1 ≡ true))
     × ((k : ℕ) × (isMove (moves terms) k ≡ true) × (step terms k u ≡ v))
 
-pub mark-fits : (terms : Terms) (j d v : ℕ) (marks : Marks) → v % terms .S < m terms j → MarksFit terms j marks
-    → MarksFit terms j (markOne (terms .S) d v marks)
+pub mark-fits : (terms : Terms) (j d v : ℕ) (marks : Marks) → v % terms .size < m terms j → MarksFit terms j marks
+    → MarksFit terms j (markOne (terms .size) d v marks)
 mark-fits terms j d v marks h fit =
     record {
-      bytes = mark-length (terms .S) d v marks ∙ fit .bytes;
-      byte = mark-bytes (terms .S) d v marks (fit .byte);
-      spare = λ l g k. mark-other (terms .S) d v marks l (λ e. omega arith) ∙ fit .spare l g k;
+      bytes = mark-length (terms .size) d v marks ∙ fit .bytes;
+      byte = mark-bytes (terms .size) d v marks (fit .byte);
+      spare = λ l g k. mark-other (terms .size) d v marks l (λ e. omega arith) ∙ fit .spare l g k;
     }
 
 -- an offset appended to the log of segment t, which has room
 module _ (terms : Terms) (few : G terms ≤ segmentLimit) (logs : Logs) (fit : LogsFit terms logs) (t i : ℕ) (inside : t < G terms)
-    (room : getD (logs .waiting) t 0 < terms .C) where
-  pub log-waiting : getD (logOne (terms .C) t i logs .waiting) t 0 ≡ getD (logs .waiting) t 0 + 1
+    (room : getD (logs .waiting) t 0 < terms .room) where
+  pub log-waiting : getD (logOne (terms .room) t i logs .waiting) t 0 ≡ getD (logs .waiting) t 0 + 1
   unfolding logOne
   log-waiting = getD-set-same (logs .waiting) t (getD (logs .waiting) t 0 + 1) 0 (omega (arith, fit .waiting-length))
 
-  pub log-waiting-other : (u : ℕ) → (u ≡ t → ⊥) → getD (logOne (terms .C) t i logs .waiting) u 0 ≡ getD (logs .waiting) u 0
+  pub log-waiting-other : (u : ℕ) → (u ≡ t → ⊥) → getD (logOne (terms .room) t i logs .waiting) u 0 ≡ getD (logs .waiting) u 0
   unfolding logOne
   log-waiting-other u ne = getD-set-other (logs .waiting) t u (getD (logs .waiting) t 0 + 1) 0 ne
 
-  log-new : getD (logOne (terms .C) t i logs .log) (t * terms .C + getD (logs .waiting) t 0) 0 ≡ i
+  log-new : getD (logOne (terms .room) t i logs .log) (t * terms .room + getD (logs .waiting) t 0) 0 ≡ i
   unfolding logOne
   log-new =
-      getD-set-same (logs .log) (t * terms .C + getD (logs .waiting) t 0) i 0
-      (omega (arith, fit .log-length, suc-mul t (terms .C), mul-le-mul-right (terms .C) inside))
+      getD-set-same (logs .log) (t * terms .room + getD (logs .waiting) t 0) i 0
+      (omega (arith, fit .log-length, suc-mul t (terms .room), mul-le-mul-right (terms .room) inside))
 
   -- what waits already stands at another place
-  log-old : (u k : ℕ) → k < getD (logs .waiting) u 0 → getD (logOne (terms .C) t i logs .log) (u * terms .C + k) 0 ≡ getD (logs .log) (u * terms .C + k) 0
+  log-old : (u k : ℕ) → k < getD (logs .waiting) u 0 → getD (logOne (terms .room) t i logs .log) (u * terms .room + k) 0 ≡ getD (logs .log) (u * terms .room + k) 0
   unfolding logOne
-  log-old u k h = getD-set-other (logs .log) (t * terms .C + getD (logs .waiting) t 0) (u * terms .C + k) i 0 apart
+  log-old u k h = getD-set-other (logs .log) (t * terms .room + getD (logs .waiting) t 0) (u * terms .room + k) i 0 apart
     where
-      apart : u * terms .C + k ≡ t * terms .C + getD (logs .waiting) t 0 → ⊥
+      apart : u * terms .room + k ≡ t * terms .room + getD (logs .waiting) t 0 → ⊥
       apart e =
-          let small : k < terms .C = omega (arith, fit .waiting-fits u) in
-          let same : u ≡ t = sym (digits-div u small) ∙ ap (λ (x : ℕ). x / terms .C) e ∙ digits-div t room in
-          let place : k ≡ getD (logs .waiting) t 0 = sym (digits-mod u small) ∙ ap (λ (x : ℕ). x % terms .C) e ∙ digits-mod t room in
+          let small : k < terms .room = omega (arith, fit .waiting-fits u) in
+          let same : u ≡ t = sym (digits-div u small) ∙ ap (λ (x : ℕ). x / terms .room) e ∙ digits-div t room in
+          let place : k ≡ getD (logs .waiting) t 0 = sym (digits-mod u small) ∙ ap (λ (x : ℕ). x % terms .room) e ∙ digits-mod t room in
           omega (arith, ap (λ (x : ℕ). getD (logs .waiting) x 0) same)
 
   -- an entry that waits now waited before, or is the new one
-  log-cases : (u k : ℕ) → k < getD (logOne (terms .C) t i logs .waiting) u 0
+  log-cases : (u k : ℕ) → k < getD (logOne (terms .room) t i logs .waiting) u 0
       → (k < getD (logs .waiting) u 0) ⊎ ((u ≡ t) × (k ≡ getD (logs .waiting) t 0))
   log-cases u k h = go (eq-or-ne u t) (lt-or-ge k (getD (logs .waiting) u 0))
     where
@@ -108,56 +110,56 @@ module _ (terms : Terms) (few : G terms ≤ segmentLimit) (logs : Logs) (fit : L
               arith,
               log-waiting,
               ap (λ (x : ℕ). getD (logs .waiting) x 0) e,
-              ap (λ (x : ℕ). getD (logOne (terms .C) t i logs .waiting) x 0) e,
+              ap (λ (x : ℕ). getD (logOne (terms .room) t i logs .waiting) x 0) e,
             ),
           )
       go (inr ne) (inr l) = absurd (omega (arith, log-waiting-other u ne))
 
-  log-kept : (u : ℕ) → getD (logs .waiting) u 0 ≤ getD (logOne (terms .C) t i logs .waiting) u 0
+  log-kept : (u : ℕ) → getD (logs .waiting) u 0 ≤ getD (logOne (terms .room) t i logs .waiting) u 0
   log-kept u = go (eq-or-ne u t)
     where
-      go : (u ≡ t) ⊎ (u ≡ t → ⊥) → getD (logs .waiting) u 0 ≤ getD (logOne (terms .C) t i logs .waiting) u 0
+      go : (u ≡ t) ⊎ (u ≡ t → ⊥) → getD (logs .waiting) u 0 ≤ getD (logOne (terms .room) t i logs .waiting) u 0
       go (inl e) = rw e (omega (arith, log-waiting))
       go (inr ne) = omega (arith, log-waiting-other u ne)
 
-  pub log-fits : i < m terms t → LogsFit terms (logOne (terms .C) t i logs)
+  pub log-fits : i < m terms t → LogsFit terms (logOne (terms .room) t i logs)
   unfolding logOne
   log-fits h =
       record {
         waiting-length = length-set (logs .waiting) t (getD (logs .waiting) t 0 + 1) ∙ fit .waiting-length;
-        log-length = length-set (logs .log) (t * terms .C + getD (logs .waiting) t 0) i ∙ fit .log-length;
+        log-length = length-set (logs .log) (t * terms .room + getD (logs .waiting) t 0) i ∙ fit .log-length;
         waiting-fits = λ u. go u (eq-or-ne u t);
         waiting-beyond = λ u l. log-waiting-other u (λ e. omega arith) ∙ fit .waiting-beyond u l;
         offsets = λ u k l m. at u k l (log-cases u k m);
       }
     where
-      go : (u : ℕ) → (u ≡ t) ⊎ (u ≡ t → ⊥) → getD (logOne (terms .C) t i logs .waiting) u 0 ≤ terms .C
+      go : (u : ℕ) → (u ≡ t) ⊎ (u ≡ t → ⊥) → getD (logOne (terms .room) t i logs .waiting) u 0 ≤ terms .room
       go u (inl e) = rw e (omega (arith, log-waiting))
       go u (inr ne) = omega (arith, log-waiting-other u ne, fit .waiting-fits u)
 
       at : (u k : ℕ) → u < G terms → (k < getD (logs .waiting) u 0) ⊎ ((u ≡ t) × (k ≡ getD (logs .waiting) t 0))
-          → getD (logOne (terms .C) t i logs .log) (u * terms .C + k) 0 < m terms u
+          → getD (logOne (terms .room) t i logs .log) (u * terms .room + k) 0 < m terms u
       at u k l (inl m) = omega (arith, log-old u k m, fit .offsets u k l m)
       at u k l (inr e) = rw (e .0, e .1) (omega (arith, log-new))
 
-  pub log-more : (v : ℕ) → Held terms logs v → Held terms (logOne (terms .C) t i logs) v
-  log-more v h = (h .0, (h .1 .0, omega (arith, log-kept (v / terms .S)), log-old (v / terms .S) (h .1 .0) (h .1 .1) ∙ h .1 .2))
+  pub log-more : (v : ℕ) → Held terms logs v → Held terms (logOne (terms .room) t i logs) v
+  log-more v h = (h .0, (h .1 .0, omega (arith, log-kept (v / terms .size)), log-old (v / terms .size) (h .1 .0) (h .1 .1) ∙ h .1 .2))
 
-  log-only : (v : ℕ) → Held terms (logOne (terms .C) t i logs) v → (Held terms logs v) ⊎ ((v / terms .S ≡ t) × (v % terms .S ≡ i))
-  log-only v h = go (log-cases (v / terms .S) (h .1 .0) (h .1 .1))
+  log-only : (v : ℕ) → Held terms (logOne (terms .room) t i logs) v → (Held terms logs v) ⊎ ((v / terms .size ≡ t) × (v % terms .size ≡ i))
+  log-only v h = go (log-cases (v / terms .size) (h .1 .0) (h .1 .1))
     where
-      go : (h .1 .0 < getD (logs .waiting) (v / terms .S) 0) ⊎ ((v / terms .S ≡ t) × (h .1 .0 ≡ getD (logs .waiting) t 0))
-          → (Held terms logs v) ⊎ ((v / terms .S ≡ t) × (v % terms .S ≡ i))
-      go (inl l) = inl (h .0, (h .1 .0, l, sym (log-old (v / terms .S) (h .1 .0) l) ∙ h .1 .2))
+      go : (h .1 .0 < getD (logs .waiting) (v / terms .size) 0) ⊎ ((v / terms .size ≡ t) × (h .1 .0 ≡ getD (logs .waiting) t 0))
+          → (Held terms logs v) ⊎ ((v / terms .size ≡ t) × (v % terms .size ≡ i))
+      go (inl l) = inl (h .0, (h .1 .0, l, sym (log-old (v / terms .size) (h .1 .0) l) ∙ h .1 .2))
       go (inr e) = inr (
         e .0,
         sym (h .1 .2)
-            ∙ ap (λ (x : ℕ). getD (logOne (terms .C) t i logs .log) (x * terms .C + h .1 .0) 0) (e .0)
-            ∙ ap (λ (x : ℕ). getD (logOne (terms .C) t i logs .log) (t * terms .C + x) 0) (e .1)
+            ∙ ap (λ (x : ℕ). getD (logOne (terms .room) t i logs .log) (x * terms .room + h .1 .0) 0) (e .0)
+            ∙ ap (λ (x : ℕ). getD (logOne (terms .room) t i logs .log) (t * terms .room + x) 0) (e .1)
             ∙ log-new,
       )
 
-  pub log-held : (v : ℕ) → v < N terms → v / terms .S ≡ t → v % terms .S ≡ i → Held terms (logOne (terms .C) t i logs) v
+  pub log-held : (v : ℕ) → v < N terms → v / terms .size ≡ t → v % terms .size ≡ i → Held terms (logOne (terms .room) t i logs) v
   log-held v h e m =
       (h, (getD (logs .waiting) t 0, rw e (omega (arith, log-waiting)), rw (e, m) log-new))
 
@@ -176,8 +178,8 @@ module _ (terms : Terms) where
     pub at-fits : at ≤ m terms j
     pub marks-fit : MarksFit terms j marks
     pub logs-fit : LogsFit terms logs
-    pub level : Level (N terms) (D terms) d (entryIn (terms .S) (set (w .segments) j (marks .segment))) (Met terms (w .job .swept) (set (w .job .passed) j at)) (Held terms logs)
-    pub count : marks .count ≡ tally (found (λ v. true) (D terms) d (entryIn (terms .S) (set (w .segments) j (marks .segment)))) (from 0 (N terms))
+    pub level : Level (N terms) (D terms) d (entryIn (terms .size) (set (w .segments) j (marks .segment))) (Met terms (w .job .swept) (set (w .job .passed) j at)) (Held terms logs)
+    pub count : marks .count ≡ tally (found (λ v. true) (D terms) d (entryIn (terms .size) (set (w .segments) j (marks .segment)))) (from 0 (N terms))
 
 module _ {terms : Terms} (given : Given terms) {w : World} {d : ℕ} (search : Searching terms w d) (j : ℕ) (inside : j < G terms) where
   listed : j < length (w .segments)
@@ -215,88 +217,88 @@ module _ {terms : Terms} (given : Given terms) {w : World} {d : ℕ} (search : S
       }
 
   module _ {marks : Marks} {logs : Logs} {at : ℕ} (staged : Staged terms w d j marks logs at) where
-    module _ (v : ℕ) (h : v < N terms) (here : v / terms .S ≡ j) where
-      pub stage-marked : Marked (N terms) d (entryIn (terms .S) (set (w .segments) j (marks .segment)))
-          (entryIn (terms .S) (set (w .segments) j (markOne (terms .S) d v marks .segment))) v
-      stage-marked = mark-marked (N terms) (terms .S) (some given) (w .segments) j listed d v marks h here (staged .marks-fit .bytes)
+    module _ (v : ℕ) (h : v < N terms) (here : v / terms .size ≡ j) where
+      pub stage-marked : Marked (N terms) d (entryIn (terms .size) (set (w .segments) j (marks .segment)))
+          (entryIn (terms .size) (set (w .segments) j (markOne (terms .size) d v marks .segment))) v
+      stage-marked = mark-marked (N terms) (terms .size) (some given) (w .segments) j listed d v marks h here (staged .marks-fit .bytes)
 
       -- a stack of this segment that is no deeper than d is marked
-      pub stage-mark : D terms v ≤ d → Staged terms w d j (markOne (terms .S) d v marks) logs at
+      pub stage-mark : D terms v ≤ d → Staged terms w d j (markOne (terms .size) d v marks) logs at
       stage-mark near =
           record {
             at-fits = staged .at-fits;
             marks-fit = mark-fits terms j d v marks
-                (subst (λ (t : ℕ). v % terms .S < m terms t) here (stack-offset (N terms) (terms .S) (some given) v h)) (staged .marks-fit);
+                (subst (λ (t : ℕ). v % terms .size < m terms t) here (stack-offset (N terms) (terms .size) (some given) v h)) (staged .marks-fit);
             logs-fit = staged .logs-fit;
             level = level-mark (staged .level) near stage-marked;
-            count = mark-count (N terms) (terms .S) (some given) (w .segments) j listed d v marks h here (staged .marks-fit .bytes) (staged .level)
+            count = mark-count (N terms) (terms .size) (some given) (w .segments) j listed d v marks h here (staged .marks-fit .bytes) (staged .level)
                 near (staged .count);
           }
 
     -- a stack elsewhere that is no deeper than d is logged
-    pub stage-log : (v : ℕ) → v < N terms → D terms v ≤ d → getD (logs .waiting) (v / terms .S) 0 < terms .C
-        → Staged terms w d j marks (logOne (terms .C) (v / terms .S) (v % terms .S) logs) at
+    pub stage-log : (v : ℕ) → v < N terms → D terms v ≤ d → getD (logs .waiting) (v / terms .size) 0 < terms .room
+        → Staged terms w d j marks (logOne (terms .room) (v / terms .size) (v % terms .size) logs) at
     stage-log v h near room =
-        let t : v / terms .S < G terms = stack-segment (N terms) (terms .S) (some given) v h in
+        let t : v / terms .size < G terms = stack-segment (N terms) (terms .size) (some given) v h in
         let fit : LogsFit terms logs = staged .logs-fit in
         record {
           at-fits = staged .at-fits;
           marks-fit = staged .marks-fit;
-          logs-fit = log-fits terms (few given) logs fit (v / terms .S) (v % terms .S) t room (stack-offset (N terms) (terms .S) (some given) v h);
-          level = level-log (staged .level) v h near (log-more terms (few given) logs fit (v / terms .S) (v % terms .S) t room)
-              (λ u i. only u (log-only terms (few given) logs fit (v / terms .S) (v % terms .S) t room u i));
+          logs-fit = log-fits terms (few given) logs fit (v / terms .size) (v % terms .size) t room (stack-offset (N terms) (terms .size) (some given) v h);
+          level = level-log (staged .level) v h near (log-more terms (few given) logs fit (v / terms .size) (v % terms .size) t room)
+              (λ u i. only u (log-only terms (few given) logs fit (v / terms .size) (v % terms .size) t room u i));
           count = staged .count;
         }
       where
-        only : (u : ℕ) → (Held terms logs u) ⊎ ((u / terms .S ≡ v / terms .S) × (u % terms .S ≡ v % terms .S))
+        only : (u : ℕ) → (Held terms logs u) ⊎ ((u / terms .size ≡ v / terms .size) × (u % terms .size ≡ v % terms .size))
             → (Held terms logs u) ⊎ (u ≡ v)
         only u (inl i) = inl i
         only u (inr e) =
-            inr (omega (arith, div-add-mod' u (terms .S), div-add-mod' v (terms .S), ap (λ (x : ℕ). x * terms .S) (e .0)))
+            inr (omega (arith, div-add-mod' u (terms .size), div-add-mod' v (terms .size), ap (λ (x : ℕ). x * terms .size) (e .0)))
 
     -- the next stack is passed, if the children of a stack of the level before are seen or logged
     pub stage-pass : at < m terms j
-        → ((k : ℕ) → isMove (moves terms) k ≡ true → suc (D terms (j * terms .S + at)) ≡ d
-        → entryIn (terms .S) (set (w .segments) j (marks .segment)) (step terms k (j * terms .S + at)) ≡ 3
-        → Held terms logs (step terms k (j * terms .S + at)))
+        → ((k : ℕ) → isMove (moves terms) k ≡ true → suc (D terms (j * terms .size + at)) ≡ d
+        → entryIn (terms .size) (set (w .segments) j (marks .segment)) (step terms k (j * terms .size + at)) ≡ 3
+        → Held terms logs (step terms k (j * terms .size + at)))
         → Staged terms w d j marks logs (suc at)
     stage-pass h placed =
         record {
           at-fits = h;
           marks-fit = staged .marks-fit;
           logs-fit = staged .logs-fit;
-          level = level-look (staged .level) (λ u v g i s m e. go u v s (m .0) (m .1) e (eq-or-ne (u / terms .S) j) (eq-or-ne (u % terms .S) at));
+          level = level-look (staged .level) (λ u v g i s m e. go u v s (m .0) (m .1) e (eq-or-ne (u / terms .size) j) (eq-or-ne (u % terms .size) at));
           count = staged .count;
         }
       where
         go : (u v : ℕ) → suc (D terms u) ≡ d
-            → (u % terms .S < getD (set (w .job .passed) j (suc at)) (u / terms .S) 0) ⊎ (eqb (getD (w .job .swept) (u / terms .S) 0 / 2 ^ (v / terms .S) % 2) 1 ≡ true)
+            → (u % terms .size < getD (set (w .job .passed) j (suc at)) (u / terms .size) 0) ⊎ (eqb (getD (w .job .swept) (u / terms .size) 0 / 2 ^ (v / terms .size) % 2) 1 ≡ true)
             → ((k : ℕ) × (isMove (moves terms) k ≡ true) × (step terms k u ≡ v))
-            → entryIn (terms .S) (set (w .segments) j (marks .segment)) v ≡ 3 → (u / terms .S ≡ j) ⊎ (u / terms .S ≡ j → ⊥) → (u % terms .S ≡ at) ⊎ (u % terms .S ≡ at → ⊥)
+            → entryIn (terms .size) (set (w .segments) j (marks .segment)) v ≡ 3 → (u / terms .size ≡ j) ⊎ (u / terms .size ≡ j → ⊥) → (u % terms .size ≡ at) ⊎ (u % terms .size ≡ at → ⊥)
             → (Met terms (w .job .swept) (set (w .job .passed) j at) u v) ⊎ (Held terms logs v)
         go u v s (inr swept) edge e i l = inl (inr swept, edge)
         go u v s (inl p) edge e (inl i) (inl l) =
             let k = edge .0 in
-            let this : u ≡ j * terms .S + at = omega (arith, div-add-mod' u (terms .S), ap (λ (x : ℕ). x * terms .S) i) in
-            let child : step terms k (j * terms .S + at) ≡ v = ap (step terms k) (sym this) ∙ edge .2 in
+            let this : u ≡ j * terms .size + at = omega (arith, div-add-mod' u (terms .size), ap (λ (x : ℕ). x * terms .size) i) in
+            let child : step terms k (j * terms .size + at) ≡ v = ap (step terms k) (sym this) ∙ edge .2 in
             inr
             (subst (Held terms logs) child
             (placed k (edge .1) (ap (λ (x : ℕ). suc (D terms x)) (sym this) ∙ s)
-            (ap (entryIn (terms .S) (set (w .segments) j (marks .segment))) child ∙ e)))
+            (ap (entryIn (terms .size) (set (w .segments) j (marks .segment))) child ∙ e)))
         go u v s (inl p) edge e (inl i) (inr l) =
-            inl (inl (omega (arith, passed-here at (u / terms .S) i, passed-here (suc at) (u / terms .S) i)), edge)
+            inl (inl (omega (arith, passed-here at (u / terms .size) i, passed-here (suc at) (u / terms .size) i)), edge)
         go u v s (inl p) edge e (inr i) l =
             inl (
               inl (omega (
                 arith,
-                getD-set-other (w .job .passed) j (u / terms .S) at 0 i,
-                getD-set-other (w .job .passed) j (u / terms .S) (suc at) 0 i,
+                getD-set-other (w .job .passed) j (u / terms .size) at 0 i,
+                getD-set-other (w .job .passed) j (u / terms .size) (suc at) 0 i,
               )),
               edge,
             )
 
     -- segment j's log is emptied, if all that waits there is seen
-    pub stage-empty : ((v : ℕ) → v < N terms → v / terms .S ≡ j → entryIn (terms .S) (set (w .segments) j (marks .segment)) v ≡ 3
+    pub stage-empty : ((v : ℕ) → v < N terms → v / terms .size ≡ j → entryIn (terms .size) (set (w .segments) j (marks .segment)) v ≡ 3
         → Held terms logs v → ⊥)
         → Staged terms w d j marks (record { log = logs .log; waiting = set (logs .waiting) j 0 }) at
     stage-empty seen =
@@ -311,8 +313,8 @@ module _ {terms : Terms} (given : Given terms) {w : World} {d : ℕ} (search : S
             offsets = λ t i l m. fit .offsets t i l (omega (arith, fewer t));
           };
           level = level-unlog (staged .level)
-              (λ v i. (i .0, (i .1 .0, omega (arith, fewer (v / terms .S)), i .1 .2)))
-              (λ v h e i. keeps v h e i (eq-or-ne (v / terms .S) j));
+              (λ v i. (i .0, (i .1 .0, omega (arith, fewer (v / terms .size)), i .1 .2)))
+              (λ v h e i. keeps v h e i (eq-or-ne (v / terms .size) j));
           count = staged .count;
         }
       where
@@ -329,10 +331,10 @@ module _ {terms : Terms} (given : Given terms) {w : World} {d : ℕ} (search : S
             go (inl e) = rw e (omega (arith, none))
             go (inr ne) = omega (arith, getD-set-other (logs .waiting) j t 0 0 ne)
 
-        keeps : (v : ℕ) → v < N terms → entryIn (terms .S) (set (w .segments) j (marks .segment)) v ≡ 3 → Held terms logs v → (v / terms .S ≡ j) ⊎ (v / terms .S ≡ j → ⊥)
+        keeps : (v : ℕ) → v < N terms → entryIn (terms .size) (set (w .segments) j (marks .segment)) v ≡ 3 → Held terms logs v → (v / terms .size ≡ j) ⊎ (v / terms .size ≡ j → ⊥)
             → Held terms (record { log = logs .log; waiting = set (logs .waiting) j 0 }) v
         keeps v h e i (inl here) = absurd (seen v h here e i)
-        keeps v h e i (inr ne) = (h, (i .1 .0, omega (arith, getD-set-other (logs .waiting) j (v / terms .S) 0 0 ne), i .1 .2))
+        keeps v h e i (inr ne) = (h, (i .1 .0, omega (arith, getD-set-other (logs .waiting) j (v / terms .size) 0 0 ne), i .1 .2))
 
     -- in a reverse level nothing may wait
     pub stage-end : (isReverse (w .job .way) ≡ true → (t : ℕ) → getD (logs .waiting) t 0 ≡ 0) → Searching terms (stage w d j marks logs at) d
@@ -395,36 +397,36 @@ module _ {terms : Terms} (given : Given terms) {w : World} {d : ℕ} (search : S
   -- the stacks of a list, each of this segment and no deeper than d, were marked: each is seen, and nothing else is unseen that was not
   pub record Marking (logs : Logs) (at : ℕ) (stacks : List ℕ) (marks marks′ : Marks) : Type 0 where
     pub staged : Staged terms w d j marks′ logs at
-    pub before : (v : ℕ) → v < N terms → entryIn (terms .S) (set (w .segments) j (marks′ .segment)) v ≡ 3
-        → entryIn (terms .S) (set (w .segments) j (marks .segment)) v ≡ 3
-    pub done : (k : ℕ) → k < length stacks → entryIn (terms .S) (set (w .segments) j (marks′ .segment)) (getD stacks k 0) ≡ 3 → ⊥
+    pub before : (v : ℕ) → v < N terms → entryIn (terms .size) (set (w .segments) j (marks′ .segment)) v ≡ 3
+        → entryIn (terms .size) (set (w .segments) j (marks .segment)) v ≡ 3
+    pub done : (k : ℕ) → k < length stacks → entryIn (terms .size) (set (w .segments) j (marks′ .segment)) (getD stacks k 0) ≡ 3 → ⊥
 
   -- what must hold of each of them
   pub record Due (v : ℕ) : Type 0 where
     pub low : v < N terms
-    pub here : v / terms .S ≡ j
+    pub here : v / terms .size ≡ j
     pub near : D terms v ≤ d
 
   pub mark-all : (logs : Logs) (at : ℕ) (stacks : List ℕ) (marks : Marks) → Staged terms w d j marks logs at
-      → ((k : ℕ) → k < length stacks → Due (getD stacks k 0)) → Marking logs at stacks marks (markAll (terms .S) d stacks marks)
+      → ((k : ℕ) → k < length stacks → Due (getD stacks k 0)) → Marking logs at stacks marks (markAll (terms .size) d stacks marks)
   unfolding markAll
   mark-all logs at [] marks staged due = record { staged = staged; before = λ v h e. e; done = λ k h. absurd (omega arith) }
   mark-all logs at (v ∷ stacks) marks staged due =
       let first : Due v = due 0 (omega arith) in
       let one = stage-mark given search j inside staged v (first .low) (first .here) (first .near) in
       let marked = stage-marked given search j inside staged v (first .low) (first .here) in
-      let rest = mark-all logs at stacks (markOne (terms .S) d v marks) one (λ k l. due (suc k) (omega arith)) in
+      let rest = mark-all logs at stacks (markOne (terms .size) d v marks) one (λ k l. due (suc k) (omega arith)) in
       record {
         staged = rest .staged;
         before = λ u l e. marked-before marked u l (rest .before u l e);
         done = λ k. each marked rest k;
       }
     where
-      each : Marked (N terms) d (entryIn (terms .S) (set (w .segments) j (marks .segment)))
-          (entryIn (terms .S) (set (w .segments) j (markOne (terms .S) d v marks .segment))) v
-          → Marking logs at stacks (markOne (terms .S) d v marks) (markAll (terms .S) d stacks (markOne (terms .S) d v marks))
+      each : Marked (N terms) d (entryIn (terms .size) (set (w .segments) j (marks .segment)))
+          (entryIn (terms .size) (set (w .segments) j (markOne (terms .size) d v marks .segment))) v
+          → Marking logs at stacks (markOne (terms .size) d v marks) (markAll (terms .size) d stacks (markOne (terms .size) d v marks))
           → (k : ℕ) → k < suc (length stacks)
-          → entryIn (terms .S) (set (w .segments) j (markAll (terms .S) d stacks (markOne (terms .S) d v marks) .segment)) (getD (v ∷ stacks) k 0) ≡ 3 → ⊥
+          → entryIn (terms .size) (set (w .segments) j (markAll (terms .size) d stacks (markOne (terms .size) d v marks) .segment)) (getD (v ∷ stacks) k 0) ≡ 3 → ⊥
       each marked rest zero l e = marked-after marked (rest .before v (due 0 (omega arith) .low) e)
       each marked rest (suc k) l e = rest .done k (omega arith) e
 
@@ -439,7 +441,7 @@ pub redirected : {terms : Terms} {w : World} {d : ℕ} → Searching terms w d �
     (loaded ≡ noSegment) ⊎ (loaded < G terms)
     → length swept ≡ segmentLimit
     → ((b : ℕ) → getD swept b 0 < cond (ltb b (G terms)) (2 ^ G terms) 1)
-    → Level (N terms) (D terms) d (entryIn (terms .S) (w .segments)) (Looked terms (x .job)) (Logged terms w)
+    → Level (N terms) (D terms) d (entryIn (terms .size) (w .segments)) (Looked terms (x .job)) (Logged terms w)
     → (isReverse (w .job .way) ≡ true → loaded < G terms → Listing terms x d)
     → Searching terms x d)
 unfolding directed passedOf waitingOf countOf sweptOf Logged

@@ -24,7 +24,9 @@ use Rattle.search.specs.JobState.{levelOf, passedOf, waitingOf, countOf,
 use Rattle.search.specs.Logs.{Logs, indexesOf}
 use Rattle.search.specs.Marks.{Marks, markAll, markedJob}
 use Rattle.search.specs.Sweep.{isChanged, isReached, reachedIn, withPair, sweepRefusal}
+use Rattle.search.specs.Terms.{N, G, m}
 use Rattle.search.specs.declared.Answer.{Answer}
+use Rattle.search.specs.declared.Terms.{Terms}
 use Rattle.search.proofs.Accepted.{reverse-level, sweep-facts, sweep-accepted}
 use Rattle.search.proofs.Children.{child-listed, listed-child}
 use Rattle.search.proofs.Invariant.{Listing, Looked, Logged, entryIn, isDue}
@@ -33,7 +35,7 @@ use Rattle.search.proofs.Refused.{own-list}
 use Rattle.search.proofs.SegmentLaws.{stack-offset, segment-stack, segment-stack-div}
 use Rattle.search.proofs.Shapes.{segments-is, loaded-low}
 use Rattle.search.proofs.Staging.{Searching, Staged, Due, Marking, mark-all, stage, stage-start, stage-end, redirect, redirected}
-use Rattle.search.proofs.Terms.{Terms, termsOf, Given, N, G, m, moves, step, D, depths, some, few}
+use Rattle.search.proofs.Given.{Given, moves, step, D, depths, some, few}
 
 -- ---- a pair is noted
 
@@ -47,8 +49,8 @@ module _ {terms : Terms} (given : Given terms) {w : World} {d : ℕ} (search : S
   listed = omega (arith, search .shaped .swept-length, few given)
 
   -- if every move from the level before, from the loaded segment to segment j, ends at a seen stack
-  paired-keeps : ((u v k : ℕ) → u < N terms → v < N terms → suc (D terms u) ≡ d → u / terms .S ≡ w .job .loaded → v / terms .S ≡ j
-      → isMove (moves terms) k ≡ true → step terms k u ≡ v → entryIn (terms .S) (w .segments) v ≡ 3 → ⊥)
+  paired-keeps : ((u v k : ℕ) → u < N terms → v < N terms → suc (D terms u) ≡ d → u / terms .size ≡ w .job .loaded → v / terms .size ≡ j
+      → isMove (moves terms) k ≡ true → step terms k u ≡ v → entryIn (terms .size) (w .segments) v ≡ 3 → ⊥)
       → Searching terms (pairedWorld w j) d
   unfolding pairedWorld directed passedOf sweptOf withPair Looked
   paired-keeps seen =
@@ -60,28 +62,28 @@ module _ {terms : Terms} (given : Given terms) {w : World} {d : ℕ} (search : S
       (λ r l. record { long = search .searches .listed r l .long; bits = search .searches .listed r l .bits })
     where
       go : (u v : ℕ) → u < N terms → v < N terms → suc (D terms u) ≡ d
-          → (u % terms .S < passedOf (w .job) (u / terms .S)) ⊎ (isSwept (pairedWorld w j .job) (u / terms .S) (v / terms .S) ≡ true)
-          → ((k : ℕ) × (isMove (moves terms) k ≡ true) × (step terms k u ≡ v)) → entryIn (terms .S) (w .segments) v ≡ 3
+          → (u % terms .size < passedOf (w .job) (u / terms .size)) ⊎ (isSwept (pairedWorld w j .job) (u / terms .size) (v / terms .size) ≡ true)
+          → ((k : ℕ) × (isMove (moves terms) k ≡ true) × (step terms k u ≡ v)) → entryIn (terms .size) (w .segments) v ≡ 3
           → (Looked terms (w .job) u v) ⊎ (Logged terms w v)
       go u v g h s (inl p) edge e = inl (inl p, edge)
       go u v g h s (inr t) edge e =
-          cases (pair-cases (w .job) j listed left (pairedWorld w j .job) refl (u / terms .S) (v / terms .S) t)
+          cases (pair-cases (w .job) j listed left (pairedWorld w j .job) refl (u / terms .size) (v / terms .size) t)
         where
-          cases : ((u / terms .S ≡ w .job .loaded) × (v / terms .S ≡ j)) ⊎ (isSwept (w .job) (u / terms .S) (v / terms .S) ≡ true)
+          cases : ((u / terms .size ≡ w .job .loaded) × (v / terms .size ≡ j)) ⊎ (isSwept (w .job) (u / terms .size) (v / terms .size) ≡ true)
               → (Looked terms (w .job) u v) ⊎ (Logged terms w v)
           cases (inl q) = absurd (seen u v (edge .0) g h s (q .0) (q .1) (edge .1) (edge .2) e)
           cases (inr q) = inl (inr q, edge)
 
 -- ---- Sweep, with the terms and the level read from the job itself
 
-module _ (w : World) (given : Given (termsOf (w .job))) (search : Searching (termsOf (w .job)) w (levelOf (w .job .phase)))
-    (j : ℕ) (inside : j < G (termsOf (w .job))) (low : w .job .loaded < G (termsOf (w .job)))
-    (listing : Listing (termsOf (w .job)) w (levelOf (w .job .phase))) where
+module _ (w : World) (given : Given (w .job .terms)) (search : Searching (w .job .terms) w (levelOf (w .job .phase)))
+    (j : ℕ) (inside : j < G (w .job .terms)) (low : w .job .loaded < G (w .job .terms))
+    (listing : Listing (w .job .terms) w (levelOf (w .job .phase))) where
   abbrev terms : Terms
-  terms = termsOf (w .job)
+  terms = (w .job .terms)
 
   abbrev S : ℕ
-  S = w .job .size
+  S = w .job .terms .size
 
   abbrev d : ℕ
   d = levelOf (w .job .phase)
@@ -90,7 +92,7 @@ module _ (w : World) (given : Given (termsOf (w .job))) (search : Searching (ter
   b = w .job .loaded
 
   abbrev children : ℕ → List ℕ
-  children = childrenOf (w .job .kind) (w .job .n) (moves terms)
+  children = childrenOf (w .job .terms .kind) (w .job .terms .n) (moves terms)
 
   -- the bit of a stack of the loaded segment
   changed-is : (c : ℕ) → c < N terms → c / S ≡ b → bitAt (w .changed) (c % S) ≡ isDue d (D terms c)
@@ -105,7 +107,7 @@ module _ (w : World) (given : Given (termsOf (w .job))) (search : Searching (ter
   reached-near v h t =
       let r = any-some (isChanged S b (w .changed)) 0 (children v) t in
       let c = getD (children v) (r .0) 0 in
-      let k = listed-child (w .job .kind) (w .job .n) (moves terms) v (r .0) (r .1) in
+      let k = listed-child (w .job .terms .kind) (w .job .terms .n) (moves terms) v (r .0) (r .1) in
       let here = eqb-true (c / S) b (and-left (eqb (c / S) b) (bitAt (w .changed) (c % S)) (r .2)) in
       let set = and-right (eqb (c / S) b) (bitAt (w .changed) (c % S)) (r .2) in
       let inside : c < N terms = subst (λ (x : ℕ). x < N terms) (sym (k .2)) (depths given .graph .inside (k .0) v (k .1) h) in
@@ -120,7 +122,7 @@ module _ (w : World) (given : Given (termsOf (w .job))) (search : Searching (ter
   edge-reached u v k g s here move e =
       let back = depths given .graph .undone k u move g in
       let to : step terms (back .0) v ≡ u = ap (step terms (back .0)) (sym e) ∙ back .2 in
-      let c = child-listed (w .job .kind) (w .job .n) (moves terms) v (back .0) (back .1) in
+      let c = child-listed (w .job .terms .kind) (w .job .terms .n) (moves terms) v (back .0) (back .1) in
       any-at (isChanged S b (w .changed)) 0 (children v) (c .0) (c .1)
       (ap (isChanged S b (w .changed)) (c .2 ∙ to)
       ∙ and-both (eqb (u / S) b) (bitAt (w .changed) (u % S)) (eq-eqb (u / S) b here)

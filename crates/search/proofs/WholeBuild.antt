@@ -20,13 +20,15 @@ use Rattle.search.specs.JobState.{isBlanking, isLevel, isFinished, isRev
 use Rattle.search.specs.Load.{loadRefusal}
 use Rattle.search.specs.Logs.{logPart, indexesOf, pending}
 use Rattle.search.specs.Marks.{Marks, markAll, marksFrom, markedJob}
-use Rattle.search.specs.Promise.{Continues, FinishedByClose}
+use Rattle.search.specs.Promise.{Continues, FinishedByClose, rightLengths}
 use Rattle.search.specs.PromiseBy.{Needs, FinishesBy, AtEnd, PromiseBy, WholeBuildBy}
 use Rattle.search.specs.Segments.{segmentLimit}
 use Rattle.search.specs.Settle.{settleRefusal}
+use Rattle.search.specs.Terms.{N}
 use Rattle.search.specs.declared.Answer.{Answer}
 use Rattle.search.specs.declared.Phase.{Phase}
 use Rattle.search.specs.declared.Phase.the-variants.{Blanking, Level, Finished}
+use Rattle.search.specs.declared.Terms.{Terms}
 use Rattle.search.specs.declared.Way.{Way}
 use Rattle.search.specs.declared.Way.the-variants.{Forward}
 use Rattle.search.proofs.Accepted.{forward-level, reverse-level, blank-facts, expand-facts, settle-facts, load-facts, sweep-facts, close-facts, settle-accepted, blank-phase, expand-phase, settle-phase, load-phase, sweep-phase}
@@ -42,7 +44,7 @@ use Rattle.search.proofs.Refused.{refusalOf, refusal-is, refused-same, 
 use Rattle.search.proofs.Shapes.{segments-is, stacks-is, loaded-low}
 use Rattle.search.proofs.Steps.{step-keeps, after-keeps}
 use Rattle.search.proofs.WorkLeft.{workLeft}
-use Rattle.search.proofs.Terms.{Terms, Given, N, few, lengthsOf}
+use Rattle.search.proofs.Given.{Given, few}
 
 -- ---- what has finished stays so
 
@@ -218,20 +220,20 @@ module _ {terms : Terms} (given : Given terms) {w : World} (invariant : Invarian
 
   -- a Load changes only what is loaded
   loads-only : (b : ℕ) (list : List ℕ) → loadRefusal (w .job) b (length (getD (w .segments) b [])) (length list) ≡ 0
-      → (let x = outcome {right = lengthsOf terms} w (doLoad b own list) .world in x ≡ loadedAs x w)
+      → (let x = outcome {right = rightLengths terms} w (doLoad b own list) .world in x ≡ loadedAs x w)
   unfolding loadedWorld directed
-  loads-only b list e = let q = load-world (lengthsOf terms) w b list e in q ∙ sym (ap (λ (x : World). loadedAs x w) q)
+  loads-only b list e = let q = load-world (rightLengths terms) w b list e in q ∙ sym (ap (λ (x : World). loadedAs x w) q)
 
   -- a Settle of an empty log changes nothing
   settle-still : (j : ℕ) → settleRefusal (w .job) j (length (getD (w .segments) j [])) (w .log) ≡ 0
-      → outcome {right = lengthsOf terms} w (doSettle j own own) .world ≡ w
+      → outcome {right = rightLengths terms} w (doSettle j own own) .world ≡ w
   unfolding outcome lent kept pending logPart indexesOf markAll progressed countOf waitingOf
   settle-still j accepted =
       let segment : List ℕ = getD (w .segments) j [] in
       let d : ℕ = levelOf (w .job .phase) in
       let none : getD (w .job .waiting) j 0 ≡ 0 = last-complete given invariant h .none-waits j in
       ap (λ (o : List ℕ × Answer). withJob (o .1 .job) (withSegment j (o .0) w)) (settle-accepted (w .job) j segment (w .log) accepted)
-      ∙ ap (λ (count : ℕ). settled j (markAll (w .job .size) d (indexesOf (w .job .size) j (logPart (w .job .room) j count (w .log))) (marksFrom (w .job) segment))) none
+      ∙ ap (λ (count : ℕ). settled j (markAll (w .job .terms .size) d (indexesOf (w .job .terms .size) j (logPart (w .job .terms .room) j count (w .log))) (marksFrom (w .job) segment))) none
       ∙ ap (λ (x : List ℕ). relisted x (set (w .job .counts) d (getD (w .job .counts) d 0)) (set (w .segments) j segment))
       (ap (λ (x : ℕ). set (w .job .waiting) j x) (sym none) ∙ set-getD (w .job .waiting) j 0)
       ∙ ap (λ (x : List ℕ). relisted (w .job .waiting) x (set (w .segments) j segment)) (set-getD (w .job .counts) d 0)
@@ -248,7 +250,7 @@ module _ {terms : Terms} (given : Given terms) {w : World} (invariant : Invarian
   Stays : World → Type 0
   Stays x = (x ≡ w) ⊎ ((isReverse (w .job .way) ≡ true) × (x ≡ loadedAs x w))
 
-  own-still : (call : Call (lengthsOf terms)) → refusalOf w call ≡ 0 → isLentOwn call ≡ true → Stays (outcome w call .world)
+  own-still : (call : Call (rightLengths terms)) → refusalOf w call ≡ 0 → isLentOwn call ≡ true → Stays (outcome w call .world)
   unfolding Stays outcome refusalOf isLentOwn isOwn lent kept isBlanking
   own-still (doBlank j segment) e o =
       never (blank-facts (w .job) j (length (lent segment (getD (w .segments) j []))) e .called .in-phase) (ap isBlanking last-is)
@@ -277,7 +279,7 @@ module _ {terms : Terms} (given : Given terms) {w : World} (invariant : Invarian
       (f .left)
   own-still (doClose way) e o = absurd (omega (arith, h, e))
 
-  end-stays : (call : Call (lengthsOf terms)) → Stays (outcome w call .world)
+  end-stays : (call : Call (rightLengths terms)) → Stays (outcome w call .world)
   unfolding Stays
   end-stays call = go (eq-or-ne (outcome w call .refusal) 0)
     where
@@ -285,7 +287,7 @@ module _ {terms : Terms} (given : Given terms) {w : World} (invariant : Invarian
       go (inl e) = own-still call (sym (refusal-is w call) ∙ e) (accepted-own (invariant .shaped) call e)
       go (inr ne) = inl (refused-same w call ne)
 
-  end-still : (call : Call (lengthsOf terms)) → outcome w call .world ≡ loadedAs (outcome w call .world) w
+  end-still : (call : Call (rightLengths terms)) → outcome w call .world ≡ loadedAs (outcome w call .world) w
   unfolding Stays directed
   end-still call = go (end-stays call)
     where
@@ -293,7 +295,7 @@ module _ {terms : Terms} (given : Given terms) {w : World} (invariant : Invarian
       go (inl e) = e ∙ sym (ap (λ (x : World). loadedAs x w) e)
       go (inr r) = r .1
 
-  end-carries : (call : Call (lengthsOf terms)) → CarriesOn w (outcome w call .world) → ⊥
+  end-carries : (call : Call (rightLengths terms)) → CarriesOn w (outcome w call .world) → ⊥
   unfolding Stays
   end-carries call c = go (end-stays call)
     where
@@ -301,7 +303,7 @@ module _ {terms : Terms} (given : Given terms) {w : World} (invariant : Invarian
       go (inl e) = still-carries w (omega (arith, segments-is (invariant .shaped), few given)) (subst (CarriesOn w) e c)
       go (inr r) = reloaded-carries w (outcome w call .world) (r .1) (swept-whole (r .0)) c
 
-  pub at-end : AtEnd (terms .kind) (terms .n) (terms .groups) (terms .wanted) (lengthsOf terms) w
+  pub at-end : AtEnd terms (rightLengths terms) w
   unfolding refusalOf
   at-end =
       record {
@@ -326,7 +328,7 @@ module _ {terms : Terms} (given : Given terms) where
       (ap (λ (y : World). isReady (y .job)) e ∙ f .0)
       (ap (λ (y : World). isPastLast (y .job)) e ∙ f .1)
 
-  end-after : (calls : List (Call (lengthsOf terms))) {w : World} → Invariant terms w → closeRefusal (w .job) ≡ 14
+  end-after : (calls : List (Call (rightLengths terms))) {w : World} → Invariant terms w → closeRefusal (w .job) ≡ 14
       → (closeRefusal (after w calls .job) ≡ 14) × (after w calls ≡ loadedAs (after w calls) w)
   unfolding after directed
   end-after [] invariant h = (h, refl)
@@ -341,21 +343,21 @@ module _ {terms : Terms} (given : Given terms) where
 
 module _ {terms : Terms} (given : Given terms) where
   -- as many calls as there is work left bring it to an end
-  ends-within : (left : ℕ) (w : World) → Invariant terms w → workLeft (N terms) (terms .S) (w .job) ≤ left
-      → (more : List (Call (lengthsOf terms))) × (hasEnded (after w more .job) ≡ true)
+  ends-within : (left : ℕ) (w : World) → Invariant terms w → workLeft (N terms) (terms .size) (w .job) ≤ left
+      → (more : List (Call (rightLengths terms))) × (hasEnded (after w more .job) ≡ true)
   unfolding after
   ends-within zero w invariant h = go (test-cases (hasEnded (w .job)))
     where
       go : (hasEnded (w .job) ≡ true) ⊎ (hasEnded (w .job) ≡ false)
-          → (more : List (Call (lengthsOf terms))) × (hasEnded (after w more .job) ≡ true)
+          → (more : List (Call (rightLengths terms))) × (hasEnded (after w more .job) ≡ true)
       go (inl e) = ([], e)
       go (inr e) = absurd (omega (arith, invariant-advances given invariant e .falls))
   ends-within (suc left) w invariant h = go (λ x i l. ends-within left x i l) (test-cases (hasEnded (w .job)))
     where
-      go : ((x : World) → Invariant terms x → workLeft (N terms) (terms .S) (x .job) ≤ left
-          → (more : List (Call (lengthsOf terms))) × (hasEnded (after x more .job) ≡ true))
+      go : ((x : World) → Invariant terms x → workLeft (N terms) (terms .size) (x .job) ≤ left
+          → (more : List (Call (rightLengths terms))) × (hasEnded (after x more .job) ≡ true))
           → (hasEnded (w .job) ≡ true) ⊎ (hasEnded (w .job) ≡ false)
-          → (more : List (Call (lengthsOf terms))) × (hasEnded (after w more .job) ≡ true)
+          → (more : List (Call (rightLengths terms))) × (hasEnded (after w more .job) ≡ true)
       go rest (inl e) = ([], e)
       go rest (inr e) =
           let a = invariant-advances given invariant e in
@@ -364,25 +366,25 @@ module _ {terms : Terms} (given : Given terms) where
           (call ∷ r .0, r .1)
 
   abbrev pub NeedsLast : Type 0
-  NeedsLast = Needs (terms .kind) (terms .n) (terms .groups) (terms .wanted) lastLevel
+  NeedsLast = Needs terms lastLevel
 
   module _ {w : World} (invariant : Invariant terms w) where
-    pub finishes-is : isFinished (w .job .phase) ≡ true → FinishesBy (terms .kind) (terms .n) (terms .groups) (terms .wanted) w
+    pub finishes-is : isFinished (w .job .phase) ≡ true → FinishesBy terms w
     unfolding isFinished
     finishes-is h = go (invariant .phase)
       where
         go : InPhase terms w
-            → FinishesBy (terms .kind) (terms .n) (terms .groups) (terms .wanted) w
+            → FinishesBy terms w
         go (blanking s) = never h (ap isFinished (s .phase-is))
         go (searching d s) = never h (ap isFinished (s .phase-is))
         go (ended d s) = ended-finishes given (invariant .shaped) s
 
     levels-is : (d : ℕ) → w .job .phase ≡ Level d
-        → (1 ≤ d) × (d ≤ lastLevel) × Needs (terms .kind) (terms .n) (terms .groups) (terms .wanted) (d - 1)
+        → (1 ≤ d) × (d ≤ lastLevel) × Needs terms (d - 1)
     unfolding levelOf isLevel
     levels-is d e = go (invariant .phase)
       where
-        go : InPhase terms w → (1 ≤ d) × (d ≤ lastLevel) × Needs (terms .kind) (terms .n) (terms .groups) (terms .wanted) (d - 1)
+        go : InPhase terms w → (1 ≤ d) × (d ≤ lastLevel) × Needs terms (d - 1)
         go (blanking s) = never (ap isLevel e) (ap isLevel (s .phase-is))
         go (searching f s) =
             let same : f ≡ d = sym (ap levelOf (s .phase-is)) ∙ ap levelOf e in
@@ -400,16 +402,16 @@ module _ {terms : Terms} (given : Given terms) where
         (λ e. let f = finishes-is e in omega (arith, f .greatest (s .0) lastLevel (s .1) (s .2), f .below))
 
     continues-is : isFinished (w .job .phase) ≡ false
-        → (Continues (lengthsOf terms) w) ⊎ (AtEnd (terms .kind) (terms .n) (terms .groups) (terms .wanted) (lengthsOf terms) w)
+        → (Continues (rightLengths terms) w) ⊎ (AtEnd terms (rightLengths terms) w)
     continues-is u = go (test-cases (hasEnded (w .job)))
       where
         stands : (isFinished (w .job .phase) ≡ true) ⊎ (closeRefusal (w .job) ≡ 14)
-            → AtEnd (terms .kind) (terms .n) (terms .groups) (terms .wanted) (lengthsOf terms) w
+            → AtEnd terms (rightLengths terms) w
         stands (inl e) = never e u
         stands (inr e) = at-end given invariant e
 
         go : (hasEnded (w .job) ≡ true) ⊎ (hasEnded (w .job) ≡ false)
-            → (Continues (lengthsOf terms) w) ⊎ (AtEnd (terms .kind) (terms .n) (terms .groups) (terms .wanted) (lengthsOf terms) w)
+            → (Continues (rightLengths terms) w) ⊎ (AtEnd terms (rightLengths terms) w)
         go (inl e) = inr (stands (ended-cases (w .job) e))
         go (inr e) = inl (invariant-advances given invariant e .next)
 
@@ -421,24 +423,24 @@ module _ {terms : Terms} (given : Given terms) where
         go (inl e) = e
         go (inr e) = absurd (none (at-end given invariant e .deep))
 
-    pub ended-stands : hasEnded (w .job) ≡ true → NeedsLast → AtEnd (terms .kind) (terms .n) (terms .groups) (terms .wanted) (lengthsOf terms) w
+    pub ended-stands : hasEnded (w .job) ≡ true → NeedsLast → AtEnd terms (rightLengths terms) w
     ended-stands h s = go (ended-cases (w .job) h)
       where
         go : (isFinished (w .job .phase) ≡ true) ⊎ (closeRefusal (w .job) ≡ 14)
-            → AtEnd (terms .kind) (terms .n) (terms .groups) (terms .wanted) (lengthsOf terms) w
+            → AtEnd terms (rightLengths terms) w
         go (inl e) = never e (unfinished-is s)
         go (inr e) = at-end given invariant e
 
   -- the claim, of a build from a world that keeps the invariant and has not finished
-  promise-by : {start : World} → Invariant terms start → isFinished (start .job .phase) ≡ false → (calls : List (Call (lengthsOf terms)))
-      → PromiseBy (terms .kind) (terms .n) (terms .groups) (terms .wanted) (lengthsOf terms) start calls
+  promise-by : {start : World} → Invariant terms start → isFinished (start .job .phase) ≡ false → (calls : List (Call (rightLengths terms)))
+      → PromiseBy terms (rightLengths terms) start calls
   unfolding refusalOf
   promise-by {start} begins unfinished calls =
       let w : World = after start calls in
       let invariant : Invariant terms w = after-keeps given begins calls in
-      let end = ends-within (workLeft (N terms) (terms .S) (w .job)) w invariant (le-refl (workLeft (N terms) (terms .S) (w .job))) in
+      let end = ends-within (workLeft (N terms) (terms .size) (w .job)) w invariant (le-refl (workLeft (N terms) (terms .size) (w .job))) in
       let last : Invariant terms (after w (end .0)) = after-keeps given invariant (end .0) in
-      let joins : (more : List (Call (lengthsOf terms))) → after start (calls ++ more) ≡ after w more = after-append start calls in
+      let joins : (more : List (Call (rightLengths terms))) → after start (calls ++ more) ≡ after w more = after-append start calls in
       record {
         by-close = finished-by-close start calls unfinished;
         since-close = closed-is-finished start calls;
@@ -450,12 +452,12 @@ module _ {terms : Terms} (given : Given terms) where
         never-finished = unfinished-is invariant;
         stands = λ s. (
           end .0,
-          subst (AtEnd (terms .kind) (terms .n) (terms .groups) (terms .wanted) (lengthsOf terms)) (sym (joins (end .0))) (ended-stands last (end .1) s),
+          subst (AtEnd terms (rightLengths terms)) (sym (joins (end .0))) (ended-stands last (end .1) s),
         );
         stays = λ more h. ap (λ (x : World). isFinished (x .job .phase)) (joins more ∙ finished-stays w more h) ∙ h;
         stays-at-end = λ more e.
             let end = end-after given more invariant (sym (refusal-is w (doClose Forward)) ∙ e .refused Forward) in (
-              subst (AtEnd (terms .kind) (terms .n) (terms .groups) (terms .wanted) (lengthsOf terms)) (sym (joins more))
+              subst (AtEnd terms (rightLengths terms)) (sym (joins more))
                   (at-end given (after-keeps given invariant more) (end .0)),
               joins more ∙ end .1 ∙ ap (λ (x : World). loadedAs x w) (sym (joins more)),
             );
@@ -463,5 +465,5 @@ module _ {terms : Terms} (given : Given terms) where
 
 pub whole-build-by : WholeBuildBy
 unfolding WholeBuildBy begun isFinished
-whole-build-by kind n wanted groups S C segments log changed accepted buffers calls =
-    promise-by (begin-given kind n wanted groups S C accepted) (begun-invariant kind n wanted groups S C segments log changed buffers) refl calls
+whole-build-by terms segments log changed accepted buffers calls =
+    promise-by (begin-given accepted) (begun-invariant terms segments log changed buffers) refl calls

@@ -18,13 +18,13 @@ blankRefusal job j bytes =
 
 -- the index of the wanted stack
 unfoldable pub goalOf : Job → ℕ
-goalOf job = rankOf (job .kind) (job .n) (job .wanted)
+goalOf job = rankOf (job .terms .kind) (job .terms .n) (job .terms .wanted)
 
 -- all entries 3, and that of the wanted stack, if here, 0
 unfoldable pub blanked : Job → ℕ → List ℕ
 blanked job j =
-    cond (eqb (goalOf job / job .size) j)
-    (setEntry (blank (stackCountAt job j)) (goalOf job % job .size) 0)
+    cond (eqb (goalOf job / job .terms .size) j)
+    (setEntry (blank (stackCountAt job j)) (goalOf job % job .terms .size) 0)
     (blank (stackCountAt job j))
 
 unfoldable pub blankOf : Job → ℕ → List ℕ → List ℕ × Answer

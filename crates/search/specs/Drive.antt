@@ -12,21 +12,21 @@ use mathlib.Core.Bool.{Bool, true, not, _&&_, _||_, cond}
 use mathlib.Core.List.{List, map, _++_}
 use Prim.Native.Nat.{ℕ, zero, suc, _+_, _-_, _*_, _/_}
 use lib.Dec.{leb, ltb, eqb}
-use lib.IntN.{ℤ}
 use lib.ListN.{length, take, drop}
 use Rattle.base.specs.Words.{unless, from, firstFrom, total}
-use Rattle.stacks.specs.Stack.{stackCount}
 use Rattle.search.specs.Begin.{begun, noJob}
 use Rattle.search.specs.Build.{World, Lengths, Call, own, ownList, doBlank, doExpand, doSettle, doLoad, doSweep, doClose, outcome}
 use Rattle.search.specs.Changed.{listBytes}
 use Rattle.search.specs.Close.{isSweptWhole, closeRefusal}
 use Rattle.search.specs.Entries.{bytesFor}
-use Rattle.search.specs.JobState.{lastLevel, beginRefusal, stackCountOf, segmentCountOf, stackCountAt, passedOf, waitingOf, countOf, isSwept, isLoaded, isBlanking, isFinished, inReverse, levelOf}
+use Rattle.search.specs.JobState.{lastLevel, stackCountOf, segmentCountOf, stackCountAt, passedOf, waitingOf, countOf, isSwept, isLoaded, isBlanking, isFinished, inReverse, levelOf}
 use Rattle.search.specs.Promise.{rightWords, rightLengths}
 use Rattle.search.specs.PromiseBy.{Needs, FinishesBy, AtEnd}
 use Rattle.search.specs.Segments.{segmentCount, stackCountIn, joined}
+use Rattle.search.specs.Terms.{N, G, m, beginRefusal}
 use Rattle.search.specs.declared.Answer.{Answer}
 use Rattle.search.specs.declared.Job.{Job}
+use Rattle.search.specs.declared.Terms.{Terms}
 use Rattle.search.specs.declared.Way.{Way}
 use Rattle.search.specs.declared.Way.the-variants.{Forward, Reverse}
 
@@ -116,7 +116,7 @@ unfoldable pub held : Store → World
 held s =
     record {
       job = s .job;
-      segments = cut (stackCountOf (s .job)) (s .job .size) (s .table);
+      segments = cut (stackCountOf (s .job)) (s .job .terms .size) (s .table);
       log = s .log;
       changed = take (listBytesAt (s .job) (s .job .loaded)) (s .list);
     }
@@ -128,7 +128,7 @@ laid list w =
 unfoldable pub advanced : Store → Store
 advanced s =
     laid (s .list)
-    (outcome {right = rightLengths (s .job .kind) (s .job .n) (s .job .size) (s .job .room)} (held s) (nextCall (s .job) (s .list)) .world)
+    (outcome {right = rightLengths (s .job .terms)} (held s) (nextCall (s .job) (s .list)) .world)
 
 -- it has finished, or Close says that there is no level after the last
 unfoldable pub hasEnded : Job → Bool
@@ -147,19 +147,19 @@ mostCalls N G = suc (suc lastLevel) * (suc N * suc G + 2 * suc (G * G))
 -- ---- Build the whole table
 
 -- Begin's refusals, then 10 for the table, 10 for the log area, 10 for the list, which is that of the largest segment
-unfoldable pub buildRefusal : ℕ → ℕ → List ℤ → ℕ → ℕ → ℕ → ℕ → ℕ → ℕ → ℕ
-buildRefusal kind n wanted groups S C bytes words listed =
-    let r = beginRefusal kind n wanted groups S C in
+unfoldable pub buildRefusal : Terms → ℕ → ℕ → ℕ → ℕ
+buildRefusal terms bytes words listed =
+    let r = beginRefusal terms in
     cond (eqb r 0)
-    (unless (eqb bytes (bytesFor (stackCount kind n))) 10
-    (unless (eqb words (rightWords kind n S C)) 10 (unless (eqb listed (listBytes (stackCountIn (stackCount kind n) S 0))) 10 0)))
+    (unless (eqb bytes (bytesFor (N terms))) 10
+    (unless (eqb words (rightWords terms)) 10 (unless (eqb listed (listBytes (m terms 0))) 10 0)))
     r
 
-module _ (kind n : ℕ) (wanted : List ℤ) (groups S C : ℕ) (table log list : List ℕ) where
+module _ (terms : Terms) (table log list : List ℕ) where
   -- what the build ends with, and its world
   unfoldable pub ended : Store
   ended =
-      drive (mostCalls (stackCount kind n) (segmentCount (stackCount kind n) S)) (storeOf (begun kind n wanted groups S C) table log list)
+      drive (mostCalls (N terms) (G terms)) (storeOf (begun terms) table log list)
 
   unfoldable pub built : World
   built = held ended
@@ -167,7 +167,7 @@ module _ (kind n : ℕ) (wanted : List ℤ) (groups S C : ℕ) (table log list :
   -- refused, the buffers as they were, and the job that a refused Begin answers
   unfoldable pub buildOf : List ℕ × List ℕ × List ℕ × Answer
   buildOf =
-      let r = buildRefusal kind n wanted groups S C (length table) (length log) (length list) in
+      let r = buildRefusal terms (length table) (length log) (length list) in
       let end = ended in
       cond (eqb r 0)
       (end .table, end .log, end .list, record { refusal = 0; job = end .job })
@@ -176,8 +176,8 @@ module _ (kind n : ℕ) (wanted : List ℤ) (groups S C : ℕ) (table log list :
   -- not refused, it ends: in a finished build, or at the other end where some stack needs exactly 255 turns; the buffers keep their lengths
   pub record Builds : Type 0 where
     pub leaves : buildOf ≡ (joined (built .segments), built .log, ended .list, record { refusal = 0; job = built .job })
-    pub finishes : (Needs kind n groups wanted lastLevel → ⊥) → (isFinished (built .job .phase) ≡ true) × FinishesBy kind n groups wanted built
-    pub stands : Needs kind n groups wanted lastLevel → AtEnd kind n groups wanted (rightLengths kind n S C) built
+    pub finishes : (Needs terms lastLevel → ⊥) → (isFinished (built .job .phase) ≡ true) × FinishesBy terms built
+    pub stands : Needs terms lastLevel → AtEnd terms (rightLengths terms) built
     pub table-length : length (joined (built .segments)) ≡ length table
     pub log-length : length (built .log) ≡ length log
     pub list-length : length (ended .list) ≡ length list

@@ -9,12 +9,12 @@ use mathlib.Core.Path.{_≡_}
 use mathlib.Core.Bool.{true, false}
 use mathlib.Core.List.{List, [], _∷_, _++_}
 use Prim.Native.Nat.{ℕ, _<_}
-use lib.IntN.{ℤ}
-use Rattle.search.specs.Begin.{begun}
 use Rattle.search.specs.Build.{World, Lengths, Call, outcome, after, doClose}
-use Rattle.search.specs.JobState.{beginRefusal, segmentCountOf, stackCountAt, passedOf, waitingOf, isSwept, isReverse}
-use Rattle.search.specs.Promise.{rightLengths, Buffers}
+use Rattle.search.specs.JobState.{segmentCountOf, stackCountAt, passedOf, waitingOf, isSwept, isReverse}
+use Rattle.search.specs.Promise.{rightLengths, Buffers, startOf}
+use Rattle.search.specs.Terms.{beginRefusal}
 use Rattle.search.specs.declared.Phase.the-variants.{Level}
+use Rattle.search.specs.declared.Terms.{Terms}
 use Rattle.search.specs.declared.Way.{Way}
 
 pub record SearchedWhole (d : ℕ) (w : World) : Type 0 where
@@ -33,14 +33,14 @@ pub record SameLevel (right : Lengths) (w w′ : World) : Type 0 where
 
 unfoldable pub EitherWay : Type 0
 EitherWay =
-    (kind n : ℕ) (wanted : List ℤ) (groups S C : ℕ) (segments segments′ : List (List ℕ)) (log log′ changed changed′ : List ℕ)
-    → beginRefusal kind n wanted groups S C ≡ 0
-    → Buffers kind n S C segments log
-    → Buffers kind n S C segments′ log′
-    → (let start : World = record { job = begun kind n wanted groups S C; segments = segments; log = log; changed = changed } in
-    let start′ : World = record { job = begun kind n wanted groups S C; segments = segments′; log = log′; changed = changed′ } in
-    (calls calls′ : List (Call (rightLengths kind n S C))) (d : ℕ) → SearchedWhole d (after start calls) → SearchedWhole d (after start′ calls′)
-    → SameLevel (rightLengths kind n S C) (after start calls) (after start′ calls′))
+    (terms : Terms) (segments segments′ : List (List ℕ)) (log log′ changed changed′ : List ℕ)
+    → beginRefusal terms ≡ 0
+    → Buffers terms segments log
+    → Buffers terms segments′ log′
+    → (let start : World = startOf terms segments log changed in
+    let start′ : World = startOf terms segments′ log′ changed′ in
+    (calls calls′ : List (Call (rightLengths terms))) (d : ℕ) → SearchedWhole d (after start calls) → SearchedWhole d (after start′ calls′)
+    → SameLevel (rightLengths terms) (after start calls) (after start′ calls′))
 
 pub record JustClosed {right : Lengths} (start : World) (d : ℕ) (calls : List (Call right)) : Type 0 where
   pub before : List (Call right)
@@ -56,11 +56,11 @@ pub record SameClosed (w w′ : World) : Type 0 where
 
 unfoldable pub EitherWayClosed : Type 0
 EitherWayClosed =
-    (kind n : ℕ) (wanted : List ℤ) (groups S C : ℕ) (segments segments′ : List (List ℕ)) (log log′ changed changed′ : List ℕ)
-    → beginRefusal kind n wanted groups S C ≡ 0
-    → Buffers kind n S C segments log
-    → Buffers kind n S C segments′ log′
-    → (let start : World = record { job = begun kind n wanted groups S C; segments = segments; log = log; changed = changed } in
-    let start′ : World = record { job = begun kind n wanted groups S C; segments = segments′; log = log′; changed = changed′ } in
-    (calls calls′ : List (Call (rightLengths kind n S C))) (d : ℕ) → JustClosed start d calls → JustClosed start′ d calls′
+    (terms : Terms) (segments segments′ : List (List ℕ)) (log log′ changed changed′ : List ℕ)
+    → beginRefusal terms ≡ 0
+    → Buffers terms segments log
+    → Buffers terms segments′ log′
+    → (let start : World = startOf terms segments log changed in
+    let start′ : World = startOf terms segments′ log′ changed′ in
+    (calls calls′ : List (Call (rightLengths terms))) (d : ℕ) → JustClosed start d calls → JustClosed start′ d calls′
     → SameClosed (after start calls) (after start′ calls′))

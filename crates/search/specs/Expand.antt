@@ -38,13 +38,13 @@ module _ (job : Job) (j : ℕ) where
   -- a child of this segment is marked, a child elsewhere is logged, seen or not
   unfoldable pub placeChild : ℕ → Expansion → Expansion
   placeChild c e =
-      let here = eqb (c / job .size) j in
+      let here = eqb (c / job .terms .size) j in
       record {
         at = e .at;
         waits = e .waits;
         on = e .on;
-        marks = cond here (markOne (job .size) (levelOf (job .phase)) c (e .marks)) (e .marks);
-        logs = cond here (e .logs) (logOne (job .room) (c / job .size) (c % job .size) (e .logs));
+        marks = cond here (markOne (job .terms .size) (levelOf (job .phase)) c (e .marks)) (e .marks);
+        logs = cond here (e .logs) (logOne (job .terms .room) (c / job .terms .size) (c % job .terms .size) (e .logs));
       }
 
   unfoldable pub placeAll : List ℕ → Expansion → Expansion
@@ -61,14 +61,14 @@ module _ (job : Job) (j : ℕ) where
   -- a stack with the entry of the level before: where some other segment lacks room, the call waits for the lowest such
   unfoldable pub expandStack : List ℕ → Expansion → Expansion
   expandStack children e =
-      let t = firstFrom (lacksRoom (job .size) (job .room) j (e .logs .waiting) children) 0 (segmentCountOf job) in
+      let t = firstFrom (lacksRoom (job .terms .size) (job .terms .room) j (e .logs .waiting) children) 0 (segmentCountOf job) in
       cond (ltb t (segmentCountOf job)) (waitFor t e) (passOne (placeAll children e))
 
   unfoldable pub expandNext : Expansion → Expansion
   expandNext e =
       cond (e .waits) e
       (cond (isParent (levelOf (job .phase)) (entryAt (e .marks .segment) (e .at)))
-      (expandStack (childrenOf (job .kind) (job .n) (movesOf job) (j * job .size + e .at)) e)
+      (expandStack (childrenOf (job .terms .kind) (job .terms .n) (movesOf job) (j * job .terms .size + e .at)) e)
       (passOne e))
 
   -- as many stacks as are left

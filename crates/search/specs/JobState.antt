@@ -1,5 +1,4 @@
 -- The job: what its fields mean, and when it is coherent (document 01, "The job").
---   beginRefusal   of kind, n, wanted stack, set of group sizes, S and C: what Begin is given
 --   stackCountAt   m of segment j
 --   movesOf        the moves that make children: the turns of its set, rising
 --   sweptOf        the segments that are swept against segment b, as bits
@@ -9,13 +8,11 @@ use mathlib.Core.Bool.{Bool, true, false, not, _&&_, _||_, cond}
 use mathlib.Core.List.{List}
 use Prim.Native.Nat.{ℕ, _^_, _*_, _/_, _%_}
 use lib.Dec.{leb, ltb, eqb}
-use lib.IntN.{ℤ}
 use lib.ListN.{getD}
-use Rattle.base.specs.Words.{unless, all, from}
-use Rattle.stacks.specs.Stack.{isStack, stackCount}
-use Rattle.stacks.specs.Operations.{kindRefusal}
-use Rattle.stacks.specs.Turn.{isGroupSet, turnsIn}
-use Rattle.search.specs.Segments.{segmentLimit, segmentCount, stackCountIn, isSegmentSize, isLogRoom}
+use Rattle.base.specs.Words.{all, from}
+use Rattle.stacks.specs.Turn.{turnsIn}
+use Rattle.search.specs.Segments.{segmentLimit, segmentCount, stackCountIn}
+use Rattle.search.specs.Terms.{N, beginRefusal}
 use Rattle.search.specs.declared.Job.{Job}
 use Rattle.search.specs.declared.Phase.{Phase}
 use Rattle.search.specs.declared.Phase.the-variants.{Blanking, Level, Finished}
@@ -33,28 +30,21 @@ countPlaces = 256
 unfoldable pub countLimit : ℕ
 countLimit = 2 ^ 60
 
--- Begin's refusals: 1, 2, 3 for the wanted stack, 21 for the set, 5 for S, 6 for C
-unfoldable pub beginRefusal : ℕ → ℕ → List ℤ → ℕ → ℕ → ℕ → ℕ
-beginRefusal kind n wanted groups S C =
-    kindRefusal kind n
-    (unless (isStack kind n wanted) 3
-    (unless (isGroupSet kind n groups) 21 (unless (isSegmentSize (stackCount kind n) S) 5 (unless (isLogRoom C) 6 0))))
-
 -- N, G and m of the job
 unfoldable pub stackCountOf : Job → ℕ
-stackCountOf job = stackCount (job .kind) (job .n)
+stackCountOf job = N (job .terms)
 
 unfoldable pub segmentCountOf : Job → ℕ
-segmentCountOf job = segmentCount (stackCountOf job) (job .size)
+segmentCountOf job = segmentCount (stackCountOf job) (job .terms .size)
 
 unfoldable pub stackCountAt : Job → ℕ → ℕ
-stackCountAt job j = stackCountIn (stackCountOf job) (job .size) j
+stackCountAt job j = stackCountIn (stackCountOf job) (job .terms .size) j
 
 unfoldable pub logLength : Job → ℕ
-logLength job = segmentCountOf job * job .room
+logLength job = segmentCountOf job * job .terms .room
 
 abbrev pub movesOf : Job → List ℕ
-movesOf job = turnsIn (job .kind) (job .n) (job .groups)
+movesOf job = turnsIn (job .terms .kind) (job .terms .n) (job .terms .groups)
 
 unfoldable pub passedOf : Job → ℕ → ℕ
 passedOf job j = getD (job .passed) j 0
@@ -119,7 +109,7 @@ phaseFits (Finished d) = ltb d lastLevel
 
 -- passed is at most m, waiting at most C, both 0 from segment G up; m is 0 there
 unfoldable pub segmentFits : Job → ℕ → Bool
-segmentFits job j = leb (passedOf job j) (stackCountAt job j) && leb (waitingOf job j) (cond (ltb j (segmentCountOf job)) (job .room) 0)
+segmentFits job j = leb (passedOf job j) (stackCountAt job j) && leb (waitingOf job j) (cond (ltb j (segmentCountOf job)) (job .terms .room) 0)
 
 -- no pair is swept with a segment of G or above: b's number has only its lowest G bits, and none from segment G up
 unfoldable pub sweptFits : Job → ℕ → Bool
@@ -131,24 +121,22 @@ loadedFits job = not (isLoaded job) || ltb (job .loaded) (segmentCountOf job)
 unfoldable pub countFits : ℕ → Bool
 countFits count = leb count countLimit
 
+unfoldable pub countsFit : Job → Bool
+countsFit job = all countFits (job .counts)
+
 unfoldable pub isCoherent : Job → Bool
 isCoherent job =
-    eqb (beginRefusal (job .kind) (job .n) (job .wanted) (job .groups) (job .size) (job .room)) 0
+    eqb (beginRefusal (job .terms)) 0
     && phaseFits (job .phase)
     && all (segmentFits job) (from 0 segmentLimit)
-    && all countFits (job .counts)
+    && countsFit job
     && loadedFits job
     && all (sweptFits job) (from 0 segmentLimit)
 
 unfoldable pub progressed : Job → Phase → List ℕ → List ℕ → List ℕ → Job
 progressed job phase passed waiting counts =
     record {
-      kind = job .kind;
-      n = job .n;
-      wanted = job .wanted;
-      groups = job .groups;
-      size = job .size;
-      room = job .room;
+      terms = job .terms;
       phase = phase;
       way = job .way;
       loaded = job .loaded;
@@ -161,12 +149,7 @@ progressed job phase passed waiting counts =
 unfoldable pub directed : Job → Way → ℕ → List ℕ → Job
 directed job way loaded swept =
     record {
-      kind = job .kind;
-      n = job .n;
-      wanted = job .wanted;
-      groups = job .groups;
-      size = job .size;
-      room = job .room;
+      terms = job .terms;
       phase = job .phase;
       way = way;
       loaded = loaded;

@@ -1,6 +1,7 @@
 -- The two-bit table, the job and every call, by definition; a build, and what we promise of it. Read in this order.
 pub mod Entries
 pub mod Segments
+pub mod Terms
 pub mod JobState
 pub mod Marks
 pub mod Logs

@@ -23,7 +23,7 @@ unfoldable pub indexesOf : ℕ → ℕ → List ℕ → List ℕ
 indexesOf S t offsets = map (λ i. t * S + i) offsets
 
 unfoldable pub pending : Job → ℕ → List ℕ → List ℕ
-pending job j log = logPart (job .room) j (waitingOf job j) log
+pending job j log = logPart (job .terms .room) j (waitingOf job j) log
 
 -- offset i is appended to the log of segment t
 unfoldable pub logOne : ℕ → ℕ → ℕ → Logs → Logs

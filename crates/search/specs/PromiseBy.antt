@@ -1,7 +1,7 @@
 -- What we promise of a build by any set of group sizes: demands 2 and 3 as document 02 restates them, for every list of calls after an
 -- accepted Begin. A stack may have no road to the wanted one by the turns of the set, and a stack may need 255 turns. What we promise by all
 -- turns (Promise) follows from it.
---   RoadIn       turns of the set that take one stack to another; FewestIn and CountsIn, by these
+--   RoadIn       turns of the set that take one stack to another; FewestIn and CountsIn, by these; RoadTo, FewestTo and CountsTo, to the wanted one
 --   NoRoad       no list of these turns takes the stack to the wanted one
 --   Needs        some stack needs exactly as many
 --   EntryBy      what an entry says of its stack
@@ -19,16 +19,16 @@ use Rattle.base.specs.Words.{total}
 use Rattle.graph.specs.Walks.{isMove}
 use Rattle.stacks.specs.Counts.{CountsBy}
 use Rattle.stacks.specs.Index.{rankOf}
-use Rattle.stacks.specs.Stack.{isStack, stackCount}
 use Rattle.stacks.specs.Turn.{turnsIn, RoadBy, FewestBy}
-use Rattle.search.specs.Begin.{begun}
 use Rattle.search.specs.Build.{World, Lengths, Call, outcome, after, loadedAs, CarriesOn, doClose}
 use Rattle.search.specs.Entries.{entryAt, seenIn}
-use Rattle.search.specs.JobState.{beginRefusal, segmentCountOf, stackCountAt, passedOf, waitingOf, countOf, isSwept, isFinished, isReverse, levelOf, lastLevel}
+use Rattle.search.specs.JobState.{segmentCountOf, stackCountAt, passedOf, waitingOf, countOf, isSwept, isFinished, isReverse, levelOf, lastLevel}
 use Rattle.search.specs.Plan.{planLimit, planOf}
-use Rattle.search.specs.Promise.{rightLengths, planIn, Continues, FinishedByClose, Buffers}
+use Rattle.search.specs.Promise.{rightLengths, planIn, IsStack, Continues, FinishedByClose, Buffers, startOf}
 use Rattle.search.specs.Segments.{joined}
+use Rattle.search.specs.Terms.{N, beginRefusal}
 use Rattle.search.specs.declared.Phase.the-variants.{Level}
+use Rattle.search.specs.declared.Terms.{Terms}
 use Rattle.search.specs.declared.Way.{Way}
 
 abbrev pub RoadIn : ℕ → ℕ → ℕ → List ℕ → List ℤ → List ℤ → Type 0
@@ -40,45 +40,52 @@ FewestIn kind n groups = FewestBy kind (isMove (turnsIn kind n groups))
 abbrev pub CountsIn : ℕ → ℕ → ℕ → List ℤ → ℕ → ℕ → Type 0
 CountsIn kind n groups = CountsBy kind n (isMove (turnsIn kind n groups))
 
-module _ (kind n groups : ℕ) (wanted : List ℤ) where
+module _ (terms : Terms) where
+  -- a road to the wanted stack, the fewest turns to it, and how many stacks need as many
+  abbrev pub RoadTo : List ℕ → List ℤ → Type 0
+  RoadTo ks s = RoadIn (terms .kind) (terms .n) (terms .groups) ks s (terms .wanted)
+
+  abbrev pub FewestTo : List ℤ → ℕ → Type 0
+  FewestTo s d = FewestIn (terms .kind) (terms .n) (terms .groups) s (terms .wanted) d
+
+  abbrev pub CountsTo : ℕ → ℕ → Type 0
+  CountsTo d count = CountsIn (terms .kind) (terms .n) (terms .groups) (terms .wanted) d count
+
   abbrev pub NoRoad : List ℤ → Type 0
-  NoRoad s = (ks : List ℕ) → RoadIn kind n groups ks s wanted → ⊥
+  NoRoad s = (ks : List ℕ) → RoadTo ks s → ⊥
 
   -- the fewest turns modulo 3, or 3 where there is no road, and only there
   abbrev pub EntryBy : List ℤ → ℕ → Type 0
-  EntryBy s entry = ((d : ℕ) × FewestIn kind n groups s wanted d × (entry ≡ d % 3)) ⊎ (NoRoad s × (entry ≡ 3))
+  EntryBy s entry = ((d : ℕ) × FewestTo s d × (entry ≡ d % 3)) ⊎ (NoRoad s × (entry ≡ 3))
 
   -- some stack needs exactly d turns
   abbrev pub Needs : ℕ → Type 0
-  Needs d = (s : List ℤ) × (isStack kind n s ≡ true) × FewestIn kind n groups s wanted d
+  Needs d = (s : List ℤ) × IsStack terms s × FewestTo s d
 
   -- Plan accepts the stack, arrives, and no road is shorter
   pub record PlansBy (w : World) (given : List ℤ) (list : List ℕ) : Type 0 where
     pub accepts : planIn w given list .1 .refusal ≡ 0
-    pub arrives : RoadIn kind n groups (take (planIn w given list .1 .turns) (planIn w given list .0)) given wanted
-    pub shortest : FewestIn kind n groups given wanted (planIn w given list .1 .turns)
+    pub arrives : RoadTo (take (planIn w given list .1 .turns) (planIn w given list .0)) given
+    pub shortest : FewestTo given (planIn w given list .1 .turns)
 
   pub record FinishesBy (w : World) : Type 0 where
-    pub entries : (s : List ℤ) → isStack kind n s ≡ true → EntryBy s (entryAt (joined (w .segments)) (rankOf kind n s))
-    pub spare : (i : ℕ) → stackCount kind n ≤ i → i < 4 * length (joined (w .segments)) → entryAt (joined (w .segments)) i ≡ 3
+    pub entries : (s : List ℤ) → IsStack terms s → EntryBy s (entryAt (joined (w .segments)) (rankOf (terms .kind) (terms .n) s))
+    pub spare : (i : ℕ) → N terms ≤ i → i < 4 * length (joined (w .segments)) → entryAt (joined (w .segments)) i ≡ 3
     -- each level count is the number of stacks at exactly that many turns, and 0 past the deepest
-    pub counts : (d : ℕ) → d ≤ lastLevel → CountsIn kind n groups wanted d (countOf (w .job) d)
+    pub counts : (d : ℕ) → d ≤ lastLevel → CountsTo d (countOf (w .job) d)
     pub past : (d : ℕ) → levelOf (w .job .phase) < d → countOf (w .job) d ≡ 0
     -- the counts add up to the number of entries other than 3
-    pub added : total (w .job .counts) ≡ seenIn (joined (w .segments)) (stackCount kind n)
+    pub added : total (w .job .counts) ≡ seenIn (joined (w .segments)) (N terms)
     -- the deepest level is the greatest of all fewest turns, and below the last
     pub deepest : Needs (levelOf (w .job .phase))
-    pub greatest : (s : List ℤ) (d : ℕ) → isStack kind n s ≡ true → FewestIn kind n groups s wanted d → d ≤ levelOf (w .job .phase)
+    pub greatest : (s : List ℤ) (d : ℕ) → IsStack terms s → FewestTo s d → d ≤ levelOf (w .job .phase)
     pub below : levelOf (w .job .phase) < lastLevel
-    -- Plan gets the job's own kind, n, wanted stack and set
-    pub given-kind : w .job .kind ≡ kind
-    pub given-n : w .job .n ≡ n
-    pub given-wanted : w .job .wanted ≡ wanted
-    pub given-groups : w .job .groups ≡ groups
+    -- Plan gets what Begin was given
+    pub given-terms : w .job .terms ≡ terms
     -- a stack that has a road has its shortest plan, and one that has none is refused 20
-    pub plans : (given : List ℤ) (list : List ℕ) → isStack kind n given ≡ true → planLimit ≤ length list
-        → (ks : List ℕ) → RoadIn kind n groups ks given wanted → PlansBy w given list
-    pub refuses : (given : List ℤ) (list : List ℕ) → isStack kind n given ≡ true → planLimit ≤ length list
+    pub plans : (given : List ℤ) (list : List ℕ) → IsStack terms given → planLimit ≤ length list
+        → (ks : List ℕ) → RoadTo ks given → PlansBy w given list
+    pub refuses : (given : List ℤ) (list : List ℕ) → IsStack terms given → planLimit ≤ length list
         → NoRoad given → planIn w given list .1 .refusal ≡ 20
 
   module _ (right : Lengths) where
@@ -119,12 +126,11 @@ module _ (kind n groups : ℕ) (wanted : List ℤ) where
 -- demands 2 and 3: whatever kind, n, wanted stack, set, S, C, buffers and list of calls, in any mixture of ways
 unfoldable pub WholeBuildBy : Type 0
 WholeBuildBy =
-    (kind n : ℕ) (wanted : List ℤ) (groups S C : ℕ) (segments : List (List ℕ)) (log changed : List ℕ)
-    → beginRefusal kind n wanted groups S C ≡ 0
-    → Buffers kind n S C segments log
-    → (calls : List (Call (rightLengths kind n S C)))
-    → PromiseBy kind n groups wanted (rightLengths kind n S C)
-    (record { job = begun kind n wanted groups S C; segments = segments; log = log; changed = changed }) calls
+    (terms : Terms) (segments : List (List ℕ)) (log changed : List ℕ)
+    → beginRefusal terms ≡ 0
+    → Buffers terms segments log
+    → (calls : List (Call (rightLengths terms)))
+    → PromiseBy terms (rightLengths terms) (startOf terms segments log changed) calls
 
 -- an accepted plan arrives, also from a spoilt table: as many turns from the front of the list as Plan answers, at most 254
 unfoldable pub PlanArrives : Type 0

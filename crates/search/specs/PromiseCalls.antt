@@ -15,24 +15,26 @@ use Rattle.base.specs.Words.{unless}
 use Rattle.stacks.specs.Operations.{indexOf, stackOf, turnedOf}
 use Rattle.stacks.specs.Stack.{stackPlaces}
 use Rattle.stacks.specs.declared.Stacked.{Stacked}
-use Rattle.search.specs.Begin.{begun, noJob, beginOf}
+use Rattle.search.specs.Begin.{noJob, beginOf}
 use Rattle.search.specs.Blank.{blankOf}
 use Rattle.search.specs.Build.{World, Lengths, Lent, Call, doBlank, doExpand, doSettle, doLook, doLoad, doSweep, doClose, otherList, isLentOwn, outcome, after}
 use Rattle.search.specs.Changed.{listBytes}
 use Rattle.search.specs.Close.{closeOf}
 use Rattle.search.specs.Drive.{buildOf}
 use Rattle.search.specs.Expand.{expandOf}
-use Rattle.search.specs.JobState.{beginRefusal, isBlanking, inForward, inReverse, segmentCountOf, stackCountAt, waitingOf, isLoaded}
+use Rattle.search.specs.JobState.{isBlanking, inForward, inReverse, segmentCountOf, stackCountAt, waitingOf, isLoaded}
 use Rattle.search.specs.Load.{loadOf}
 use Rattle.search.specs.Look.{lookOf}
 use Rattle.search.specs.Plan.{planOf}
-use Rattle.search.specs.Promise.{rightLengths, Buffers}
+use Rattle.search.specs.Promise.{rightLengths, Buffers, startOf}
 use Rattle.search.specs.Read.{readOf}
 use Rattle.search.specs.Segments.{segmentLimit}
 use Rattle.search.specs.Settle.{settleOf}
 use Rattle.search.specs.Sweep.{sweepOf}
+use Rattle.search.specs.Terms.{beginRefusal}
 use Rattle.search.specs.declared.Answer.{Answer}
 use Rattle.search.specs.declared.Job.{Job}
+use Rattle.search.specs.declared.Terms.{Terms}
 use Rattle.search.specs.declared.Way.{Way}
 
 -- ---- refused calls
@@ -59,7 +61,7 @@ pub record RefusedKeeps : Type 0 where
   pub index : (kind n : ℕ) (s : List ℤ) → StandsAlone (λ a. a .refusal) (λ r. record { refusal = r; index = 0 }) (indexOf kind n s)
   pub stack : (kind n i : ℕ) → StandsAlone (λ a. a .refusal) noStack (stackOf kind n i)
   pub turn : (kind n : ℕ) (s : List ℤ) (k : ℕ) → StandsAlone (λ a. a .refusal) noStack (turnedOf kind n s k)
-  pub begin : (kind n : ℕ) (wanted : List ℤ) (groups S C : ℕ) → StandsAlone (λ a. a .refusal) noBuild (beginOf kind n wanted groups S C)
+  pub begin : (terms : Terms) → StandsAlone (λ a. a .refusal) noBuild (beginOf terms)
   pub blank : (job : Job) (j : ℕ) (segment : List ℕ) → StandsAlone (λ o. o .1 .refusal) (λ r. (segment, givenBack job r)) (blankOf job j segment)
   pub expand : (job : Job) (j : ℕ) (segment log : List ℕ)
       → StandsAlone (λ o. o .2 .refusal) (λ r. (segment, log, record { refusal = r; waits = false; on = 0; job = job })) (expandOf job j segment log)
@@ -75,8 +77,8 @@ pub record RefusedKeeps : Type 0 where
   pub read : (kind n : ℕ) (table : List ℕ) (i : ℕ) → StandsAlone (λ e. e .refusal) (λ r. record { refusal = r; entry = 0 }) (readOf kind n table i)
   pub plan : (kind n : ℕ) (wanted given : List ℤ) (groups : ℕ) (table list : List ℕ)
       → StandsAlone (λ o. o .1 .refusal) (λ r. (list, record { refusal = r; turns = 0 })) (planOf kind n wanted given groups table list)
-  pub build : (kind n : ℕ) (wanted : List ℤ) (groups S C : ℕ) (table log list : List ℕ)
-      → StandsAlone (λ o. o .3 .refusal) (λ r. (table, log, list, noBuild r)) (buildOf kind n wanted groups S C table log list)
+  pub build : (terms : Terms) (table log list : List ℕ)
+      → StandsAlone (λ o. o .3 .refusal) (λ r. (table, log, list, noBuild r)) (buildOf terms table log list)
 
 -- ---- wrong calls
 
@@ -112,12 +114,11 @@ pub record RefusesWrong (right : Lengths) (w : World) : Type 0 where
 
 unfoldable pub WrongRefused : Type 0
 WrongRefused =
-    (kind n : ℕ) (wanted : List ℤ) (groups S C : ℕ) (segments : List (List ℕ)) (log changed : List ℕ)
-    → beginRefusal kind n wanted groups S C ≡ 0
-    → Buffers kind n S C segments log
-    → (calls : List (Call (rightLengths kind n S C)))
-    → RefusesWrong (rightLengths kind n S C)
-    (after (record { job = begun kind n wanted groups S C; segments = segments; log = log; changed = changed }) calls)
+    (terms : Terms) (segments : List (List ℕ)) (log changed : List ℕ)
+    → beginRefusal terms ≡ 0
+    → Buffers terms segments log
+    → (calls : List (Call (rightLengths terms)))
+    → RefusesWrong (rightLengths terms) (after (startOf terms segments log changed) calls)
 
 -- ---- what Expand appends
 
@@ -126,9 +127,9 @@ pub record Appends (job : Job) (j : ℕ) (segment log log′ : List ℕ) : Type 
   pub segments : expandOf job j segment log .0 ≡ expandOf job j segment log′ .0
   pub answers : expandOf job j segment log .2 ≡ expandOf job j segment log′ .2
   pub appended : (t i : ℕ) → waitingOf job t ≤ i → i < waitingOf (expandOf job j segment log .2 .job) t
-      → getD (expandOf job j segment log .1) (t * job .room + i) 0 ≡ getD (expandOf job j segment log′ .1) (t * job .room + i) 0
+      → getD (expandOf job j segment log .1) (t * job .terms .room + i) 0 ≡ getD (expandOf job j segment log′ .1) (t * job .terms .room + i) 0
   pub kept : (p : ℕ)
-      → ((t i : ℕ) → t < segmentCountOf job → waitingOf job t ≤ i → i < waitingOf (expandOf job j segment log .2 .job) t → p ≡ t * job .room + i → ⊥)
+      → ((t i : ℕ) → t < segmentCountOf job → waitingOf job t ≤ i → i < waitingOf (expandOf job j segment log .2 .job) t → p ≡ t * job .terms .room + i → ⊥)
       → getD (expandOf job j segment log .1) p 0 ≡ getD log p 0
   pub long : length (expandOf job j segment log .1) ≡ length log
 

@@ -29,11 +29,11 @@ isChanged S b list c = eqb (c / S) b && bitAt list (c % S)
 
 -- the stack at index v has such a child in the loaded segment
 unfoldable pub isReached : Job → List ℕ → ℕ → Bool
-isReached job list v = any (isChanged (job .size) (job .loaded) list) (childrenOf (job .kind) (job .n) (movesOf job) v)
+isReached job list v = any (isChanged (job .terms .size) (job .loaded) list) (childrenOf (job .terms .kind) (job .terms .n) (movesOf job) v)
 
 -- the stacks of segment j that have one, as offsets
 unfoldable pub reachedIn : Job → ℕ → List ℕ → List ℕ
-reachedIn job j list = filter (λ i. isReached job list (j * job .size + i)) (from 0 (stackCountAt job j))
+reachedIn job j list = filter (λ i. isReached job list (j * job .terms .size + i)) (from 0 (stackCountAt job j))
 
 -- the pair is noted in the loaded segment's number
 unfoldable pub withPair : Job → ℕ → List ℕ
@@ -43,7 +43,7 @@ withPair job j = set (job .swept) (job .loaded) (sweptOf job (job .loaded) + 2 ^
 unfoldable pub sweepOf : Job → ℕ → List ℕ → List ℕ → List ℕ × Answer
 sweepOf job j segment list =
     let r = sweepRefusal job j (length segment) (length list) in
-    let marks = markAll (job .size) (levelOf (job .phase)) (indexesOf (job .size) j (reachedIn job j list)) (marksFrom job segment) in
+    let marks = markAll (job .terms .size) (levelOf (job .phase)) (indexesOf (job .terms .size) j (reachedIn job j list)) (marksFrom job segment) in
     cond (eqb r 0) (
       marks .segment,
       record {

@@ -39,14 +39,20 @@ pub enum Way {
     Reverse,
 }
 
-// A build. groups is the set of group sizes that the frame lifts, size k as its bit of weight 2^(k - 1); size is document 01's S, room its C.
-pub struct Job {
+// What Begin is given. groups is the set of group sizes that the frame lifts, size k as its bit of weight 2^(k - 1); size is document 01's S,
+// room its C.
+pub struct Terms {
     pub kind: u8,
     pub n: u8,
     pub wanted: [i8; PLACES],
     pub groups: u32,
     pub size: u32,
     pub room: u32,
+}
+
+// A build.
+pub struct Job {
+    pub terms: Terms,
     pub phase: Phase,
     // The way of the level, and of a reverse one the segment that is loaded, or NO_SEGMENT.
     pub way: Way,

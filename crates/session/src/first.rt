@@ -11,6 +11,7 @@ use frames::lines;
 use frames::output;
 use job::phase;
 use search::Job;
+use search::Terms;
 use stacks::PLACES;
 use text::First;
 use text::LIST_LIMIT;
@@ -33,13 +34,16 @@ fn build_in(kind: u8, n: u8, wanted: [i8; PLACES], size: u32, table: &mut [u8]) 
     let bytes = lent::table_bytes(kind, n);
     let words = lent::log_words(kind, n, size);
     let listed = lent::changed_bytes(kind, n, size);
-    let answer = build::build::build_table(
+    let terms = Terms {
         kind,
         n,
         wanted,
         groups,
         size,
-        REPORT_ROOM,
+        room: REPORT_ROOM,
+    };
+    let answer = build::build::build_table(
+        terms,
         &mut table[..bytes],
         &mut log[..words],
         &mut list[..listed],

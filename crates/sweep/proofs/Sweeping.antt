@@ -1,6 +1,6 @@
 -- What Sweep's refusals ask of a standing, and what an accepted Sweep was given and leaves.
 use mathlib.Core.Path.{_≡_, refl, sym, ap, _∙_, subst}
-use mathlib.Core.Bool.{Bool, true, _&&_, cond}
+use mathlib.Core.Bool.{Bool, _&&_, cond}
 use mathlib.Core.List.{List}
 use Prim.Native.Nat.{ℕ, _+_, _-_, _*_, _%_, _^_, _<_, _≤_}
 use native.Mathlib.Omega.{arith}
@@ -9,14 +9,14 @@ use lib.Dec.{eqb}
 use lib.ListN.{length, getD, set}
 use lib.Pow.{pow-mono, shl-exact}
 use Rattle.base.proofs.Bits.{put-lt}
-use Rattle.stacks.specs.Stack.{isPaneCount, stackCount}
 use Rattle.search.specs.Changed.{listBytes}
 use Rattle.search.specs.Entries.{bytesFor, nextEntry}
 use Rattle.search.specs.JobState.{countLimit, sweptOf, levelOf, countOf, stackCountOf, segmentCountOf, stackCountAt, progressed, directed}
 use Rattle.search.specs.Logs.{indexesOf}
 use Rattle.search.specs.Marks.{Marks, markAll}
-use Rattle.search.specs.Segments.{segmentLimit, stackCountIn}
+use Rattle.search.specs.Segments.{segmentLimit}
 use Rattle.search.specs.Sweep.{sweepRefusal, isReached, reachedIn, withPair, sweepOf}
+use Rattle.search.specs.Terms.{m, beginRefusal}
 use Rattle.search.specs.declared.Answer.{Answer}
 use Rattle.search.specs.declared.Job.{Job}
 use Rattle.search.proofs.Accepted.{SweepFacts, sweep-facts, sweep-accepted}
@@ -30,19 +30,17 @@ use Rattle.twobit.specs.declared.marking.Found.{Found}
 use Rattle.twobit.proofs.LeafMarks.{marks-level}
 use Rattle.job.specs.Standing.{standingOf}
 use Rattle.job.specs.declared.standing.Standing.{Standing}
-use Rattle.job.proofs.Bounds.{Bounds, coherent-bounds, segment-below, reverse-least}
+use Rattle.job.proofs.Bounds.{Bounds, coherent-begins, coherent-bounds, segment-below, reverse-least}
 use Rattle.sweep.specs.Reach.{RunFits, Sweeps}
 use Rattle.sweep.specs.declared.run.Pair.{Pair}
 
 -- the lengths that a job of this standing asks for
 pub lengths-are : (s : Standing) (j bytes listed : ℕ) (job : Job) → s ≡ standingOf job j
-    → (let N = stackCount (s .kind) (s .n) in
-    (eqb bytes (bytesFor (stackCountIn N (s .size) j)) && eqb listed (listBytes (stackCountIn N (s .size) (s .loaded))))
+    → ((eqb bytes (bytesFor (m (s .terms) j)) && eqb listed (listBytes (m (s .terms) (s .loaded))))
     ≡ (eqb bytes (bytesFor (stackCountAt job j)) && eqb listed (listBytes (stackCountAt job (job .loaded)))))
 unfolding standingOf stackCountAt stackCountOf
 lengths-are s j bytes listed job e =
-    ap (λ (x : Standing). eqb bytes (bytesFor (stackCountIn (stackCount (x .kind) (x .n)) (x .size) j))
-    && eqb listed (listBytes (stackCountIn (stackCount (x .kind) (x .n)) (x .size) (x .loaded)))) e
+    ap (λ (x : Standing). eqb bytes (bytesFor (m (x .terms) j)) && eqb listed (listBytes (m (x .terms) (x .loaded)))) e
 
 -- ---- an accepted Sweep
 
@@ -50,10 +48,10 @@ lengths-are s j bytes listed job e =
 abbrev pairOf : Job → ℕ → ℕ → ℕ → Pair
 pairOf job j loaded mark =
     record {
-      kind = job .kind;
-      n = job .n;
-      groups = job .groups;
-      size = job .size;
+      kind = job .terms .kind;
+      n = job .terms .n;
+      groups = job .terms .groups;
+      size = job .terms .size;
       j = j;
       b = loaded;
       mark = mark;
@@ -66,8 +64,8 @@ module _ (job : Job) (j : ℕ) (segment list : List ℕ) (accepted : sweepRefusa
   bounds : Bounds job
   bounds = coherent-bounds job (given .called .coherent)
 
-  pub sweep-panes : isPaneCount (job .kind) (job .n) ≡ true
-  sweep-panes = bounds .is-pane-count
+  pub sweep-begins : beginRefusal (job .terms) ≡ 0
+  sweep-begins = coherent-begins job (given .called .coherent)
 
   pub sweep-below : j < segmentLimit
   sweep-below = segment-below job (given .called .coherent) j (given .called .inside)
@@ -96,7 +94,7 @@ module _ (job : Job) (j : ℕ) (segment list : List ℕ) (accepted : sweepRefusa
 
   -- the values as the code has them
   module _ (loaded level mark stacks : ℕ) (b : loaded ≡ job .loaded) (l : level ≡ levelOf (job .phase)) (k : mark ≡ nextEntry ((level - 1) % 3))
-      (m : stacks ≡ stackCountIn (stackCount (job .kind) (job .n)) (job .size) j) where
+      (stacks-are : stacks ≡ m (job .terms) j) where
     pub run-fits : RunFits (pairOf job j loaded mark) stacks (record { count = getD (job .counts) level 0 }) segment list
     unfolding countLimit stackCountAt stackCountOf segmentCountOf countOf
     run-fits =
@@ -104,15 +102,15 @@ module _ (job : Job) (j : ℕ) (segment list : List ℕ) (accepted : sweepRefusa
         let N = stackCountOf job in
         let coherent = coherent-facts job (f .called .coherent) in
         record {
-          is-pane-count = sweep-panes;
-          set-fits = begin-given (job .kind) (job .n) (job .wanted) (job .groups) (job .size) (job .room) (coherent .begins) .of-set;
+          is-pane-count = bounds .is-pane-count;
+          set-fits = begin-given (coherent .begins) .of-set;
           some = bounds .some;
           listed = rw b (f .wide);
-          starts = segment-starts N (job .size) (bounds .some) j (f .called .inside);
-          all = m;
-          bytes = rw m (f .long);
+          starts = segment-starts N (job .terms .size) (bounds .some) j (f .called .inside);
+          all = stacks-are;
+          bytes = rw stacks-are (f .long);
           label = omega (arith, k, next-lt ((level - 1) % 3));
-          few = omega (arith, m, coherent .counts-fit level, bounds .small, stackCountIn-le N (job .size) (bounds .some) j);
+          few = omega (arith, stacks-are, coherent .counts-fit level, bounds .small, stackCountIn-le N (job .terms .size) (bounds .some) j);
         }
 
     -- what the code leaves is what the definition says
@@ -132,14 +130,14 @@ module _ (job : Job) (j : ℕ) (segment list : List ℕ) (accepted : sweepRefusa
         (sweepOf job j segment list)
     unfolding reachedIn isReached withPair countOf stackCountAt stackCountOf
     sweep-is row r marked after swept =
-        let S = job .size in
+        let S = job .terms .size in
         let left : ℕ → ℕ → ℕ → Marks → Job = λ d at put x. directed
         (progressed job (job .phase) (job .passed) (job .waiting) (set (job .counts) d (x .count))) (job .way) (job .loaded) (set (job .swept) at put) in
         let d = levelOf (job .phase) in
         let stacks′ : List ℕ = indexesOf S j (reachedIn job j list) in
         let start : Marks = record { segment = segment; count = countOf job d } in
         let marks : marksOf after marked ≡ markAll S d stacks′ start =
-        rw (b, k ∙ next-level level (level-some level l), l, m) at swept ∙ marks-level S d stacks′ start in
+        rw (b, k ∙ next-level level (level-some level l), l, stacks-are) at swept ∙ marks-level S d stacks′ start in
         ap (λ (x : Job). (after, record { refusal = 0; job = x })) (rw (l, b, r, shifted) refl)
         ∙ ap (λ (x : Marks). (x .segment, record { refusal = 0; job = left d (job .loaded) (sweptOf job (job .loaded) + 2 ^ j) x })) marks
         ∙ sym (sweep-accepted job j segment list accepted)

@@ -1,16 +1,16 @@
 // Sweep a segment against the loaded one. The job's fields are copied to a Pair, so that no function that runs for a stack or a child takes the
 // job.
-ghost use mathlib.Core.Bool.{true, _&&_};
+ghost use mathlib.Core.Bool.{_&&_};
 ghost use mathlib.Core.Path.{_≡_};
 ghost use lib.Dec.{eqb};
 ghost use Rattle.job.specs.Standing.{Stands, Tells};
 ghost use Rattle.search.specs.Changed.{listBytes};
 ghost use Rattle.search.specs.Entries.{bytesFor};
-ghost use Rattle.search.specs.Segments.{stackCountIn};
 ghost use Rattle.search.specs.Sweep.{sweepRefusal, sweepOf};
-ghost use Rattle.stacks.specs.Stack.{isPaneCount, stackCount};
+ghost use Rattle.search.specs.Terms.{m, beginRefusal};
 use crate::run;
 use crate::run::Pair;
+use job::coherence;
 use job::geometry;
 use job::phase;
 use job::refusals;
@@ -19,22 +19,23 @@ use job::standing::Standing;
 use search::Answer;
 use search::Job;
 use search::NO_SEGMENT;
+use search::Terms;
 use twobit::entry;
 use twobit::list;
 use twobit::marking::Found;
 use twobit::segment;
 
 // Whether what is lent has the lengths of segment j and of segment b's changed list.
-fn lengths_fit(kind: u8, n: u8, size: u32, j: u32, b: u32, bytes: usize, listed: usize) -> bool
-    requires { ⌜ isPaneCount kind n ≡ true ⌝ }
-    ensures { λ r. ⌜ r ≡ (eqb bytes (bytesFor (stackCountIn (stackCount kind n) size j)) && eqb listed (listBytes (stackCountIn (stackCount kind n) size b))) ⌝ }
+fn lengths_fit(terms: Terms, j: u32, b: u32, bytes: usize, listed: usize) -> bool
+    requires { ⌜ beginRefusal terms ≡ 0 ⌝ }
+    ensures { λ r. ⌜ r ≡ (eqb bytes (bytesFor (m terms j)) && eqb listed (listBytes (m terms b))) ⌝ }
 {
-    let stacks = geometry::stack_count_at(kind, n, size, j);
+    let stacks = geometry::stack_count_at(terms, j);
     let length = segment::bytes_for(stacks) as usize;
     if bytes != length {
         return false;
     }
-    let bits = geometry::stack_count_at(kind, n, size, b);
+    let bits = geometry::stack_count_at(terms, b);
     let list_length = list::list_bytes(bits) as usize;
     listed == list_length
 }
@@ -53,15 +54,8 @@ fn sweep_refusal(standing: Standing, j: u32, bytes: usize, listed: usize) -> u8
     if standing.loaded == NO_SEGMENT {
         return 22;
     }
-    if !lengths_fit(
-        standing.kind,
-        standing.n,
-        standing.size,
-        j,
-        standing.loaded as u32,
-        bytes,
-        listed,
-    ) {
+    let terms = standing.terms;
+    if !lengths_fit(terms, j, standing.loaded as u32, bytes, listed) {
         return 10;
     }
     if (standing.swept >> j) % 2 == 1 {
@@ -75,23 +69,19 @@ pub fn sweep(job: Job, j: u32, segment: &mut [u8], list: &[u8]) -> Answer
     ensures { λ r. ⌜ (now (segment .exit), r) ≡ sweepOf job j (now (segment .entry)) (now (list .entry)) ⌝ }
 {
     let mut next = job;
-    let wanted = job.wanted;
+    let terms = job.terms;
     let phase = job.phase;
     let way = job.way;
+    let fits = coherence::counts_fit(&next.counts);
     let standing = standing::standing_of(
-        job.kind,
-        job.n,
-        wanted,
-        job.groups,
-        job.size,
-        job.room,
+        terms,
         phase,
         way,
         job.loaded,
         &next.passed,
         &next.waiting,
         &next.swept,
-        &next.counts,
+        fits,
         j,
     );
     let refusal = sweep_refusal(standing, j, segment.len(), list.len());
@@ -102,15 +92,15 @@ pub fn sweep(job: Job, j: u32, segment: &mut [u8], list: &[u8]) -> Answer
     let b = standing.loaded as u32;
     let mark = entry::next_entry((level - 1) % 3);
     let pair = Pair {
-        kind: job.kind,
-        n: job.n,
-        groups: job.groups,
-        size: job.size,
+        kind: terms.kind,
+        n: terms.n,
+        groups: terms.groups,
+        size: terms.size,
         j,
         b,
         mark,
     };
-    let stacks = geometry::stack_count_at(job.kind, job.n, job.size, j);
+    let stacks = geometry::stack_count_at(terms, j);
     let count = next.counts[level as usize];
     let found = Found { count };
     let marked = run::sweep_run(pair, stacks, found, segment, list);

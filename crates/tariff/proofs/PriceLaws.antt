@@ -1,7 +1,7 @@
 -- Laws of Price: its plan is Plan's, after a finished build too, and two tariffs by which it is the same.
 use mathlib.Core.Path.{_≡_, refl, sym, ap, _∙_, subst}
 use mathlib.Core.Logic.{_⊎_, inl, inr}
-use mathlib.Core.Bool.{true, cond}
+use mathlib.Core.Bool.{cond}
 use mathlib.Core.List.{List}
 use Prim.Native.Nat.{ℕ, _≤_, _<_}
 use native.Mathlib.Omega.{arith}
@@ -12,16 +12,15 @@ use borrow.Author.Tests.{eq-eqb, ne-eqb}
 use Rattle.base.proofs.Counting.{all-at}
 use Rattle.base.proofs.Tests.{eq-or-ne}
 use Rattle.graph.specs.Walks.{isMove}
-use Rattle.stacks.specs.Stack.{isStack}
 use Rattle.stacks.specs.Turn.{lastTurn, turnsIn}
 use Rattle.stacks.proofs.TurnLaws.{turn-first, turn-last, first-pos}
 use Rattle.search.specs.Plan.{planLimit, routeFrom, planRefusal, planOf}
-use Rattle.search.specs.Begin.{begun}
 use Rattle.search.specs.Build.{World, after}
-use Rattle.search.specs.Promise.{planIn}
-use Rattle.search.specs.PromiseBy.{RoadIn, FewestIn, NoRoad, FinishesBy, WholeBuildBy}
+use Rattle.search.specs.Promise.{planIn, IsStack, startOf}
+use Rattle.search.specs.PromiseBy.{RoadIn, RoadTo, FewestTo, NoRoad, FinishesBy, WholeBuildBy}
 use Rattle.search.specs.Segments.{joined}
 use Rattle.search.specs.declared.Planned.{Planned}
+use Rattle.search.specs.declared.Terms.{Terms}
 use Rattle.search.proofs.Accepted.{names-refusal}
 use Rattle.search.proofs.Finishing.{plan-accepted, plan-refused, plan-refusal-is}
 use Rattle.search.proofs.PlanLaws.{plan-facts, plan-goes-on, plan-refuses, route-arrives}
@@ -102,42 +101,42 @@ price-plans kind n wanted given groups table list tariff h = go (eq-or-ne (planR
         ap unpriced (price-refused kind n wanted given groups table list tariff (λ z. e (sym same ∙ z)))
         ∙ rw (plan-refused kind n wanted given groups table list e, same)
 
-module _ (kind n : ℕ) (wanted : List ℤ) (groups : ℕ) (w : World) (f : FinishesBy kind n groups wanted w) (given : List ℤ) (list : List ℕ) (tariff : Tariff)
-    (h : isStack kind n given ≡ true) (l : planLimit ≤ length list) where
+module _ (terms : Terms) (w : World) (f : FinishesBy terms w) (given : List ℤ) (list : List ℕ) (tariff : Tariff)
+    (h : IsStack terms given) (l : planLimit ≤ length list) where
+  -- the job's own
+  abbrev own : Terms
+  own = w .job .terms
+
   first-refused : (let r = planIn w given list .1 .refusal in
-      priceIn w given list tariff .1 .refusal ≡ cond (eqb r 0) (tariffRefusal (lastTurn (w .job .kind) (w .job .n)) tariff) r)
+      priceIn w given list tariff .1 .refusal ≡ cond (eqb r 0) (tariffRefusal (lastTurn (own .kind) (own .n)) tariff) r)
   unfolding PlanFirst
-  first-refused = plan-first (w .job .kind) (w .job .n) (w .job .wanted) given (w .job .groups) (joined (w .segments)) list tariff
+  first-refused = plan-first (own .kind) (own .n) (own .wanted) given (own .groups) (joined (w .segments)) list tariff
 
-  -- the turns are those of the job's own kind and n
-  last-is : lastTurn (w .job .kind) (w .job .n) ≡ lastTurn kind n
-  last-is = ap (λ (k : ℕ). lastTurn k (w .job .n)) (f .given-kind) ∙ ap (lastTurn kind) (f .given-n)
-
-  finishes-prices : (ks : List ℕ) → RoadIn kind n groups ks given wanted → Prices kind n groups wanted w given list tariff
+  finishes-prices : (ks : List ℕ) → RoadTo terms ks given → Prices terms w given list tariff
   unfolding PricePlans
   finishes-prices ks road =
       let p = f .plans given list h l ks road in
-      let refuses : priceIn w given list tariff .1 .refusal ≡ tariffRefusal (lastTurn (w .job .kind) (w .job .n)) tariff =
+      let refuses : priceIn w given list tariff .1 .refusal ≡ tariffRefusal (lastTurn (own .kind) (own .n)) tariff =
       rw (p .accepts) at first-refused in
       let plans : priceIn w given list tariff .1 .refusal ≡ 0 → unpriced (priceIn w given list tariff) ≡ planIn w given list =
-      λ e. price-plans (w .job .kind) (w .job .n) (w .job .wanted) given (w .job .groups) (joined (w .segments)) list tariff (sym refuses ∙ e) in
+      λ e. price-plans (own .kind) (own .n) (own .wanted) given (own .groups) (joined (w .segments)) list tariff (sym refuses ∙ e) in
       record {
-        refuses = refuses ∙ ap (λ (last : ℕ). tariffRefusal last tariff) last-is;
-        arrives = λ e. subst (λ (out : List ℕ × Planned). RoadIn kind n groups (take (out .1 .turns) (out .0)) given wanted) (sym (plans e)) (p .arrives);
-        shortest = λ e. subst (λ (out : List ℕ × Planned). FewestIn kind n groups given wanted (out .1 .turns)) (sym (plans e)) (p .shortest);
+        refuses = refuses ∙ ap (λ (t : Terms). tariffRefusal (lastTurn (t .kind) (t .n)) tariff) (f .given-terms);
+        arrives = λ e. subst (λ (out : List ℕ × Planned). RoadTo terms (take (out .1 .turns) (out .0)) given) (sym (plans e)) (p .arrives);
+        shortest = λ e. subst (λ (out : List ℕ × Planned). FewestTo terms given (out .1 .turns)) (sym (plans e)) (p .shortest);
       }
 
-  finishes-refuses : NoRoad kind n groups wanted given → priceIn w given list tariff .1 .refusal ≡ 20
+  finishes-refuses : NoRoad terms given → priceIn w given list tariff .1 .refusal ≡ 20
   finishes-refuses none =
       first-refused
-      ∙ ap (λ (r : ℕ). cond (eqb r 0) (tariffRefusal (lastTurn (w .job .kind) (w .job .n)) tariff) r) (f .refuses given list h l none)
+      ∙ ap (λ (r : ℕ). cond (eqb r 0) (tariffRefusal (lastTurn (own .kind) (own .n)) tariff) r) (f .refuses given list h l none)
 
 pub price-finished : PriceFinished
 unfolding PriceFinished WholeBuildBy
-price-finished kind n wanted groups S C segments log changed accepted buffers calls h given list tariff stack l =
-    let w : World = after (record { job = begun kind n wanted groups S C; segments = segments; log = log; changed = changed }) calls in
-    let f : FinishesBy kind n groups wanted w = whole-build-by kind n wanted groups S C segments log changed accepted buffers calls .finishes h in
-    (finishes-prices kind n wanted groups w f given list tariff stack l, finishes-refuses kind n wanted groups w f given list tariff stack l)
+price-finished terms segments log changed accepted buffers calls h given list tariff stack l =
+    let w : World = after (startOf terms segments log changed) calls in
+    let f : FinishesBy terms w = whole-build-by terms segments log changed accepted buffers calls .finishes h in
+    (finishes-prices terms w f given list tariff stack l, finishes-refuses terms w f given list tariff stack l)
 
 -- ---- what is priced
 

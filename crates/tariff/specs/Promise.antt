@@ -16,17 +16,17 @@ use lib.Dec.{eqb}
 use lib.IntN.{ℤ}
 use lib.ListN.{length, getD, take}
 use Rattle.base.specs.Words.{total}
-use Rattle.stacks.specs.Stack.{isStack}
 use Rattle.stacks.specs.Turn.{lastTurn}
-use Rattle.search.specs.Begin.{begun}
 use Rattle.search.specs.Build.{World, Call, after}
-use Rattle.search.specs.JobState.{beginRefusal, isFinished}
+use Rattle.search.specs.JobState.{isFinished}
 use Rattle.search.specs.Plan.{planLimit, planOf}
-use Rattle.search.specs.Promise.{rightLengths, Buffers}
-use Rattle.search.specs.PromiseBy.{RoadIn, FewestIn, NoRoad}
+use Rattle.search.specs.Promise.{rightLengths, IsStack, Buffers, startOf}
+use Rattle.search.specs.PromiseBy.{RoadTo, FewestTo, NoRoad}
 use Rattle.search.specs.PromiseCalls.{StandsAlone}
 use Rattle.search.specs.Segments.{joined}
+use Rattle.search.specs.Terms.{beginRefusal}
 use Rattle.search.specs.declared.Planned.{Planned}
+use Rattle.search.specs.declared.Terms.{Terms}
 use Rattle.tariff.specs.Price.{costOf, priceOf}
 use Rattle.tariff.specs.Tariffs.{lineLimit, tariffLine, tariffLines, covers, linesAt, tariffRefusal, priceAt}
 use Rattle.tariff.specs.declared.Line.{Line}
@@ -60,30 +60,31 @@ PricePlans =
 
 -- Price as a finished build is asked for it: the job's own kind, n, wanted stack and set, and its segments joined
 abbrev pub priceIn : World → List ℤ → List ℕ → Tariff → List ℕ × Priced
-priceIn w given list tariff = priceOf (w .job .kind) (w .job .n) (w .job .wanted) given (w .job .groups) (joined (w .segments)) list tariff
+priceIn w given list tariff =
+    let terms = w .job .terms in priceOf (terms .kind) (terms .n) (terms .wanted) given (terms .groups) (joined (w .segments)) list tariff
 
 -- it is refused for its tariff alone; not refused, it arrives, and no road is shorter
-pub record Prices (kind n groups : ℕ) (wanted : List ℤ) (w : World) (given : List ℤ) (list : List ℕ) (tariff : Tariff) : Type 0 where
-  pub refuses : priceIn w given list tariff .1 .refusal ≡ tariffRefusal (lastTurn kind n) tariff
+pub record Prices (terms : Terms) (w : World) (given : List ℤ) (list : List ℕ) (tariff : Tariff) : Type 0 where
+  pub refuses : priceIn w given list tariff .1 .refusal ≡ tariffRefusal (lastTurn (terms .kind) (terms .n)) tariff
   pub arrives : priceIn w given list tariff .1 .refusal ≡ 0
-      → RoadIn kind n groups (take (priceIn w given list tariff .1 .turns) (priceIn w given list tariff .0)) given wanted
-  pub shortest : priceIn w given list tariff .1 .refusal ≡ 0 → FewestIn kind n groups given wanted (priceIn w given list tariff .1 .turns)
+      → RoadTo terms (take (priceIn w given list tariff .1 .turns) (priceIn w given list tariff .0)) given
+  pub shortest : priceIn w given list tariff .1 .refusal ≡ 0 → FewestTo terms given (priceIn w given list tariff .1 .turns)
 
 -- whatever kind, n, wanted stack, set, S, C, buffers and list of calls have finished a build; for any stack, any turn list that 10 lets by and
 -- any tariff: so it is where the stack has a road, and 20 where it has none
 unfoldable pub PriceFinished : Type 0
 PriceFinished =
-    (kind n : ℕ) (wanted : List ℤ) (groups S C : ℕ) (segments : List (List ℕ)) (log changed : List ℕ)
-    → beginRefusal kind n wanted groups S C ≡ 0
-    → Buffers kind n S C segments log
-    → (calls : List (Call (rightLengths kind n S C)))
-    → (let w = after (record { job = begun kind n wanted groups S C; segments = segments; log = log; changed = changed }) calls in
+    (terms : Terms) (segments : List (List ℕ)) (log changed : List ℕ)
+    → beginRefusal terms ≡ 0
+    → Buffers terms segments log
+    → (calls : List (Call (rightLengths terms)))
+    → (let w = after (startOf terms segments log changed) calls in
     isFinished (w .job .phase) ≡ true
     → (given : List ℤ) (list : List ℕ) (tariff : Tariff)
-    → isStack kind n given ≡ true
+    → IsStack terms given
     → planLimit ≤ length list
-    → ((ks : List ℕ) → RoadIn kind n groups ks given wanted → Prices kind n groups wanted w given list tariff)
-    × (NoRoad kind n groups wanted given → priceIn w given list tariff .1 .refusal ≡ 20))
+    → ((ks : List ℕ) → RoadTo terms ks given → Prices terms w given list tariff)
+    × (NoRoad terms given → priceIn w given list tariff .1 .refusal ≡ 20))
 
 -- ---- what a tariff says of a size
 

@@ -14,6 +14,7 @@ use Rattle.stacks.specs.Turn.{allGroups}
 use Rattle.stacks.specs.Stack.{isPaneCount, stackCount}
 use Rattle.search.specs.Changed.{listBytes}
 use Rattle.search.specs.Drive.{buildOf}
+use Rattle.search.specs.Terms.{termsOf}
 use Rattle.search.specs.Entries.{bytesFor}
 use Rattle.search.specs.Segments.{segmentCount, stackCountIn, isSegmentSize}
 use Rattle.search.specs.declared.Answer.{Answer}
@@ -90,11 +91,11 @@ pub built-is : (kind n : ℕ) (wanted : List ℤ) (S : ℕ) (table part log list
     → groups ≡ reportGroups kind n → bytes ≡ tableBytes kind n → words ≡ logWords kind n S → words ≤ logLimit
     → listed ≡ changedBytes kind n S → listed ≤ listLimit
     → (part, log, list, answer)
-    ≡ buildOf kind n wanted groups S reportRoom (take bytes table) (take words (replicate logLimit 0)) (take listed (replicate listLimit 0))
+    ≡ buildOf (termsOf kind n wanted groups S reportRoom) (take bytes table) (take words (replicate logLimit 0)) (take listed (replicate listLimit 0))
     → (part ++ drop bytes table, answer .job) ≡ builtIn kind n wanted S table
 unfolding builtIn
 built-is kind n wanted S table part log list answer groups bytes words listed g b w l c m h =
-    let buildBy : ℕ → List ℕ → List ℕ → List ℕ → List ℕ × List ℕ × List ℕ × Answer = λ x. buildOf kind n wanted x S reportRoom in
+    let buildBy : ℕ → List ℕ → List ℕ → List ℕ → List ℕ × List ℕ × List ℕ × Answer = λ x. buildOf (termsOf kind n wanted x S reportRoom) in
     let front : List ℕ = take bytes table in
     let logs : List ℕ = take words (replicate logLimit 0) in
     let lists : List ℕ = take listed (replicate listLimit 0) in

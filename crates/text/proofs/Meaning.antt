@@ -30,12 +30,14 @@ use Rattle.search.specs.Plan.{planOf, planLimit, planRefusal, routeFrom}
 use Rattle.search.specs.Promise.{rightWords, Plans, Finishes}
 use Rattle.search.specs.PromiseBy.{PlanArrives}
 use Rattle.search.specs.Segments.{segmentCount, stackCountIn, isLogRoom, joined}
+use Rattle.search.specs.Terms.{termsOf}
 use Rattle.search.specs.declared.Answer.{Answer}
 use Rattle.search.specs.declared.Job.{Job}
 use Rattle.search.specs.declared.Planned.{Planned}
+use Rattle.search.specs.declared.Terms.{Terms}
 use Rattle.search.proofs.AllStacks.{all-stacks-length, all-stacks-each}
 use Rattle.search.proofs.Coherence.{given-begin}
-use Rattle.search.proofs.Terms.{termsWith, Given}
+use Rattle.search.proofs.Given.{Given}
 use Rattle.search.proofs.Finishing.{plan-arrives}
 use Rattle.search.proofs.WholeTable.{build-ends, build-finishes}
 use Rattle.search.proofs.AllTurns.{few-turns}
@@ -116,23 +118,20 @@ module _ (kind n : ℕ) (wanted : List ℤ) (table : List ℕ) where
             (rw count (plan-arrives kind n wanted given groups table (replicate planLimit 0) (p .accepts) .1)) (p .arrives .turns);
       }
 
-plans-in : (w : World) (kind n : ℕ) (wanted : List ℤ) (groups : ℕ) (given : List ℤ) → w .job .kind ≡ kind → w .job .n ≡ n → w .job .wanted ≡ wanted
-    → w .job .groups ≡ groups → Plans w given (replicate planLimit 0) → PlansIn kind n wanted groups (joined (w .segments)) given
-plans-in w kind n wanted groups given a b c d p =
-    subst (λ k. PlansIn k n wanted groups (joined (w .segments)) given) a
-    (subst (λ m. PlansIn (w .job .kind) m wanted groups (joined (w .segments)) given) b
-    (subst (λ v. PlansIn (w .job .kind) (w .job .n) v groups (joined (w .segments)) given) c
-    (subst (λ g. PlansIn (w .job .kind) (w .job .n) (w .job .wanted) g (joined (w .segments)) given) d
-    (record { accepts = p .accepts; arrives = p .arrives; shortest = p .shortest }))))
+plans-in : (w : World) (terms : Terms) (given : List ℤ) → w .job .terms ≡ terms → Plans w given (replicate planLimit 0)
+    → PlansIn (terms .kind) (terms .n) (terms .wanted) (terms .groups) (joined (w .segments)) given
+plans-in w terms given same p =
+    subst (λ (t : Terms). PlansIn (t .kind) (t .n) (t .wanted) (t .groups) (joined (w .segments)) given) same
+    (record { accepts = p .accepts; arrives = p .arrives; shortest = p .shortest })
 
 -- A later frame that is not refused is answered a road of fewest turns, from its stack to the wanted one.
-later-means : (w : World) (kind n : ℕ) (wanted : List ℤ) (cs : List ℕ) → isReported kind n ≡ true → Finishes kind n wanted w → laterRefusal kind n cs ≡ 0
-    → Answers kind n wanted (joined (w .segments)) cs
-later-means w kind n wanted cs reported f h =
-    answers kind n wanted (joined (w .segments)) cs h
-    (plans-in w kind n wanted (reportGroups kind n) (placesOf (bytesOf cs)) (f .given-kind) (f .given-n) (f .given-wanted)
-    (f .given-groups ∙ sym (groups-some kind n reported))
-    (f .plans (placesOf (bytesOf cs)) (replicate planLimit 0) (later-is-stack kind n cs h) (omega arith)))
+later-means : (w : World) (terms : Terms) (cs : List ℕ) → terms .groups ≡ reportGroups (terms .kind) (terms .n) → Finishes terms w
+    → laterRefusal (terms .kind) (terms .n) cs ≡ 0 → Answers (terms .kind) (terms .n) (terms .wanted) (joined (w .segments)) cs
+later-means w terms cs full f h =
+    let given = placesOf (bytesOf cs) in
+    answers (terms .kind) (terms .n) (terms .wanted) (joined (w .segments)) cs h
+    (subst (λ (g : ℕ). PlansIn (terms .kind) (terms .n) (terms .wanted) g (joined (w .segments)) given) full
+    (plans-in w terms given (f .given-terms) (f .plans given (replicate planLimit 0) (later-is-stack (terms .kind) (terms .n) cs h) (omega arith))))
 
 total-zeros : (xs : List ℕ) → ((i : ℕ) → getD xs i 0 ≡ 0) → total xs ≡ 0
 unfolding total
@@ -170,7 +169,11 @@ module _ (cs table : List ℕ) (h : firstRefusal cs ≡ 0) (long : length table 
   passes : FirstPasses cs
   passes = first-passes cs h
 
-  given : Given (termsWith kind n wanted (allGroups kind n) S reportRoom)
+  -- what its build is given
+  abbrev terms : Terms
+  terms = termsOf kind n wanted (allGroups kind n) S reportRoom
+
+  given : Given terms
   unfolding isLogRoom
   given = record { is-kind = passes .is-kind; in-range = passes .in-range; stack = passes .stack; of-set = all-groups kind n (passes .in-range); segments = passes .segments; room = refl }
 
@@ -185,37 +188,37 @@ module _ (cs table : List ℕ) (h : firstRefusal cs ≡ 0) (long : length table 
   part-length : length part ≡ tableBytes kind n
   part-length = length-take-le (tableBytes kind n) table (omega (arith, table-some kind n (bytesFor (stackCount kind n)) reported refl))
 
-  words-are : logWords kind n S ≡ rightWords kind n S reportRoom
+  words-are : logWords kind n S ≡ rightWords terms
   unfolding rightWords
   words-are = sym (log-some kind n S (segmentCount (stackCount kind n) S) reported (passes .segments) refl .0)
 
   listed-are : changedBytes kind n S ≡ listBytes (stackCountIn (stackCount kind n) S 0)
   listed-are = sym (changed-some kind n S (listBytes (stackCountIn (stackCount kind n) S 0)) reported refl .0)
 
-  accepted : buildRefusal kind n wanted (allGroups kind n) S reportRoom (length part) (length log) (length list) ≡ 0
+  accepted : buildRefusal terms (length part) (length log) (length list) ≡ 0
   unfolding buildRefusal
   accepted =
       rw (
-        given-begin (termsWith kind n wanted (allGroups kind n) S reportRoom) given,
+        given-begin terms given,
         eq-eqb (length part) (bytesFor (stackCount kind n)) (part-length ∙ bytes-are),
-        eq-eqb (length log) (rightWords kind n S reportRoom) (length-replicate (logWords kind n S) 0 ∙ words-are),
+        eq-eqb (length log) (rightWords terms) (length-replicate (logWords kind n S) 0 ∙ words-are),
         eq-eqb (length list) (listBytes (stackCountIn (stackCount kind n) S 0)) (length-replicate (changedBytes kind n S) 0 ∙ listed-are),
       )
 
-  builds : Builds kind n wanted (allGroups kind n) S reportRoom part log list
-  builds = build-ends kind n wanted (allGroups kind n) S reportRoom part log list accepted
+  builds : Builds terms part log list
+  builds = build-ends terms part log list accepted
 
   abbrev end : World
-  end = built kind n wanted (allGroups kind n) S reportRoom part log list
+  end = built terms part log list
 
-  finishes : Finishes kind n wanted end
-  finishes = build-finishes kind n wanted S reportRoom part log list accepted .1
+  finishes : Finishes terms end
+  finishes = build-finishes terms part log list refl accepted .1
 
   built-end : builtIn kind n wanted S table ≡ (joined (end .segments) ++ drop (tableBytes kind n) table, end .job)
   unfolding builtIn
   built-end =
       ap (λ (x : List ℕ × List ℕ × List ℕ × Answer). (x .0 ++ drop (tableBytes kind n) table, x .3 .job))
-      (ap (λ (g : ℕ). buildOf kind n wanted g S reportRoom part log list) (groups-some kind n reported) ∙ builds .leaves)
+      (ap (λ (g : ℕ). buildOf (termsOf kind n wanted g S reportRoom) part log list) (groups-some kind n reported) ∙ builds .leaves)
 
   -- the part of the table that later frames are answered from
   table-is : take (tableBytes kind n) (builtIn kind n wanted S table .0) ≡ joined (end .segments)
@@ -231,7 +234,7 @@ module _ (cs table : List ℕ) (h : firstRefusal cs ≡ 0) (long : length table 
   deepest-low : deepest ≤ lastLevel
   deepest-low =
       let s = finishes .deepest in
-      omega (arith, few-turns kind n wanted (given .in-range) (given .stack) (s .0) deepest (s .1) (s .2))
+      omega (arith, few-turns given (s .0) deepest (s .1) (s .2))
 
   counts-at : (d : ℕ) → d ≤ deepest → CountsAt kind n wanted d (countOf (end .job) d)
   counts-at d l = finishes .counts d (omega (arith, deepest-low))
@@ -317,7 +320,7 @@ module _ (cs table : List ℕ) (h : firstRefusal cs ≡ 0) (long : length table 
         reached = finishes .deepest;
         greatest = finishes .greatest;
         refused = λ ds ne. sym (later-refused kind n wanted (joined (end .segments)) ds (laterOf kind n ds) refl ne);
-        planned = λ ds z. later-means end kind n wanted ds reported finishes z;
+        planned = λ ds z. later-means end terms ds (sym (groups-some kind n reported)) finishes z;
       })
 
 -- The report of an accepted first frame: its counts are the numbers of stacks at each distance, its total is their sum and the number of

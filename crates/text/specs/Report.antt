@@ -23,6 +23,7 @@ use Rattle.search.specs.Drive.{buildOf}
 use Rattle.search.specs.JobState.{levelOf}
 use Rattle.search.specs.Plan.{planOf, planLimit}
 use Rattle.search.specs.Segments.{segmentCount, stackCountIn, isSegmentSize}
+use Rattle.search.specs.Terms.{termsOf}
 use Rattle.search.specs.declared.Job.{Job}
 use Rattle.text.specs.Frame.{stackLimit, reportRoom, firstOf, laterOf}
 use Rattle.text.specs.Output.{levelCounts, levelLines, deepestLine, totalLine, planLine, refusalLine}
@@ -60,7 +61,7 @@ module _ (kind n : ℕ) (wanted : List ℤ) where
       let bytes = tableBytes kind n in
       let log : List ℕ = replicate (logWords kind n S) 0 in
       let list : List ℕ = replicate (changedBytes kind n S) 0 in
-      let end = buildOf kind n wanted (reportGroups kind n) S reportRoom (take bytes table) log list in
+      let end = buildOf (termsOf kind n wanted (reportGroups kind n) S reportRoom) (take bytes table) log list in
       (end .0 ++ drop bytes table, end .3 .job)
 
   -- the plan of a stack, or Plan's refusal

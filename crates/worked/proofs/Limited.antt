@@ -19,33 +19,33 @@ use Rattle.search.specs.PromiseBy.{FewestIn, CountsIn, NoRoad, EntryBy, Needs, 
 use Rattle.search.specs.Segments.{joined}
 use Rattle.search.proofs.WholeTable.{build-ends}
 use Rattle.worked.specs.Cases.{plain, ordered, anyList}
-use Rattle.worked.specs.Limited.{only-2, near, Limited}
+use Rattle.worked.specs.Limited.{only-2, near, frame, Limited}
 use Rattle.worked.specs.PlainThree.{given}
 use Rattle.worked.proofs.Open.{all-open}
 
 abbrev end : World
-end = built plain 3 (ordered 3) only-2 8 16 (0 ∷ 0 ∷ []) (replicate 16 0) (0 ∷ [])
+end = built (frame only-2) (0 ∷ 0 ∷ []) (replicate 16 0) (0 ∷ [])
 
-builds : Builds plain 3 (ordered 3) only-2 8 16 (0 ∷ 0 ∷ []) (replicate 16 0) (0 ∷ [])
+builds : Builds (frame only-2) (0 ∷ 0 ∷ []) (replicate 16 0) (0 ∷ [])
 unfolding all-open
-builds = build-ends plain 3 (ordered 3) only-2 8 16 (0 ∷ 0 ∷ []) (replicate 16 0) (0 ∷ []) refl
+builds = build-ends (frame only-2) (0 ∷ 0 ∷ []) (replicate 16 0) (0 ∷ []) refl
 
 -- it ends in level 1, so that no stack needs 255 turns
-none-deep : Needs plain 3 only-2 (ordered 3) lastLevel → ⊥
+none-deep : Needs (frame only-2) lastLevel → ⊥
 unfolding all-open
 none-deep s = omega (arith, ap levelOf (builds .stands s .level))
 
-finishes : FinishesBy plain 3 only-2 (ordered 3) end
+finishes : FinishesBy (frame only-2) end
 finishes = builds .finishes none-deep .1
 
-entry-of : (s : List ℤ) → isStack plain 3 s ≡ true → EntryBy plain 3 only-2 (ordered 3) s (entryAt (joined (end .segments)) (rankOf plain 3 s))
+entry-of : (s : List ℤ) → isStack plain 3 s ≡ true → EntryBy (frame only-2) s (entryAt (joined (end .segments)) (rankOf plain 3 s))
 entry-of = finishes .entries
 
-roadless : NoRoad plain 3 only-2 (ordered 3) given
+roadless : NoRoad (frame only-2) given
 unfolding all-open
 roadless = go (entry-of given refl)
   where
-    go : EntryBy plain 3 only-2 (ordered 3) given 3 → NoRoad plain 3 only-2 (ordered 3) given
+    go : EntryBy (frame only-2) given 3 → NoRoad (frame only-2) given
     go (inl r) = absurd (omega (arith, r .2, mod-lt (r .0) {m = 3} (omega arith)))
     go (inr r) = r .0
 

@@ -8,6 +8,7 @@ use Rattle.stacks.specs.Turn
 use Rattle.stacks.specs.Operations
 use Rattle.search.specs.Entries
 use Rattle.search.specs.Segments
+use Rattle.search.specs.Terms
 use Rattle.search.specs.JobState
 use Rattle.search.specs.Begin
 use Rattle.search.specs.Blank
@@ -68,7 +69,7 @@ unfolding JobState.isBlanking JobState.isLevel JobState.isFinished JobState.isRe
 phases = tt
 
 coherence : Unit {0}
-unfolding JobState.beginRefusal JobState.countLimit JobState.segmentFits JobState.countFits JobState.sweptFits JobState.loadedFits JobState.isCoherent
+unfolding Terms.beginRefusal JobState.countLimit JobState.segmentFits JobState.countFits JobState.countsFit JobState.sweptFits JobState.loadedFits JobState.isCoherent
 coherence = tt
 
 begins : Unit {0}

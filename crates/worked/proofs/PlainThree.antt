@@ -24,11 +24,11 @@ use Rattle.search.specs.PromiseBy.{PlanArrives}
 use Rattle.search.proofs.Finishing.{plan-arrives}
 use Rattle.search.proofs.AllTurns.{full-road, whole-build}
 use Rattle.worked.specs.Cases.{plain, ordered, anyList}
-use Rattle.worked.specs.PlainThree.{Calls, start, part, end, early, calls, given, table, PlainThree, all}
+use Rattle.worked.specs.PlainThree.{Calls, start, part, end, early, calls, given, table, PlainThree, all, terms}
 use Rattle.worked.proofs.Open.{all-open}
 
 -- The theorem's clauses over any world of which the table, the level and the counts are known: no clause computes the calls anew.
-module _ (w : World) (f : Finishes plain 3 (ordered 3) w) where
+module _ (w : World) (f : Finishes terms w) where
   module _ (bytes : joined (w .segments) ≡ table) where
     entries-of : (s : List ℤ) → isStack plain 3 s ≡ true → (d : ℕ) × Fewest plain 3 s (ordered 3) d × (entryAt table (rankOf plain 3 s) ≡ d % 3)
     entries-of =
@@ -71,24 +71,24 @@ module _ (w : World) (f : Finishes plain 3 (ordered 3) w) where
         (f .counts d (omega arith))
 
 module _ (first second : ℕ) (words : ℕ → ℕ) where
-  pub buffers : Buffers plain 3 4 16 (start first second words .segments) (start first second words .log)
+  pub buffers : Buffers terms (start first second words .segments) (start first second words .log)
   unfolding all-open
   buffers = record { some = refl; each = each; area = refl }
     where
-      each : (j : ℕ) → j < 2 → length (getD ((first ∷ []) ∷ (second ∷ []) ∷ []) j []) ≡ rightBytes plain 3 4 j
+      each : (j : ℕ) → j < 2 → length (getD ((first ∷ []) ∷ (second ∷ []) ∷ []) j []) ≡ rightBytes terms j
       each zero h = refl
       each (suc zero) h = refl
       each (suc (suc j)) h = absurd (omega arith)
 
-  promise : (list : Calls) → Promise plain 3 (ordered 3) (rightLengths plain 3 4 16) (start first second words) list
+  promise : (list : Calls) → Promise terms (rightLengths terms) (start first second words) list
   unfolding all-open WholeBuild
-  promise = whole-build plain 3 (ordered 3) 4 16 (start first second words .segments) (start first second words .log) [] refl buffers
+  promise = whole-build terms (start first second words .segments) (start first second words .log) [] refl refl buffers
 
   pub finished : isFinished (end first second words .job .phase) ≡ true
   unfolding all-open
   finished = refl
 
-  finishes : Finishes plain 3 (ordered 3) (end first second words)
+  finishes : Finishes terms (end first second words)
   finishes = promise calls .finishes finished
 
   leaves : joined (end first second words .segments) ≡ table
@@ -109,7 +109,7 @@ module _ (first second : ℕ) (words : ℕ → ℕ) where
   close : FinishedByClose (start first second words) calls
   close = promise calls .by-close finished
 
-  next : Continues (rightLengths plain 3 4 16) (part first second words)
+  next : Continues (rightLengths terms) (part first second words)
   unfolding all-open
   next = promise early .continues refl
 
@@ -148,10 +148,7 @@ module _ (first second : ℕ) (words : ℕ → ℕ) where
           all-seen = all-seen-of (end first second words) finishes leaves;
           deepest = deepest-of (end first second words) finishes level;
           greatest = greatest-of (end first second words) finishes level;
-          same-kind = finishes .given-kind;
-          same-n = finishes .given-n;
-          same-wanted = finishes .given-wanted;
-          same-groups = finishes .given-groups;
+          same-terms = finishes .given-terms;
           accepts = plans .accepts;
           turns = refl;
           road = plans .arrives;
@@ -161,5 +158,5 @@ module _ (first second : ℕ) (words : ℕ → ℕ) where
           larger = record { turns = refl; arrives = refl };
           takes-larger = refl;
           spoilt = refl;
-          spoilt-road = full-road plain 3 refl (plan-arrives plain 3 (ordered 3) given all (0x90 ∷ 0xf5 ∷ []) (anyList slots planLimit) refl .0);
+          spoilt-road = full-road plain 3 all refl refl (plan-arrives plain 3 (ordered 3) given all (0x90 ∷ 0xf5 ∷ []) (anyList slots planLimit) refl .0);
         }

@@ -14,16 +14,16 @@ use Rattle.tariff.proofs.Rearranging.{any-order, split-alike}
 use Rattle.tariff.proofs.Rounding.{rounded-once}
 use Rattle.tariff.proofs.TariffLaws.{one-price-each}
 use Rattle.worked.specs.Cases.{plain, ordered, anyList}
-use Rattle.worked.specs.PlainThree.{all, start, end, calls, given, table}
+use Rattle.worked.specs.PlainThree.{all, terms, start, end, calls, given, table}
 use Rattle.worked.specs.Pricing.{example, swapped, single, Pricing}
 use Rattle.worked.proofs.Open.{all-open}
 use Rattle.worked.proofs.PlainThree.{buffers, finished}
 
 module _ (slots : ℕ → ℕ) (first second : ℕ) (words : ℕ → ℕ) where
-  prices : (tariff : Tariff) → Prices plain 3 all (ordered 3) (end first second words) given (anyList slots planLimit) tariff
+  prices : (tariff : Tariff) → Prices terms (end first second words) given (anyList slots planLimit) tariff
   unfolding all-open PriceFinished
   prices tariff =
-      price-finished plain 3 (ordered 3) all 4 16 (start first second words .segments) (start first second words .log) [] refl (buffers first second words) calls
+      price-finished terms (start first second words .segments) (start first second words .log) [] refl (buffers first second words) calls
       (finished first second words) given (anyList slots planLimit) tariff refl (omega arith) .0 (3 ∷ 2 ∷ []) (record { turns = refl; arrives = refl })
 
   pub pricing : Pricing slots first second words
@@ -69,6 +69,6 @@ module _ (slots : ℕ → ℕ) (first second : ℕ) (words : ℕ → ℕ) where
               fits = omega arith;
             });
         refused = λ tariff. prices tariff .refuses;
-        arrives = full-road plain 3 refl (prices example .arrives refl);
-        fewest = full-fewest plain 3 refl (prices example .shortest refl);
+        arrives = full-road plain 3 all refl refl (prices example .arrives refl);
+        fewest = full-fewest plain 3 all refl refl (prices example .shortest refl);
       }

@@ -11,8 +11,7 @@ use Rattle.search.specs.JobState.{stackCountAt, passedOf, waitingOf, isSwept}
 use Rattle.search.specs.Promise.{rightLengths}
 use Rattle.search.specs.declared.Way.the-variants.{Forward}
 use Rattle.search.proofs.EitherWay.{either-way, either-way-closed}
-use Rattle.worked.specs.Cases.{plain, ordered}
-use Rattle.worked.specs.PlainThree.{start, all}
+use Rattle.worked.specs.PlainThree.{start, terms}
 use Rattle.worked.specs.Reverse.{mixed, forward, half, searched, straight, Reversed}
 use Rattle.worked.proofs.Open.{all-open}
 use Rattle.worked.proofs.PlainThree.{buffers}
@@ -52,10 +51,10 @@ module _ (first second : ℕ) (words : ℕ → ℕ) where
       settled (suc zero) h = refl
       settled (suc (suc j)) h = absurd (omega arith)
 
-  same : SameLevel (rightLengths plain 3 4 16) (searched first second words) (straight first second words)
+  same : SameLevel (rightLengths terms) (searched first second words) (straight first second words)
   unfolding all-open EitherWay
   same =
-      either-way plain 3 (ordered 3) all 4 16 (start first second words .segments) (start first second words .segments) (start first second words .log) (start first second words .log) [] []
+      either-way terms (start first second words .segments) (start first second words .segments) (start first second words .log) (start first second words .log) [] []
       refl (buffers first second words) (buffers first second words) (take 22 mixed) (take 7 forward) 1 mixed-whole forward-whole
 
   -- both lists end in a Close of level 1
@@ -70,7 +69,7 @@ module _ (first second : ℕ) (words : ℕ → ℕ) where
   same-closed : SameClosed (half first second words) (after (start first second words) forward)
   unfolding all-open EitherWayClosed
   same-closed =
-      either-way-closed plain 3 (ordered 3) all 4 16 (start first second words .segments) (start first second words .segments) (start first second words .log) (start first second words .log) [] []
+      either-way-closed terms (start first second words .segments) (start first second words .segments) (start first second words .log) (start first second words .log) [] []
       refl (buffers first second words) (buffers first second words) mixed forward 1 mixed-closes forward-closes
 
   pub reversed : Reversed first second words

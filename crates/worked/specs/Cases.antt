@@ -14,14 +14,15 @@ use native.Mathlib.Omega.{arith}
 use lib.IntN.{ℤ, pos, negℤ}
 use lib.ListN.{take, replicate, length-replicate}
 use Rattle.base.specs.Words.{from}
-use Rattle.stacks.specs.Stack.{stackPlaces, stackCount}
+use Rattle.stacks.specs.Stack.{stackPlaces}
 use Rattle.search.specs.Begin.{beginOf}
 use Rattle.search.specs.Build.{World, Lengths, Lent, Call, own, other, ownList, doBlank, doExpand, doSettle, doLoad, doSweep, doClose, outcome, after}
 use Rattle.stacks.specs.Turn.{allGroups}
 use Rattle.search.specs.Drive.{buildOf}
 use Rattle.search.specs.Promise.{rightBytes, rightWords, rightLengths}
-use Rattle.search.specs.Segments.{segmentCount}
+use Rattle.search.specs.Terms.{G, termsOf}
 use Rattle.search.specs.declared.Answer.{Answer}
+use Rattle.search.specs.declared.Terms.{Terms}
 use Rattle.search.specs.declared.Way.{Way}
 use Rattle.search.specs.declared.Way.the-variants.{Forward}
 
@@ -80,19 +81,20 @@ module _ {right : Lengths} where
       ∷ []
 
 module _ (kind n S : ℕ) where
+  abbrev pub terms : Terms
+  terms = termsOf kind n (ordered n) (allGroups kind n) S 16
+
   unfoldable pub startOf : World
   startOf =
       record {
-        job = beginOf kind n (ordered n) (allGroups kind n) S 16 .job;
-        segments = map (λ j. replicate (rightBytes kind n S j) 0) (from 0 (segmentCount (stackCount kind n) S));
-        log = replicate (rightWords kind n S 16) 0;
+        job = beginOf terms .job;
+        segments = map (λ j. replicate (rightBytes terms j) 0) (from 0 (G terms));
+        log = replicate (rightWords terms) 0;
         changed = [];
       }
 
   unfoldable pub endOf : ℕ → World
-  endOf d =
-      let G = segmentCount (stackCount kind n) S in
-      after {right = rightLengths kind n S 16} startOf (blankAll G ++ searchLevels G d)
+  endOf d = after {right = rightLengths terms} startOf (blankAll (G terms) ++ searchLevels (G terms) d)
 
   unfoldable pub whole : ℕ → ℕ → ℕ → List ℕ × List ℕ × List ℕ × Answer
-  whole bytes words listed = buildOf kind n (ordered n) (allGroups kind n) S 16 (replicate bytes 0) (replicate words 0) (replicate listed 0)
+  whole bytes words listed = buildOf terms (replicate bytes 0) (replicate words 0) (replicate listed 0)

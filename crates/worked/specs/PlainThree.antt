@@ -23,13 +23,22 @@ use Rattle.search.specs.JobState.{countOf, isFinished}
 use Rattle.search.specs.Plan.{planLimit, planOf}
 use Rattle.search.specs.Promise.{rightLengths, FinishedByClose}
 use Rattle.search.specs.Segments.{joined}
+use Rattle.search.specs.Terms.{termsOf}
 use Rattle.search.specs.declared.Phase.the-variants.{Level, Finished}
+use Rattle.search.specs.declared.Terms.{Terms}
 use Rattle.search.specs.declared.Way.{Way}
 use Rattle.search.specs.declared.Way.the-variants.{Forward}
 use Rattle.worked.specs.Cases.{plain, up, places, ordered, anyList, tooLong, refusals, searchLevels}
 
+abbrev pub all : ℕ
+all = allGroups plain 3
+
+-- what Begin is given
+abbrev pub terms : Terms
+terms = termsOf plain 3 (ordered 3) all 4 16
+
 abbrev pub Calls : Type 0
-Calls = List (Call (rightLengths plain 3 4 16))
+Calls = List (Call (rightLengths terms))
 
 unfoldable pub early : Calls
 early =
@@ -57,9 +66,6 @@ calls =
     ∷ (searchLevels 2 3 ++ (doClose Forward ∷ doExpand 0 own own ∷ doLook 0 own ∷ [])))
 
 -- sizes 2 and 3
-abbrev pub all : ℕ
-all = allGroups plain 3
-
 -- plain 3 1 2
 abbrev pub given : List ℤ
 given = places (up 3 ∷ up 1 ∷ up 2 ∷ [])
@@ -76,7 +82,7 @@ module _ (first second : ℕ) (words : ℕ → ℕ) where
   unfoldable pub start : World
   start =
       record {
-        job = begun plain 3 (ordered 3) all 4 16;
+        job = begun terms;
         segments = (first ∷ []) ∷ (second ∷ []) ∷ [];
         log = anyList words 32;
         changed = [];
@@ -90,14 +96,14 @@ module _ (first second : ℕ) (words : ℕ → ℕ) where
 
   -- slots are what the turn list held before
   pub record PlainThree (slots : ℕ → ℕ) : Type 0 where
-    pub begins : beginOf plain 3 (ordered 3) all 4 16 ≡ record { refusal = 0; job = begun plain 3 (ordered 3) all 4 16 }
+    pub begins : beginOf terms ≡ record { refusal = 0; job = begun terms }
     pub answers : refusals start early ≡ 9 ∷ 0 ∷ 13 ∷ 10 ∷ 8 ∷ 0 ∷ 11 ∷ 0 ∷ 0 ∷ 10 ∷ 0 ∷ []
     -- part of the list: no call has finished the build, so one carries it on; 31 levels suffice, and no Close says 14
     pub part-way : part .job .phase ≡ Level 1
-    pub continues : (call : Call (rightLengths plain 3 4 16)) × (isLentOwn call ≡ true) × (outcome part call .refusal ≡ 0)
+    pub continues : (call : Call (rightLengths terms)) × (isLentOwn call ≡ true) × (outcome part call .refusal ≡ 0)
         × CarriesOn part (outcome part call .world)
     pub levels : (d : ℕ) → part .job .phase ≡ Level d → d ≤ 31
-    pub closes : (way : Way) → outcome {right = rightLengths plain 3 4 16} part (doClose way) .refusal ≡ 14 → ⊥
+    pub closes : (way : Way) → outcome {right = rightLengths terms} part (doClose way) .refusal ≡ 14 → ⊥
     pub ends : (more : Calls) × (isFinished (after start (early ++ more) .job .phase) ≡ true)
     -- the whole list: a Close of it has finished the build, and whatever follows leaves it so
     pub finished : end .job .phase ≡ Finished 3
@@ -123,11 +129,8 @@ module _ (first second : ℕ) (words : ℕ → ℕ) where
     -- the deepest level, 3, is reached, and no stack needs more
     pub deepest : (s : List ℤ) × (isStack plain 3 s ≡ true) × Fewest plain 3 s (ordered 3) 3
     pub greatest : (s : List ℤ) (d : ℕ) → isStack plain 3 s ≡ true → Fewest plain 3 s (ordered 3) d → d ≤ 3
-    -- Plan gets the job's kind, n, wanted stack and set, which are Begin's
-    pub same-kind : end .job .kind ≡ plain
-    pub same-n : end .job .n ≡ 3
-    pub same-wanted : end .job .wanted ≡ ordered 3
-    pub same-groups : end .job .groups ≡ all
+    -- Plan gets what Begin was given
+    pub same-terms : end .job .terms ≡ terms
     -- Plan takes 3 1 2 to the ordered stack by turns 3 and 2, and no road is shorter
     pub accepts : planOf plain 3 (ordered 3) given all table (anyList slots planLimit) .1 .refusal ≡ 0
     pub turns : planOf plain 3 (ordered 3) given all table (anyList slots planLimit) .1 .turns ≡ 2

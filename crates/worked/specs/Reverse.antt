@@ -14,8 +14,8 @@ use Rattle.search.specs.Segments.{joined}
 use Rattle.search.specs.declared.Phase.the-variants.{Level, Finished}
 use Rattle.search.specs.declared.Way.{Way}
 use Rattle.search.specs.declared.Way.the-variants.{Forward, Reverse}
-use Rattle.worked.specs.Cases.{plain, tooLong, refusals, blankAll, searchLevel, sweepLevel}
-use Rattle.worked.specs.PlainThree.{Calls, start}
+use Rattle.worked.specs.Cases.{tooLong, refusals, blankAll, searchLevel, sweepLevel}
+use Rattle.worked.specs.PlainThree.{Calls, terms, start}
 
 unfoldable pub mixed : Calls
 mixed =
@@ -96,10 +96,10 @@ module _ (first second : ℕ) (words : ℕ → ℕ) where
     -- what the theorem says of level 1, searched whole by either way: equal segments and counts, and Close does the same
     pub alike : searched .segments ≡ straight .segments
     pub counted : searched .job .counts ≡ straight .job .counts
-    pub answered : (way way′ : Way) → outcome {right = rightLengths plain 3 4 16} searched (doClose way) .refusal
-        ≡ outcome {right = rightLengths plain 3 4 16} straight (doClose way′) .refusal
-    pub leads : (way way′ : Way) → outcome {right = rightLengths plain 3 4 16} searched (doClose way) .world .job .phase
-        ≡ outcome {right = rightLengths plain 3 4 16} straight (doClose way′) .world .job .phase
+    pub answered : (way way′ : Way) → outcome {right = rightLengths terms} searched (doClose way) .refusal
+        ≡ outcome {right = rightLengths terms} straight (doClose way′) .refusal
+    pub leads : (way way′ : Way) → outcome {right = rightLengths terms} searched (doClose way) .world .job .phase
+        ≡ outcome {right = rightLengths terms} straight (doClose way′) .world .job .phase
     -- and when the two lists have just closed it
     pub closed : half .segments ≡ after (start first second words) forward .segments
     pub closed-counts : half .job .counts ≡ after (start first second words) forward .job .counts

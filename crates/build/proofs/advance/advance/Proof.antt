@@ -12,7 +12,7 @@ is-blanking-requires c κs = search needs
 advance-blanking-requires : tie.Need-advance-blanking-requires
 advance-blanking-requires c κs =
     let s = c .before .before .before .before .before .before in
-    (s .pre .0, s .pre .1, sym (c .before .before .is-blanking .ensures) ∙ c .before .if1 .taken)
+    (s .pre .coherent, s .pre .bytes, sym (c .before .before .is-blanking .ensures) ∙ c .before .if1 .taken)
 
 same-length : tie.Need-same-length
 same-length c = search needs
@@ -34,7 +34,7 @@ unfolding inReverse
 advance-reverse-requires c κs =
     let s = c .before .before .before .before .before .before .before .before .before in
     let f = c .before .before .before .in-reverse in
-    (s .pre .0, s .pre .1, s .pre .2, blanked (c .before .before .before .before), sym (f .ensures) ∙ c .before .before .if2 .taken)
+    record { step = s .pre; blanked = blanked (c .before .before .before .before); reverse = sym (f .ensures) ∙ c .before .before .if2 .taken }
 
 same-length-2 : tie.Need-same-length-2
 same-length-2 c = search needs
@@ -50,7 +50,7 @@ unfolding inReverse
 advance-forward-requires c κs =
     let s = c .before .before .before .before .before .before .before .before .before in
     let f = c .before .before .before .in-reverse in
-    (s .pre .0, s .pre .1, blanked (c .before .before .before .before), sym (f .ensures) ∙ c .before .before .if2 .left)
+    (s .pre .coherent, s .pre .bytes, blanked (c .before .before .before .before), sym (f .ensures) ∙ c .before .before .if2 .left)
 
 same-length-4 : tie.Need-same-length-4
 same-length-4 c = search needs

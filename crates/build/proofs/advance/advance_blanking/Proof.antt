@@ -4,35 +4,39 @@ use native.Mathlib.Omega.{arith}
 use borrow.Author.Needs.{needs}
 use Rattle.search.specs.Drive.{firstOpen}
 use Rattle.search.specs.JobState.{stackCountOf, segmentCountOf}
-use Rattle.job.proofs.Bounds.{coherent-sizes}
+use Rattle.job.proofs.Bounds.{coherent-begins, coherent-bounds}
 use Rattle.build.proofs.Advances.{advance-blanks, advance-opens}
 use Rattle.build.proofs.Choosing.{open-is}
 use Rattle.build.proofs.advance.advance_blanking.Statement.{statement}
 use Rattle.build.proofs.advance.advance_blanking.Tie as tie
 
 segment-count-of-requires : tie.Need-segment-count-of-requires
-segment-count-of-requires c κs = let s = c .before in coherent-sizes (s .args .job) (s .pre .0)
+segment-count-of-requires c κs = let s = c .before .before in coherent-begins (s .args .job) (s .pre .0)
 
 stack-count-requires : tie.Need-stack-count-requires
-stack-count-requires c κs = let s = c .before .before in coherent-sizes (s .args .job) (s .pre .0) .0
+stack-count-requires c κs = let s = c .before .before .before in coherent-bounds (s .args .job) (s .pre .0) .is-pane-count
 
 first-open-requires : tie.Need-first-open-requires
 first-open-requires c κs = search needs
 
 -- the first open segment
-opened : (c : tie.After-first-open) → c .first-open .result ≡ firstOpen (c .before .before .before .before .before .args .job)
+abbrev start : tie.After-first-open → tie.Start
+start c = c .before .before .before .before .before .before
+
+opened : (c : tie.After-first-open) → c .first-open .result ≡ firstOpen (start c .args .job)
 opened c =
     let n = c .before .before in
     let g = n .before in
-    open-is (c .before .before .before .before .before .args .job) (g .segment-count-of .result) (g .segment-count-of .ensures .0) (n .stack-count .result) (c .first-open .result)
+    open-is (start c .args .job) (g .segment-count-of .result) (g .segment-count-of .ensures .0) (n .stack-count .result) (c .first-open .result)
     (n .stack-count .ensures)
     (c .first-open .ensures)
 
 blank-part-requires : tie.Need-blank-part-requires
 unfolding segmentCountOf stackCountOf
 blank-part-requires c κs =
-    let s = c .before .before .before .before .before .before .before in
-    (s .pre .0, omega (arith, c .before .before .before .before .before .segment-count-of .ensures .0, c .before .if1 .taken), s .pre .1)
+    let o = c .before .before in
+    let s = start o in
+    (s .pre .0, omega (arith, o .before .before .before .segment-count-of .ensures .0, c .before .if1 .taken), s .pre .1)
 
 same-length : tie.Need-same-length
 same-length c = search needs
@@ -41,7 +45,7 @@ returns : tie.Need-returns
 unfolding segmentCountOf stackCountOf
 returns c =
     let o = c .before .before .before .before .before .before in
-    let s = o .before .before .before .before .before in
+    let s = start o in
     let a = s .args in
     let f = c .before .before .before .blank-part in
     λ log list.
@@ -57,7 +61,7 @@ returns-2 : tie.Need-returns-2
 unfolding segmentCountOf stackCountOf
 returns-2 c =
     let o = c .before .before in
-    let s = o .before .before .before .before .before in
+    let s = start o in
     let a = s .args in
     λ log list.
     advance-opens (a .job) (a .table .now) log list (s .pre .0) (s .pre .1) (c .close-phase .result) (c .close-phase .ensures) (s .pre .2)

@@ -5,29 +5,34 @@ use native.Mathlib.Omega.{arith}
 use borrow.Author.Needs.{needs}
 use Rattle.search.specs.Drive.{firstOpen, firstPending}
 use Rattle.search.specs.JobState.{stackCountOf, segmentCountOf}
-use Rattle.job.proofs.Bounds.{coherent-sizes}
+use Rattle.job.proofs.Bounds.{coherent-begins, coherent-bounds}
 use Rattle.build.proofs.Advances.{advance-settles, advance-expands, advance-closes}
 use Rattle.build.proofs.Choosing.{open-is, pending-is}
 use Rattle.build.proofs.advance.advance_forward.Statement.{statement}
 use Rattle.build.proofs.advance.advance_forward.Tie as tie
 
 segment-count-of-requires : tie.Need-segment-count-of-requires
-segment-count-of-requires c κs = let s = c .before .before in coherent-sizes (s .args .job) (s .pre .0)
+segment-count-of-requires c κs = let s = c .before .before .before in coherent-begins (s .args .job) (s .pre .0)
 
 first-pending-requires : tie.Need-first-pending-requires
 first-pending-requires c κs = search needs
 
+-- where the step began
+abbrev start : tie.After-first-pending → tie.Start
+start c = c .before .before .before .before .before .before
+
 -- the first segment with entries waiting
-waited : (c : tie.After-first-pending) → c .first-pending .result ≡ firstPending (c .before .before .before .before .before .args .job)
+waited : (c : tie.After-first-pending) → c .first-pending .result ≡ firstPending (start c .args .job)
 waited c =
     let g = c .before .before .segment-count-of in
-    pending-is (c .before .before .before .before .before .args .job) (g .result) (g .ensures .0) (c .first-pending .result) (c .first-pending .ensures)
+    pending-is (start c .args .job) (g .result) (g .ensures .0) (c .first-pending .result) (c .first-pending .ensures)
 
 settle-part-requires : tie.Need-settle-part-requires
 unfolding segmentCountOf stackCountOf
 settle-part-requires c κs =
-    let s = c .before .before .before .before .before .before .before .before in
-    (s .pre .0, omega (arith, c .before .before .before .before .before .segment-count-of .ensures .0, c .before .before .if1 .taken), s .pre .1)
+    let o = c .before .before .before in
+    let s = start o in
+    (s .pre .0, omega (arith, o .before .before .segment-count-of .ensures .0, c .before .before .if1 .taken), s .pre .1)
 
 same-length : tie.Need-same-length
 same-length c = search needs
@@ -39,7 +44,7 @@ returns : tie.Need-returns
 unfolding segmentCountOf stackCountOf
 returns c =
     let o = c .before .before .before .before .before .before .before in
-    let s = o .before .before .before .before .before in
+    let s = start o in
     let a = s .args in
     let f = c .before .before .before .settle-part in
     λ list.
@@ -49,31 +54,35 @@ returns c =
     (f .ensures)
 
 stack-count-requires : tie.Need-stack-count-requires
-stack-count-requires c κs = let s = c .before .before .before .before .before .before in coherent-sizes (s .args .job) (s .pre .0) .0
+stack-count-requires c κs = let s = start (c .before) in coherent-bounds (s .args .job) (s .pre .0) .is-pane-count
 
 first-open-requires : tie.Need-first-open-requires
 first-open-requires c κs = search needs
 
+-- where no entry was found waiting
+abbrev pended : tie.After-first-open → tie.After-first-pending
+pended c = c .before .before .before .before
+
 -- the first open segment, and that no entry waits
-opened : (c : tie.After-first-open) → c .first-open .result ≡ firstOpen (c .before .before .before .before .before .before .before .before .before .args .job)
+opened : (c : tie.After-first-open) → c .first-open .result ≡ firstOpen (start (pended c) .args .job)
 opened c =
     let n = c .before .before in
-    let g = n .before .before .before .before .segment-count-of in
-    open-is (c .before .before .before .before .before .before .before .before .before .args .job) (g .result) (g .ensures .0) (n .stack-count .result) (c .first-open .result) (n .stack-count .ensures)
+    let g = pended c .before .before .segment-count-of in
+    open-is (start (pended c) .args .job) (g .result) (g .ensures .0) (n .stack-count .result) (c .first-open .result) (n .stack-count .ensures)
     (c .first-open .ensures)
 
-settled : (c : tie.After-first-open) → let job = c .before .before .before .before .before .before .before .before .before .args .job in segmentCountOf job ≤ firstPending job
+settled : (c : tie.After-first-open) → let job = start (pended c) .args .job in segmentCountOf job ≤ firstPending job
 unfolding segmentCountOf stackCountOf
 settled c =
-    let w = c .before .before .before .before in
+    let w = pended c in
     omega (arith, waited w, w .before .before .segment-count-of .ensures .0, c .before .before .before .if1 .left)
 
 expand-part-requires : tie.Need-expand-part-requires
 unfolding segmentCountOf stackCountOf
 expand-part-requires c κs =
     let o = c .before .before .before in
-    let s = o .before .before .before .before .before .before .before .before .before in
-    (s .pre .0, omega (arith, o .before .before .before .before .before .before .segment-count-of .ensures .0, c .before .before .if2 .taken), s .pre .1)
+    let s = start (pended o) in
+    (s .pre .0, omega (arith, pended o .before .before .segment-count-of .ensures .0, c .before .before .if2 .taken), s .pre .1)
 
 same-length-3 : tie.Need-same-length-3
 same-length-3 c = search needs
@@ -85,12 +94,12 @@ returns-2 : tie.Need-returns-2
 unfolding segmentCountOf stackCountOf
 returns-2 c =
     let o = c .before .before .before .before .before .before .before .before .before in
-    let s = o .before .before .before .before .before .before .before .before .before in
+    let s = start (pended o) in
     let a = s .args in
     let f = c .before .before .before .before .before .expand-part in
     λ list.
     advance-expands (a .job) (a .table .now) (a .log .now) list (s .pre .2) (s .pre .3) (o .first-open .result) (opened o) (settled o)
-    (omega (arith, opened o, o .before .before .before .before .before .before .segment-count-of .ensures .0, c .before .before .before .before .before .before .before .before .if2 .taken))
+    (omega (arith, opened o, pended o .before .before .segment-count-of .ensures .0, c .before .before .before .before .before .before .before .before .if2 .taken))
     (f .last .1 .1 .0, f .last .1 .1 .1 .0, f .result)
     (f .ensures)
 
@@ -101,12 +110,12 @@ returns-3 : tie.Need-returns-3
 unfolding segmentCountOf stackCountOf
 returns-3 c =
     let o = c .before .before in
-    let s = o .before .before .before .before .before .before .before .before .before in
+    let s = start (pended o) in
     let a = s .args in
     λ list.
     advance-closes (a .job) (a .table .now) (a .log .now) list (s .pre .0) (s .pre .1) (c .close-phase .result) (c .close-phase .ensures) (s .pre .2) (s .pre .3)
     (settled o)
-    (omega (arith, opened o, o .before .before .before .before .before .before .segment-count-of .ensures .0, c .before .if2 .left))
+    (omega (arith, opened o, pended o .before .before .segment-count-of .ensures .0, c .before .if2 .left))
 
 pub advance-forward-spec : {M : Type 1} → statement M
 advance-forward-spec =

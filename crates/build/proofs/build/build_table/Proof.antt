@@ -4,54 +4,53 @@ use mathlib.Core.Bool.{false}
 use borrow.Author.Needs.{needs}
 use borrow.Author.Tests.{not-true, not-false}
 use lib.ListN.{length}
-use Rattle.stacks.specs.Stack.{stackCount}
 use Rattle.search.specs.Begin.{begun}
 use Rattle.search.specs.Drive.{hasEnded, storeOf}
+use Rattle.search.specs.Terms.{N}
 use Rattle.search.proofs.WholeTable.{Accepts, build-accepts, Driving, driving-coherent, driving-bytes, driving-list, driving-steps, driving-falls}
 use Rattle.search.proofs.WorkLeft.{workLeft}
-use Rattle.build.proofs.Building.{begin-zeros, begin-accepted, build-begins, build-wants, build-refused, build-ends, table-kept, log-kept, list-kept}
+use Rattle.build.proofs.Building.{begin-accepted, build-begins, build-keeps, build-refused, build-ends, table-kept, log-kept, list-kept}
 use Rattle.build.proofs.build.build_table.Statement.{statement}
 use Rattle.build.proofs.build.build_table.Tie as tie
 
 abbrev Inv-loop : tie.InvT-loop
-Inv-loop kind n groups size room table₀ log₀ list₀ refusal job₀ table log list job =
-    Driving kind n (job₀ .wanted) groups size room table₀ log₀ list₀ (storeOf job table log list)
+Inv-loop table₀ log₀ list₀ refusal job₀ table log list job = Driving (job₀ .terms) table₀ log₀ list₀ (storeOf job table log list)
 
 abbrev μ-loop : tie.MeasureT-loop
-μ-loop kind n groups size room table₀ log₀ list₀ refusal job₀ table log list job = workLeft (stackCount kind n) size job
+μ-loop table₀ log₀ list₀ refusal job₀ table log list job = workLeft (N (job₀ .terms)) (job₀ .terms .size) job
 
 build-refusal-requires : tie.Need-build-refusal-requires Inv-loop μ-loop
 build-refusal-requires c κs = search needs
 
-begun-job-requires : tie.Need-begun-job-requires Inv-loop μ-loop
-begun-job-requires c κs = search needs
+no-job-requires : tie.Need-no-job-requires Inv-loop μ-loop
+no-job-requires c κs = search needs
 
 returns : tie.Need-returns Inv-loop μ-loop
 returns c =
     let a = c .before .before .before .before .before .before .args in
     let f = c .before .before .build-refusal in
-    build-refused (a .kind) (a .n) (a .wanted) (a .groups) (a .size) (a .room) (a .table .now) (a .log .now) (a .list .now) (f .result) (f .ensures) (c .before .if1 .taken) (c .begun-job .result) (c .begun-job .ensures ∙ begin-zeros)
+    build-refused (a .terms) (a .table .now) (a .log .now) (a .list .now) (f .result) (f .ensures) (c .before .if1 .taken) (c .no-job .result) (c .no-job .ensures)
 
 -- what is not refused
-accepts : (c : tie.Else1 Inv-loop μ-loop) → let a = c .before .before .before .before .before .args in Accepts (a .kind) (a .n) (a .wanted) (a .groups) (a .size) (a .room) (length (a .table .now)) (length (a .log .now)) (length (a .list .now))
+accepts : (c : tie.Else1 Inv-loop μ-loop) → let a = c .before .before .before .before .before .args in Accepts (a .terms) (length (a .table .now)) (length (a .log .now)) (length (a .list .now))
 accepts c =
     let a = c .before .before .before .before .before .args in
-    build-accepts (a .kind) (a .n) (a .wanted) (a .groups) (a .size) (a .room) (length (a .table .now)) (length (a .log .now)) (length (a .list .now)) (sym (c .before .build-refusal .ensures) ∙ c .if1 .left)
+    build-accepts (a .terms) (length (a .table .now)) (length (a .log .now)) (length (a .list .now)) (sym (c .before .build-refusal .ensures) ∙ c .if1 .left)
 
-begun-job-requires-2 : tie.Need-begun-job-requires-2 Inv-loop μ-loop
-begun-job-requires-2 c κs = search needs
+begun-job-requires : tie.Need-begun-job-requires Inv-loop μ-loop
+begun-job-requires c κs = search needs
 
 -- the job that the loop starts with
-first-job : (c : tie.After-begun-job2 Inv-loop μ-loop) → let a = c .before .before .before .before .before .before .args in
-    c .begun-job2 .result ≡ begun (a .kind) (a .n) (a .wanted) (a .groups) (a .size) (a .room)
+first-job : (c : tie.After-begun-job Inv-loop μ-loop) → let a = c .before .before .before .before .before .before .args in
+    c .begun-job .result ≡ begun (a .terms)
 first-job c =
     let a = c .before .before .before .before .before .before .args in
-    c .begun-job2 .ensures ∙ begin-accepted (a .kind) (a .n) (a .wanted) (a .groups) (a .size) (a .room) (a .table .now) (a .log .now) (a .list .now) (accepts (c .before))
+    c .begun-job .ensures ∙ begin-accepted (a .terms) (a .table .now) (a .log .now) (a .list .now) (accepts (c .before))
 
 loop-holds : tie.Need-loop-holds Inv-loop μ-loop
 loop-holds c =
     let a = c .before .before .before .before .before .before .args in
-    build-begins (a .kind) (a .n) (a .wanted) (a .groups) (a .size) (a .room) (a .table .now) (a .log .now) (a .list .now) (c .begun-job2 .result) (first-job c) (accepts (c .before))
+    build-begins (a .terms) (a .table .now) (a .log .now) (a .list .now) (c .begun-job .result) (first-job c) (accepts (c .before))
 
 has-ended-requires : tie.Need-has-ended-requires Inv-loop μ-loop
 has-ended-requires c κs = search needs
@@ -59,7 +58,7 @@ has-ended-requires c κs = search needs
 advance-requires : tie.Need-advance-requires Inv-loop μ-loop
 advance-requires c κs =
     let driving = c .before .before .before .before .before .loop .inv in
-    (driving-coherent driving, driving-bytes driving, driving-list driving)
+    record { coherent = driving-coherent driving; bytes = driving-bytes driving; listed = driving-list driving }
 
 goes-on : (c : tie.Then2 Inv-loop μ-loop) → hasEnded (c .before .before .loop .job) ≡ false
 goes-on c = let f = c .before .has-ended in sym (f .ensures) ∙ not-true (f .result) (c .if2 .taken)
@@ -74,29 +73,29 @@ loop-again c =
 
 -- the loop's build is that of the wanted stack
 wants : (c : tie.At-loop Inv-loop μ-loop) → let a = c .before .before .before .before .before .before .before .args in
-    Driving (a .kind) (a .n) (a .wanted) (a .groups) (a .size) (a .room) (a .table .now) (a .log .now) (a .list .now)
+    Driving (a .terms) (a .table .now) (a .log .now) (a .list .now)
     (storeOf (c .loop .job) (c .loop .table) (c .loop .log) (c .loop .list))
 wants c =
     let a = c .before .before .before .before .before .before .before .args in
-    build-wants (a .kind) (a .n) (a .wanted) (a .groups) (a .size) (a .room) (a .table .now) (a .log .now) (a .list .now) (first-job (c .before)) (c .loop .inv)
+    build-keeps (a .terms) (a .table .now) (a .log .now) (a .list .now) (first-job (c .before)) (c .loop .inv)
 
 same-length : tie.Need-same-length Inv-loop μ-loop
 same-length c =
     let l = c .before .before in
     let a = l .before .before .before .before .before .before .before .args in
-    table-kept (a .kind) (a .n) (a .wanted) (a .groups) (a .size) (a .room) (a .table .now) (a .log .now) (a .list .now) (accepts (l .before .before)) (wants l)
+    table-kept (a .terms) (a .table .now) (a .log .now) (a .list .now) (accepts (l .before .before)) (wants l)
 
 same-length-2 : tie.Need-same-length-2 Inv-loop μ-loop
 same-length-2 c =
     let l = c .before .before in
     let a = l .before .before .before .before .before .before .before .args in
-    log-kept (a .kind) (a .n) (a .wanted) (a .groups) (a .size) (a .room) (a .table .now) (a .log .now) (a .list .now) (accepts (l .before .before)) (wants l)
+    log-kept (a .terms) (a .table .now) (a .log .now) (a .list .now) (accepts (l .before .before)) (wants l)
 
 same-length-3 : tie.Need-same-length-3 Inv-loop μ-loop
 same-length-3 c =
     let l = c .before .before in
     let a = l .before .before .before .before .before .before .before .args in
-    list-kept (a .kind) (a .n) (a .wanted) (a .groups) (a .size) (a .room) (a .table .now) (a .log .now) (a .list .now) (accepts (l .before .before)) (wants l)
+    list-kept (a .terms) (a .table .now) (a .log .now) (a .list .now) (accepts (l .before .before)) (wants l)
 
 returns-2 : tie.Need-returns-2 Inv-loop μ-loop
 returns-2 c =
@@ -104,7 +103,7 @@ returns-2 c =
     let a = l .before .before .before .before .before .before .before .args in
     let f = l .before .before .before .build-refusal in
     let end = c .before .has-ended in
-    build-ends (a .kind) (a .n) (a .wanted) (a .groups) (a .size) (a .room) (a .table .now) (a .log .now) (a .list .now) (f .result) (f .ensures) (l .before .before .if1 .left) (wants l)
+    build-ends (a .terms) (a .table .now) (a .log .now) (a .list .now) (f .result) (f .ensures) (l .before .before .if1 .left) (wants l)
     (sym (end .ensures) ∙ not-false (end .result) (c .if2 .left))
 
 pub build-table-spec : {M : Type 1} → statement M
@@ -114,9 +113,9 @@ build-table-spec =
     Inv-loop
     μ-loop
     build-refusal-requires
-    begun-job-requires
+    no-job-requires
     returns
-    begun-job-requires-2
+    begun-job-requires
     loop-holds
     has-ended-requires
     advance-requires

@@ -1,18 +1,17 @@
 -- `build::part::expand_part` meets its contract: the part lies in the table, and what Expand leaves in it, it leaves in the table.
 use borrow.Author.Needs.{needs}
-use Rattle.job.proofs.Bounds.{coherent-bounds}
+use Rattle.job.proofs.Bounds.{coherent-begins}
 use Rattle.build.proofs.Parts.{part-small, part-within, expanded-in}
 use Rattle.build.proofs.part.expand_part.Statement.{statement}
 use Rattle.build.proofs.part.expand_part.Tie as tie
 
 part-start-requires : tie.Need-part-start-requires
-part-start-requires c κs = let s = c .before .before in part-small (s .args .job) (s .args .j) (s .pre .0) (s .pre .1)
+part-start-requires c κs = let s = c .before .before .before in part-small (s .args .job) (s .args .j) (s .pre .0) (s .pre .1)
 
 part-end-requires : tie.Need-part-end-requires
 part-end-requires c κs =
-    let s = c .before .before .before in
-    let p = part-small (s .args .job) (s .args .j) (s .pre .0) (s .pre .1) in
-    (coherent-bounds (s .args .job) (s .pre .0) .is-pane-count, p .0, p .1)
+    let s = c .before .before .before .before in
+    (coherent-begins (s .args .job) (s .pre .0), part-small (s .args .job) (s .args .j) (s .pre .0) (s .pre .1) .1)
 
 sub-expand : tie.Need-sub-expand
 sub-expand c = search needs
@@ -22,7 +21,7 @@ part-expand-start c = search needs
 
 part-expand-end : tie.Need-part-expand-end
 part-expand-end c =
-    let s = c .before .before .before .before in
+    let s = c .before .before .before .before .before in
     part-within (s .args .job) (s .args .j) (s .pre .0) (s .pre .1) (c .before .part-start .result) (c .part-end .result) (s .args .table .now) (s .pre .2)
     (c .before .part-start .ensures)
     (c .part-end .ensures)
@@ -38,7 +37,7 @@ same-length-2 c = search needs
 
 returns : tie.Need-returns
 returns c =
-    let s = c .before .before .before .before .before .before .before .before .before .before .before in
+    let s = c .before .before .before .before .before .before .before .before .before .before .before .before in
     let a = s .args in
     let start = c .before .before .before .before .before .before .before .before .part-start in
     let end = c .before .before .before .before .before .before .before .part-end in

@@ -1,23 +1,22 @@
 -- `build::part::load_part` meets its contract: the part lies in the table and the front in the list, and what Load leaves there, it leaves in the list.
 use mathlib.Core.Path.{sym}
 use lib.Seq.{length-take-le}
-use Rattle.job.proofs.Bounds.{coherent-bounds}
+use Rattle.job.proofs.Bounds.{coherent-begins}
 use Rattle.build.proofs.Parts.{part-small, part-within, list-within, loaded-in}
 use borrow.Author.Needs.{needs}
 use Rattle.build.proofs.part.load_part.Statement.{statement}
 use Rattle.build.proofs.part.load_part.Tie as tie
 
 part-start-requires : tie.Need-part-start-requires
-part-start-requires c κs = let s = c .before .before in part-small (s .args .job) (s .args .b) (s .pre .0) (s .pre .1)
+part-start-requires c κs = let s = c .before .before .before in part-small (s .args .job) (s .args .b) (s .pre .0) (s .pre .1)
 
 part-end-requires : tie.Need-part-end-requires
 part-end-requires c κs =
-    let s = c .before .before .before in
-    let p = part-small (s .args .job) (s .args .b) (s .pre .0) (s .pre .1) in
-    (coherent-bounds (s .args .job) (s .pre .0) .is-pane-count, p .0, p .1)
+    let s = c .before .before .before .before in
+    (coherent-begins (s .args .job) (s .pre .0), part-small (s .args .job) (s .args .b) (s .pre .0) (s .pre .1) .1)
 
 list-end-requires : tie.Need-list-end-requires
-list-end-requires c κs = let s = c .before .before .before .before in coherent-bounds (s .args .job) (s .pre .0) .is-pane-count
+list-end-requires c κs = let s = c .before .before .before .before .before in coherent-begins (s .args .job) (s .pre .0)
 
 sub-load : tie.Need-sub-load
 sub-load c = search needs
@@ -27,20 +26,20 @@ part-load-start c = search needs
 
 part-load-end : tie.Need-part-load-end
 part-load-end c =
-    let s = c .before .before .before .before .before in
+    let s = c .before .before .before .before .before .before in
     part-within (s .args .job) (s .args .b) (s .pre .0) (s .pre .1) (c .before .before .part-start .result) (c .before .part-end .result) (s .args .table .now) (s .pre .2)
     (c .before .before .part-start .ensures)
     (c .before .part-end .ensures)
 
 slice-relend-prefix-load : tie.Need-slice-relend-prefix-load
 slice-relend-prefix-load c =
-    let s = c .before .before .before .before .before .before in
+    let s = c .before .before .before .before .before .before .before in
     let f = c .before .list-end in
     list-within (s .args .job) (s .args .b) (f .result) (f .ensures) (s .args .list .now) (s .pre .3)
 
 slice-aggregate-load : tie.Need-slice-aggregate-load
 slice-aggregate-load c =
-    let s = c .before .before .before .before .before .before .before in
+    let s = c .before .before .before .before .before .before .before .before in
     let f = c .before .before .list-end in
     sym (length-take-le (f .result) (s .args .list .now)
     (list-within (s .args .job) (s .args .b) (f .result) (f .ensures) (s .args .list .now) (s .pre .3)))
@@ -53,7 +52,7 @@ same-length c = search needs
 
 returns : tie.Need-returns
 returns c =
-    let s = c .before .before .before .before .before .before .before .before .before .before in
+    let s = c .before .before .before .before .before .before .before .before .before .before .before in
     let a = s .args in
     let start = c .before .before .before .before .before .before .before .part-start in
     let end = c .before .before .before .before .before .before .part-end in

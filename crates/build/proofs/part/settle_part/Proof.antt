@@ -2,19 +2,18 @@
 use borrow.Author.Needs.{needs}
 use Rattle.search.specs.Settle.{settleOf}
 use Rattle.build.specs.Part.{settledIn}
-use Rattle.job.proofs.Bounds.{coherent-bounds}
+use Rattle.job.proofs.Bounds.{coherent-begins}
 use Rattle.build.proofs.Parts.{part-small, part-within, answered-in}
 use Rattle.build.proofs.part.settle_part.Statement.{statement}
 use Rattle.build.proofs.part.settle_part.Tie as tie
 
 part-start-requires : tie.Need-part-start-requires
-part-start-requires c κs = let s = c .before .before in part-small (s .args .job) (s .args .j) (s .pre .0) (s .pre .1)
+part-start-requires c κs = let s = c .before .before .before in part-small (s .args .job) (s .args .j) (s .pre .0) (s .pre .1)
 
 part-end-requires : tie.Need-part-end-requires
 part-end-requires c κs =
-    let s = c .before .before .before in
-    let p = part-small (s .args .job) (s .args .j) (s .pre .0) (s .pre .1) in
-    (coherent-bounds (s .args .job) (s .pre .0) .is-pane-count, p .0, p .1)
+    let s = c .before .before .before .before in
+    (coherent-begins (s .args .job) (s .pre .0), part-small (s .args .job) (s .args .j) (s .pre .0) (s .pre .1) .1)
 
 sub-settle : tie.Need-sub-settle
 sub-settle c = search needs
@@ -24,7 +23,7 @@ part-settle-start c = search needs
 
 part-settle-end : tie.Need-part-settle-end
 part-settle-end c =
-    let s = c .before .before .before .before in
+    let s = c .before .before .before .before .before in
     part-within (s .args .job) (s .args .j) (s .pre .0) (s .pre .1) (c .before .part-start .result) (c .part-end .result) (s .args .table .now) (s .pre .2)
     (c .before .part-start .ensures)
     (c .part-end .ensures)
@@ -38,7 +37,7 @@ same-length c = search needs
 returns : tie.Need-returns
 unfolding settledIn
 returns c =
-    let s = c .before .before .before .before .before .before .before .before in
+    let s = c .before .before .before .before .before .before .before .before .before in
     let a = s .args in
     let start = c .before .before .before .before .before .part-start in
     let end = c .before .before .before .before .part-end in

@@ -1,26 +1,25 @@
 -- `build::part::sweep_part` meets its contract: the part lies in the table and the front in the list, and what Sweep leaves in it, it leaves in the table.
 use mathlib.Core.Path.{sym}
 use lib.Seq.{length-take-le}
-use Rattle.job.proofs.Bounds.{coherent-bounds}
+use Rattle.job.proofs.Bounds.{coherent-begins}
 use Rattle.build.proofs.Parts.{part-small, part-within, list-within, swept-in}
 use borrow.Author.Needs.{needs}
 use Rattle.build.proofs.part.sweep_part.Statement.{statement}
 use Rattle.build.proofs.part.sweep_part.Tie as tie
 
 part-start-requires : tie.Need-part-start-requires
-part-start-requires c κs = let s = c .before .before in part-small (s .args .job) (s .args .j) (s .pre .0) (s .pre .1)
+part-start-requires c κs = let s = c .before .before .before in part-small (s .args .job) (s .args .j) (s .pre .0) (s .pre .1)
 
 part-end-requires : tie.Need-part-end-requires
 part-end-requires c κs =
-    let s = c .before .before .before in
-    let p = part-small (s .args .job) (s .args .j) (s .pre .0) (s .pre .1) in
-    (coherent-bounds (s .args .job) (s .pre .0) .is-pane-count, p .0, p .1)
+    let s = c .before .before .before .before in
+    (coherent-begins (s .args .job) (s .pre .0), part-small (s .args .job) (s .args .j) (s .pre .0) (s .pre .1) .1)
 
 cast-list-end : tie.Need-cast-list-end
 cast-list-end c = search needs
 
 list-end-requires : tie.Need-list-end-requires
-list-end-requires c κs = let s = c .before .before .before .before .before in coherent-bounds (s .args .job) (s .pre .0) .is-pane-count
+list-end-requires c κs = let s = c .before .before .before .before .before .before in coherent-begins (s .args .job) (s .pre .0)
 
 sub-sweep : tie.Need-sub-sweep
 sub-sweep c = search needs
@@ -30,14 +29,14 @@ part-sweep-start c = search needs
 
 part-sweep-end : tie.Need-part-sweep-end
 part-sweep-end c =
-    let s = c .before .before .before .before .before .before in
+    let s = c .before .before .before .before .before .before .before in
     part-within (s .args .job) (s .args .j) (s .pre .0) (s .pre .1) (c .before .before .before .part-start .result) (c .before .before .part-end .result) (s .args .table .now) (s .pre .2)
     (c .before .before .before .part-start .ensures)
     (c .before .before .part-end .ensures)
 
 slice-aggregate-sweep : tie.Need-slice-aggregate-sweep
 slice-aggregate-sweep c =
-    let s = c .before .before .before .before .before .before .before .before in
+    let s = c .before .before .before .before .before .before .before .before .before in
     let f = c .before .before .list-end in
     sym (length-take-le (f .result) (s .args .list .now)
     (list-within (s .args .job) (s .args .job .loaded) (f .result) (f .ensures) (s .args .list .now) (s .pre .3)))
@@ -50,7 +49,7 @@ same-length c = search needs
 
 returns : tie.Need-returns
 returns c =
-    let s = c .before .before .before .before .before .before .before .before .before .before .before in
+    let s = c .before .before .before .before .before .before .before .before .before .before .before .before in
     let a = s .args in
     let start = c .before .before .before .before .before .before .before .before .part-start in
     let end = c .before .before .before .before .before .before .before .part-end in

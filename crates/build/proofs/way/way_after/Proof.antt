@@ -3,12 +3,13 @@ use Prim.Native.Nat.{_≤_}
 use native.Mathlib.Nat.{mul-le-mul}
 use native.Mathlib.Omega.{arith}
 use borrow.Author.Needs.{needs}
+use Rattle.search.proofs.Coherence.{begin-given}
 use Rattle.build.proofs.Ways.{few-reverse, many-forward}
 use Rattle.build.proofs.way.way_after.Statement.{statement}
 use Rattle.build.proofs.way.way_after.Tie as tie
 
 stack-count-requires : tie.Need-stack-count-requires
-stack-count-requires c κs = search needs
+stack-count-requires c κs = begin-given (c .pre .0) .in-range
 
 unseen-of-requires : tie.Need-unseen-of-requires
 unseen-of-requires c κs = search needs
@@ -44,7 +45,7 @@ returns c =
     let count = l .before .before .before .stack-count in
     let unseen = l .before .before .unseen-of in
     let segments = l .before .segment-count-of in
-    few-reverse (a .kind) (a .n) (a .size) (a .phase) (a .counts .now) (count .result) (unseen .result) (segments .result) (l .level-of .result)
+    few-reverse (a .terms) (a .phase) (a .counts .now) (count .result) (unseen .result) (segments .result) (l .level-of .result)
     (count .ensures)
     (unseen .ensures)
     (segments .ensures .0)
@@ -58,7 +59,7 @@ returns-2 c =
     let count = l .before .before .before .stack-count in
     let unseen = l .before .before .unseen-of in
     let segments = l .before .segment-count-of in
-    many-forward (a .kind) (a .n) (a .size) (a .phase) (a .counts .now) (count .result) (unseen .result) (segments .result) (l .level-of .result)
+    many-forward (a .terms) (a .phase) (a .counts .now) (count .result) (unseen .result) (segments .result) (l .level-of .result)
     (count .ensures)
     (unseen .ensures)
     (segments .ensures .0)

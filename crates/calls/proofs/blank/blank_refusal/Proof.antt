@@ -13,7 +13,7 @@ use Rattle.search.specs.declared.Job.{Job}
 use Rattle.search.proofs.Accepted.{segment-facts}
 use Rattle.job.specs.Standing.{standingOf}
 use Rattle.job.proofs.Rows.{segment-refuses, segment-on}
-use Rattle.job.proofs.Standings.{phase-is, passed-is, stacks-are, stands-sizes}
+use Rattle.job.proofs.Standings.{phase-is, passed-is, stacks-are, stands-begins}
 use Rattle.calls.proofs.blank.blank_refusal.Statement.{statement}
 use Rattle.calls.proofs.blank.blank_refusal.Tie as tie
 
@@ -44,19 +44,20 @@ returns c job e =
 
 stack-count-at-requires : tie.Need-stack-count-at-requires
 stack-count-at-requires c κs =
-    let s = c .before .before .before in
+    let ok = c .before in
+    let s = ok .before .before .before in
     let a = s .args in
     let of = s .pre in
-    let f = segment-facts (isBlanking (of .job .phase)) (of .job) (a .j) (a .bytes) 0 (sym (answered (c .before) (of .job) (of .is)) ∙ c .if1 .left) .0 in
-    stands-sizes (a .standing) (a .j) of (f .coherent) .is-pane-count
+    let f = segment-facts (isBlanking (of .job .phase)) (of .job) (a .j) (a .bytes) 0 (sym (answered (ok .before) (of .job) (of .is)) ∙ ok .if1 .left) .0 in
+    stands-begins (a .standing) (a .j) of (f .coherent)
 
 -- the row goes on, and the test of the stacks passed decides
-decides : (c : tie.After-stack-count-at) (job : Job) → let a = c .before .before .before .before .args in
+decides : (c : tie.After-stack-count-at) (job : Job) → let a = c .before .before .before .before .before .args in
     a .standing ≡ standingOf job (a .j)
     → unless (ltb (a .standing .passed) (c .stack-count-at .result)) 11 0 ≡ blankRefusal job (a .j) (a .bytes)
 unfolding blankRefusal
 decides c job e =
-    let ok = c .before in
+    let ok = c .before .before in
     let s = ok .before in
     let a = s .before .before .args in
     ap (λ (m : ℕ). unless (ltb (a .standing .passed) m) 11 0) (c .stack-count-at .ensures ∙ stacks-are (a .standing) (a .j) job e)
@@ -66,13 +67,13 @@ decides c job e =
 returns-2 : tie.Need-returns-2
 returns-2 c job e =
     let p = c .before .before in
-    let a = p .before .before .before .before .args in
+    let a = p .before .before .before .before .before .args in
     ap (λ (t : Bool). unless t 11 0) (sym (le-ltb (a .standing .passed) (p .stack-count-at .result) (c .if2 .taken))) ∙ decides p job e
 
 returns-3 : tie.Need-returns-3
 returns-3 c job e =
     let p = c .before .before in
-    let a = p .before .before .before .before .args in
+    let a = p .before .before .before .before .before .args in
     ap (λ (t : Bool). unless t 11 0) (sym (lt-ltb (a .standing .passed) (p .stack-count-at .result) (c .if2 .left))) ∙ decides p job e
 
 pub blank-refusal-spec : {M : Type 1} → statement M

@@ -14,7 +14,7 @@ use Rattle.search.specs.declared.Job.{Job}
 use Rattle.search.proofs.Accepted.{segment-facts}
 use Rattle.job.specs.Standing.{standingOf}
 use Rattle.job.proofs.Rows.{segment-refuses, segment-on}
-use Rattle.job.proofs.Standings.{reverse-is, stacks-are, stands-sizes}
+use Rattle.job.proofs.Standings.{reverse-is, stacks-are, stands-begins}
 use Rattle.calls.proofs.load.load_refusal.Statement.{statement}
 use Rattle.calls.proofs.load.load_refusal.Tie as tie
 
@@ -45,11 +45,12 @@ returns c job e =
 
 stack-count-at-requires : tie.Need-stack-count-at-requires
 stack-count-at-requires c κs =
-    let s = c .before .before .before in
+    let ok = c .before in
+    let s = ok .before .before .before in
     let a = s .args in
     let of = s .pre in
-    let f = segment-facts (inReverse (of .job)) (of .job) (a .b) (a .bytes) 0 (sym (answered (c .before) (of .job) (of .is)) ∙ c .if1 .left) .0 in
-    stands-sizes (a .standing) (a .b) of (f .coherent) .is-pane-count
+    let f = segment-facts (inReverse (of .job)) (of .job) (a .b) (a .bytes) 0 (sym (answered (ok .before) (of .job) (of .is)) ∙ ok .if1 .left) .0 in
+    stands-begins (a .standing) (a .b) of (f .coherent)
 
 list-bytes-requires : tie.Need-list-bytes-requires
 list-bytes-requires c κs = search needs
@@ -58,11 +59,11 @@ cast-length : tie.Need-cast-length
 cast-length c = search needs
 
 -- the row goes on, and the test of the length decides
-decides : (c : tie.After-list-bytes) (job : Job) → let a = c .before .before .before .before .before .args in
+decides : (c : tie.After-list-bytes) (job : Job) → let a = c .before .before .before .before .before .before .args in
     a .standing ≡ standingOf job (a .b) → unless (eqb (a .listed) (c .list-bytes .result)) 10 0 ≡ loadRefusal job (a .b) (a .bytes) (a .listed)
 unfolding loadRefusal
 decides c job e =
-    let ok = c .before .before in
+    let ok = c .before .before .before in
     let s = ok .before in
     let a = s .before .before .args in
     ap (λ (m : ℕ). unless (eqb (a .listed) m) 10 0)
@@ -72,12 +73,12 @@ decides c job e =
 returns-2 : tie.Need-returns-2
 returns-2 c job e =
     let l = c .before in
-    ap (λ (t : Bool). unless t 10 0) (sym (ne-eqb (l .before .before .before .before .before .args .listed) (l .list-bytes .result) (c .if2 .taken))) ∙ decides l job e
+    ap (λ (t : Bool). unless t 10 0) (sym (ne-eqb (l .before .before .before .before .before .before .args .listed) (l .list-bytes .result) (c .if2 .taken))) ∙ decides l job e
 
 returns-3 : tie.Need-returns-3
 returns-3 c job e =
     let l = c .before in
-    ap (λ (t : Bool). unless t 10 0) (sym (eq-eqb (l .before .before .before .before .before .args .listed) (l .list-bytes .result) (c .if2 .left))) ∙ decides l job e
+    ap (λ (t : Bool). unless t 10 0) (sym (eq-eqb (l .before .before .before .before .before .before .args .listed) (l .list-bytes .result) (c .if2 .left))) ∙ decides l job e
 
 pub load-refusal-spec : {M : Type 1} → statement M
 load-refusal-spec =

@@ -15,7 +15,7 @@ use Rattle.search.proofs.Accepted.{LevelFacts, settle-refused}
 use Rattle.search.proofs.EntryLaws.{next-lt}
 use Rattle.job.specs.Standing.{standingOf}
 use Rattle.job.proofs.Bounds.{segment-below, area-small, part-within}
-use Rattle.job.proofs.Standings.{part-is}
+use Rattle.job.proofs.Standings.{part-own, has-own}
 use Rattle.calls.proofs.Settling.{settle-given, offsets-fit, level-some, settled-is}
 use Rattle.calls.proofs.settle.settle.Statement.{statement}
 use Rattle.calls.proofs.settle.settle.Tie as tie
@@ -25,37 +25,51 @@ refused : (job : Job) (j : ℕ) (segment log : List ℕ) (r : ℕ) → r ≡ set
 refused job j segment log r e h =
     ap (λ (q : ℕ). (segment, record { refusal = q; job = job })) e ∙ sym (settle-refused job j segment log (λ z. h (e ∙ z)))
 
+counts-fit-requires : tie.Need-counts-fit-requires
+counts-fit-requires c κs = search needs
+
 standing-of-requires : tie.Need-standing-of-requires
 standing-of-requires c κs = search needs
 
+-- where the counts were asked, and where the call began
+abbrev fitted : tie.After-standing-of → tie.After-counts-fit
+fitted c = c .before .before .before .before .before
+
+abbrev start : tie.After-standing-of → tie.Start
+start c = fitted c .before .before .before .before .before .before
+
+-- the job's standing
+stands : (c : tie.After-standing-of) → c .standing-of .result ≡ standingOf (start c .args .job) (start c .args .j)
+stands c = let job = start c .args .job in c .standing-of .ensures job (has-own job (fitted c .counts-fit .ensures)) refl
+
 settle-refusal-requires : tie.Need-settle-refusal-requires
 settle-refusal-requires c κs =
-    record { job = c .before .before .before .before .before .before .before .before .before .args .job; is = c .standing-of .ensures }
+    record { job = start c .args .job; is = stands c }
 
 -- what the row has answered
-answered : (c : tie.After-settle-refusal) → let a = c .before .before .before .before .before .before .before .before .before .before .args in
+answered : (c : tie.After-settle-refusal) → let a = start (c .before) .args in
     c .settle-refusal .result ≡ settleRefusal (a .job) (a .j) (length (a .segment .now)) (a .log .now)
-answered c = c .settle-refusal .ensures (c .before .before .before .before .before .before .before .before .before .before .args .job) (c .before .standing-of .ensures)
+answered c = c .settle-refusal .ensures (start (c .before) .args .job) (stands (c .before))
 
 returns : tie.Need-returns
 returns c =
     let f = c .before in
-    let a = f .before .before .before .before .before .before .before .before .before .before .args in
+    let a = start (f .before) .args in
     refused (a .job) (a .j) (a .segment .now) (a .log .now) (f .settle-refusal .result) (answered f) (c .if1 .taken)
 
 level-of-requires : tie.Need-level-of-requires
 level-of-requires c κs = search needs
 
 -- nothing is refused
-accepted : (c : tie.Else1) → let a = c .before .before .before .before .before .before .before .before .before .before .before .args in settleRefusal (a .job) (a .j) (length (a .segment .now)) (a .log .now) ≡ 0
+accepted : (c : tie.Else1) → let a = start (c .before .before) .args in settleRefusal (a .job) (a .j) (length (a .segment .now)) (a .log .now) ≡ 0
 accepted c = sym (answered (c .before)) ∙ c .if1 .left
 
-given : (c : tie.Else1) → let a = c .before .before .before .before .before .before .before .before .before .before .before .args in LevelFacts (a .job) (a .j) (length (a .segment .now)) (length (a .log .now))
-given c = let a = c .before .before .before .before .before .before .before .before .before .before .before .args in settle-given (a .job) (a .j) (a .segment .now) (a .log .now) (accepted c)
+given : (c : tie.Else1) → let a = start (c .before .before) .args in LevelFacts (a .job) (a .j) (length (a .segment .now)) (length (a .log .now))
+given c = let a = start (c .before .before) .args in settle-given (a .job) (a .j) (a .segment .now) (a .log .now) (accepted c)
 
 sub-next-entry : tie.Need-sub-next-entry
 sub-next-entry c =
-    let a = c .before .before .before .before .before .before .before .before .before .before .before .before .args in
+    let a = start (c .before .before .before) .args in
     level-some (a .job) (a .j) (a .segment .now) (a .log .now) (accepted (c .before)) (c .level-of .result) (c .level-of .ensures)
 
 next-entry-requires : tie.Need-next-entry-requires
@@ -65,9 +79,9 @@ waiting-part-requires : tie.Need-waiting-part-requires
 unfolding standingOf
 waiting-part-requires c κs =
     let e = c .before .before in
-    let a = e .before .before .before .before .before .before .before .before .before .before .before .args in
+    let a = start (e .before .before) .args in
     let f = given e in (
-      rw (e .before .before .standing-of .ensures, f .wide) (part-within (a .job) (f .called .coherent) (a .j) (f .called .inside)),
+      rw (stands (e .before .before), f .wide) (part-within (a .job) (f .called .coherent) (a .j) (f .called .inside)),
       rw (f .wide) (area-small (a .job) (f .called .coherent)),
     )
 
@@ -81,12 +95,12 @@ element-copy-out-count : tie.Need-element-copy-out-count
 element-copy-out-count c = search needs
 
 -- what waits, as the definition has it
-waits : (c : tie.After-waiting-part) → let a = c .before .before .before .before .before .before .before .before .before .before .before .before .before .before .args in c .waiting-part .result .now ≡ pending (a .job) (a .j) (a .log .now)
+waits : (c : tie.After-waiting-part) → let a = start (c .before .before .before .before .before) .args in c .waiting-part .result .now ≡ pending (a .job) (a .j) (a .log .now)
 waits c =
     let e = c .before .before .before in
-    let s = e .before .before .standing-of in
-    let a = e .before .before .before .before .before .before .before .before .before .before .before .args in
-    c .waiting-part .ensures ∙ part-is (s .result) (a .j) (a .job) (s .ensures) (a .log .now)
+    let s = e .before .before in
+    let a = start (e .before .before) .args in
+    c .waiting-part .ensures ∙ part-own (s .standing-of .result) (a .j) (a .job) (stands s) (a .log .now)
 
 mark-all-requires : tie.Need-mark-all-requires
 unfolding countOf
@@ -95,7 +109,7 @@ mark-all-requires c κs =
     let n = w .before in
     let v = n .before in
     let e = v .before in
-    let a = e .before .before .before .before .before .before .before .before .before .before .before .args in
+    let a = start (e .before .before) .args in
     offsets-fit (a .job) (a .j) (a .segment .now) (a .log .now) (accepted e) (w .waiting-part .result .now) (waits w) (n .next-entry .result)
     (record { count = getD (a .job .counts) (v .level-of .result) 0 })
     (v .level-of .result)
@@ -103,9 +117,9 @@ mark-all-requires c κs =
     refl
 
 -- segment j has its place among the waiting numbers
-place : (c : tie.Else1) → let a = c .before .before .before .before .before .before .before .before .before .before .before .args in a .j < segmentLimit
+place : (c : tie.Else1) → let a = start (c .before .before) .args in a .j < segmentLimit
 place c =
-    let a = c .before .before .before .before .before .before .before .before .before .before .before .args in
+    let a = start (c .before .before) .args in
     let f = given c .called in
     segment-below (a .job) (f .coherent) (a .j) (f .inside)
 
@@ -135,7 +149,7 @@ returns-2 c =
     let n = w .before in
     let v = n .before in
     let e = v .before in
-    let a = e .before .before .before .before .before .before .before .before .before .before .before .args in
+    let a = start (e .before .before) .args in
     let job = a .job in
     let left : ℕ → Job = λ d. progressed job (job .phase) (job .passed) (set (job .waiting) (a .j) 0) (set (job .counts) d (m .mark-all .result .count)) in
     settled-is job (a .j) (a .segment .now) (a .log .now) (accepted e) (w .waiting-part .result .now) (waits w) (v .level-of .result) (n .next-entry .result)
@@ -153,6 +167,7 @@ pub settle-spec : {M : Type 1} → statement M
 settle-spec =
     tie.close
     (tie.spec
+    counts-fit-requires
     standing-of-requires
     settle-refusal-requires
     returns

@@ -16,7 +16,7 @@ use Rattle.search.proofs.Accepted.{LevelFacts, level-facts}
 use Rattle.job.specs.Standing.{standingOf}
 use Rattle.job.proofs.Bounds.{area-small, part-within}
 use Rattle.job.proofs.Rows.{level-refuses, level-goes-on}
-use Rattle.job.proofs.Standings.{stacks-are, part-is, stands-sizes}
+use Rattle.job.proofs.Standings.{stacks-are, part-is, stands-begins}
 use Rattle.calls.proofs.settle.settle_refusal.Statement.{statement}
 use Rattle.calls.proofs.settle.settle_refusal.Tie as tie
 
@@ -43,13 +43,14 @@ facts c =
 
 stack-count-at-requires : tie.Need-stack-count-at-requires
 stack-count-at-requires c κs =
-    let s = c .before .before .before in
-    stands-sizes (s .args .standing) (s .args .j) (s .pre) (facts c .called .coherent) .is-pane-count
+    let ok = c .before in
+    let s = ok .before .before .before in
+    stands-begins (s .args .standing) (s .args .j) (s .pre) (facts ok .called .coherent)
 
 waiting-part-requires : tie.Need-waiting-part-requires
 unfolding standingOf
 waiting-part-requires c κs =
-    let ok = c .before in
+    let ok = c .before .before in
     let s = ok .before .before .before in
     let of = s .pre in
     let f = facts ok in (
@@ -61,11 +62,11 @@ offsets-fit-requires : tie.Need-offsets-fit-requires
 offsets-fit-requires c κs = search needs
 
 -- the row goes on, and the test of the offsets decides
-decides : (c : tie.After-offsets-fit) (job : Job) → let a = c .before .before .before .before .before .before .args in
+decides : (c : tie.After-offsets-fit) (job : Job) → let a = c .before .before .before .before .before .before .before .args in
     a .standing ≡ standingOf job (a .j) → unless (c .offsets-fit .result) 12 0 ≡ settleRefusal job (a .j) (a .bytes) (a .log .now)
 unfolding settleRefusal
 decides c job e =
-    let ok = c .before .before .before in
+    let ok = c .before .before .before .before in
     let a = ok .before .before .before .args in
     let f = ok .before .level-refusal in
     ap (λ (t : Bool). unless t 12 0)

@@ -7,43 +7,43 @@ use borrow.Author.Needs.{needs}
 use borrow.Author.Tests.{not-true, not-false}
 use lib.ListN.{drop}
 use Rattle.base.specs.Words.{all, from}
-use Rattle.stacks.specs.Stack.{stackCount}
 use Rattle.search.specs.Segments.{segmentLimit, segmentCount}
-use Rattle.search.proofs.SegmentLaws.{segment-size-facts}
+use Rattle.search.specs.Terms.{N, G}
+use Rattle.search.specs.declared.Terms.{Terms}
+use Rattle.search.proofs.Coherence.{begin-given}
+use Rattle.search.proofs.Given.{some, few}
 use Rattle.close.specs.Ready.{isDoneBy, doneBy}
 use Rattle.job.proofs.Scans.{upto-on, upto-fails, upto-end}
 use Rattle.close.proofs.close.are_done.Statement.{statement}
 use Rattle.close.proofs.close.are_done.Tie as tie
 
-done-is : (kind n S : ℕ) (passed waiting : List ℕ) (N G : ℕ) → N ≡ stackCount kind n → G ≡ segmentCount N S
-    → all (isDoneBy N S passed waiting) (from 0 G) ≡ doneBy (stackCount kind n) S passed waiting
-done-is kind n S passed waiting N G e g =
-    ap (λ (m : ℕ). all (isDoneBy N S passed waiting) (from 0 m)) g ∙ ap (λ (m : ℕ). doneBy m S passed waiting) e
+done-is : (terms : Terms) (passed waiting : List ℕ) (count segments : ℕ) → count ≡ N terms → segments ≡ segmentCount count (terms .size)
+    → all (isDoneBy count (terms .size) passed waiting) (from 0 segments) ≡ doneBy (N terms) (terms .size) passed waiting
+done-is terms passed waiting count segments e g =
+    ap (λ (x : ℕ). all (isDoneBy count (terms .size) passed waiting) (from 0 x)) g ∙ ap (λ (x : ℕ). doneBy x (terms .size) passed waiting) e
 
 abbrev Inv-loop : tie.InvT-loop
-Inv-loop kind n size passed waiting count segments j₀ j =
+Inv-loop passed waiting size count segments j₀ j =
     (segments ≤ segmentLimit)
     × (j ≤ segments)
     × (all (isDoneBy count size passed waiting) (from 0 segments) ≡ all (isDoneBy count size passed waiting) (drop j (from 0 segments)))
 
 abbrev μ-loop : tie.MeasureT-loop
-μ-loop kind n size passed waiting count segments j₀ j = segments - j
+μ-loop passed waiting size count segments j₀ j = segments - j
 
 stack-count-requires : tie.Need-stack-count-requires Inv-loop μ-loop
-stack-count-requires c κs = c .pre .0
+stack-count-requires c κs = begin-given (c .pre) .in-range
 
 segment-count-requires : tie.Need-segment-count-requires Inv-loop μ-loop
-segment-count-requires c κs =
-    let s = c .before in
-    omega (arith, segment-size-facts (stackCount (s .args .kind) (s .args .n)) (s .args .size) (s .pre .1) .least)
+segment-count-requires c κs = some (begin-given (c .before .pre))
 
 loop-holds : tie.Need-loop-holds Inv-loop μ-loop
 loop-holds c =
     let s = c .before .before in
-    let N : ℕ = stackCount (s .args .kind) (s .args .n) in
-    let e : c .segment-count .result ≡ segmentCount N (s .args .size) =
-    c .segment-count .ensures ∙ ap (λ (m : ℕ). segmentCount m (s .args .size)) (c .before .stack-count .ensures) in
-    (omega (arith, e, segment-size-facts N (s .args .size) (s .pre .1) .few), search needs, refl)
+    let terms = s .args .terms in
+    let e : c .segment-count .result ≡ G terms =
+    c .segment-count .ensures ∙ ap (λ (x : ℕ). segmentCount x (terms .size)) (c .before .stack-count .ensures) in
+    (omega (arith, e, few (begin-given (s .pre))), search needs, refl)
 
 cast-is-done : tie.Need-cast-is-done Inv-loop μ-loop
 cast-is-done c = omega arith
@@ -71,13 +71,13 @@ returns c =
     let l = c .before .before .before .before .before in
     let g = l .before in
     let a = g .before .before .args in
-    let N = g .before .stack-count in
-    let G = g .segment-count in
-    let t = isDoneBy (N .result) (a .size) (a .passed .now) (a .waiting .now) in
+    let count = g .before .stack-count in
+    let segments = g .segment-count in
+    let t = isDoneBy (count .result) (a .terms .size) (a .passed .now) (a .waiting .now) in
     let f = c .before .is-done in
-    upto-fails t (G .result) (l .loop .j) (all t (from 0 (G .result))) (omega arith) (l .loop .inv .2)
+    upto-fails t (segments .result) (l .loop .j) (all t (from 0 (segments .result))) (omega arith) (l .loop .inv .2)
     (sym (f .ensures) ∙ not-true (f .result) (c .if1 .taken))
-    ∙ done-is (a .kind) (a .n) (a .size) (a .passed .now) (a .waiting .now) (N .result) (G .result) (N .ensures) (G .ensures)
+    ∙ done-is (a .terms) (a .passed .now) (a .waiting .now) (count .result) (segments .result) (count .ensures) (segments .ensures)
 
 add-j : tie.Need-add-j Inv-loop μ-loop
 add-j c = omega arith
@@ -90,12 +90,12 @@ loop-again c =
     let l = c .before .before .before .before .before in
     let g = l .before in
     let a = g .before .before .args in
-    let t = isDoneBy (g .before .stack-count .result) (a .size) (a .passed .now) (a .waiting .now) in
-    let G = g .segment-count .result in
+    let t = isDoneBy (g .before .stack-count .result) (a .terms .size) (a .passed .now) (a .waiting .now) in
+    let segments = g .segment-count .result in
     let f = c .before .is-done in (
       l .loop .inv .0,
       omega arith,
-      upto-on t G (l .loop .j) (all t (from 0 G)) (omega arith) (l .loop .inv .2)
+      upto-on t segments (l .loop .j) (all t (from 0 segments)) (omega arith) (l .loop .inv .2)
           (sym (f .ensures) ∙ not-false (f .result) (c .if1 .left)),
     )
 
@@ -104,11 +104,11 @@ returns-2 c =
     let l = c .before in
     let g = l .before in
     let a = g .before .before .args in
-    let N = g .before .stack-count in
-    let G = g .segment-count in
-    let t = isDoneBy (N .result) (a .size) (a .passed .now) (a .waiting .now) in
-    upto-end t (G .result) (l .loop .j) (all t (from 0 (G .result))) (omega arith) (l .loop .inv .2)
-    ∙ done-is (a .kind) (a .n) (a .size) (a .passed .now) (a .waiting .now) (N .result) (G .result) (N .ensures) (G .ensures)
+    let count = g .before .stack-count in
+    let segments = g .segment-count in
+    let t = isDoneBy (count .result) (a .terms .size) (a .passed .now) (a .waiting .now) in
+    upto-end t (segments .result) (l .loop .j) (all t (from 0 (segments .result))) (omega arith) (l .loop .inv .2)
+    ∙ done-is (a .terms) (a .passed .now) (a .waiting .now) (count .result) (segments .result) (count .ensures) (segments .ensures)
 
 pub are-done-spec : {M : Type 1} → statement M
 are-done-spec =

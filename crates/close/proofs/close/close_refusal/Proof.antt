@@ -1,85 +1,103 @@
 -- `close::close::close_refusal` meets its contract: the tests in the definition's order.
 use mathlib.Core.Path.{_≡_, sym, ap, _∙_}
-use mathlib.Core.Bool.{Bool, true, false}
+use mathlib.Core.Bool.{Bool, true, false, _&&_}
+use mathlib.Core.List.{List}
+use Prim.Native.Nat.{ℕ}
 use borrow.Author.Needs.{needs}
 use borrow.Author.Tests.{not-true, not-false}
 use Rattle.search.specs.Close.{isDone, isSweptWhole, isReady, isPastLast, closeRefusal}
-use Rattle.search.specs.JobState.{isCoherent, isFinished, inReverse, isSwept, stackCountOf, segmentCountOf, stackCountAt, passedOf, waitingOf, sweptOf, countOf}
+use Rattle.search.specs.JobState.{lastLevel, isCoherent, isLevel, isReverse, isFinished, inReverse, isSwept, levelOf, stackCountOf, segmentCountOf, stackCountAt, passedOf, waitingOf, sweptOf, countOf}
+use Rattle.search.specs.Terms.{N}
 use Rattle.search.specs.declared.Job.{Job}
-use Rattle.stacks.specs.Stack.{stackCount}
-use Rattle.close.specs.Ready.{readyBy}
-use Rattle.job.specs.Standing.{jobWith}
-use Rattle.job.proofs.Bounds.{coherent-sizes}
+use Rattle.search.specs.declared.Phase.{Phase}
+use Rattle.search.specs.declared.Terms.{Terms}
+use Rattle.search.specs.declared.Way.{Way}
+use Rattle.close.specs.Ready.{readyBy, pastLast}
+use Rattle.job.specs.Standing.{Has}
 use Rattle.close.proofs.close.close_refusal.Statement.{statement}
 use Rattle.close.proofs.close.close_refusal.Tie as tie
 
-abbrev asked : tie.Start → Job
-asked s =
-    let a = s .args in
-    jobWith (a .kind) (a .n) (a .wanted) (a .groups) (a .size) (a .room) (a .phase) (a .way) (a .loaded) (a .passed .now) (a .waiting .now) (a .swept .now)
-    (a .counts .now)
+-- the definition by its tests, of a job with these fields
+module _ {job : Job} {terms : Terms} {phase : Phase} {loaded : ℕ} {passed waiting swept : List ℕ} {fits : Bool}
+    (has : Has job terms phase loaded passed waiting swept fits) {way : Way} (in-way : job .way ≡ way) where
+  ready-is : readyBy (isLevel phase && isReverse way) (N terms) (terms .size) passed waiting swept ≡ isReady job
+  unfolding isReady isDone isSweptWhole isSwept inReverse passedOf waitingOf sweptOf stackCountAt segmentCountOf stackCountOf
+  ready-is =
+      sym (λ i. readyBy (isLevel (has .phase-is i) && isReverse (in-way i)) (N (has .terms-is i)) (has .terms-is i .size) (has .passed-is i)
+      (has .waiting-is i) (has .swept-is i))
+
+  past-is : {last : ℕ} → countOf job lastLevel ≡ last → pastLast (levelOf phase) last ≡ isPastLast job
+  unfolding isPastLast
+  past-is e = sym (λ i. pastLast (levelOf (has .phase-is i)) (e i))
 
 is-coherent-requires : tie.Need-is-coherent-requires
-is-coherent-requires c κs = c .pre
+is-coherent-requires c κs = search needs
 
 returns : tie.Need-returns
 unfolding closeRefusal
-returns c = rw (← c .before .is-coherent .ensures (c .before .before .args .way), not-true (c .before .is-coherent .result) (c .if1 .taken))
+returns c job has way last = rw (← c .before .is-coherent .ensures .0 job has, not-true (c .before .is-coherent .result) (c .if1 .taken))
 
 is-finished-requires : tie.Need-is-finished-requires
 is-finished-requires c κs = search needs
 
--- what each test has shown where the code goes on
-coherent : (c : tie.Else1) → isCoherent (asked (c .before .before)) ≡ true
-coherent c = sym (c .before .is-coherent .ensures (c .before .before .args .way)) ∙ not-false (c .before .is-coherent .result) (c .if1 .left)
+-- what each test has shown where the code goes on, of any job with these fields
+abbrev HasArgs : tie.Start → Job → Type 0
+HasArgs s job = let a = s .args in Has job (a .terms) (a .phase) (a .loaded) (a .passed .now) (a .waiting .now) (a .swept .now) (a .fits)
 
-unfinished : (c : tie.Else2) → isFinished (c .before .before .before .before .args .phase) ≡ false
-unfinished c = sym (c .before .is-finished .ensures) ∙ c .if2 .left
+coherent : (c : tie.Else1) (job : Job) → HasArgs (c .before .before) job → isCoherent job ≡ true
+coherent c job has = sym (c .before .is-coherent .ensures .0 job has) ∙ not-false (c .before .is-coherent .result) (c .if1 .left)
+
+unfinished : (c : tie.Else2) (job : Job) → HasArgs (c .before .before .before .before) job → isFinished (job .phase) ≡ false
+unfinished c job has = ap isFinished (has .phase-is) ∙ sym (c .before .is-finished .ensures) ∙ c .if2 .left
 
 -- what is_ready has answered
-told : (c : tie.After-is-ready) → c .is-ready .result ≡ isReady (asked (c .before .before .before .before .before .before))
-unfolding isReady isDone isSweptWhole isSwept inReverse passedOf waitingOf sweptOf stackCountAt segmentCountOf stackCountOf
-told c =
+told : (c : tie.After-is-ready) (job : Job) → let s = c .before .before .before .before .before .before in
+    HasArgs s job → job .way ≡ s .args .way → c .is-ready .result ≡ isReady job
+told c job has way =
     let a = c .before .before .before .before .before .before .args in
     c .is-ready .ensures
-    ∙ ap (λ (t : Bool). readyBy t (stackCount (a .kind) (a .n)) (a .size) (a .passed .now) (a .waiting .now) (a .swept .now)) (c .before .in-reverse .ensures)
+    ∙ ap (λ (t : Bool). readyBy t (N (a .terms)) (a .terms .size) (a .passed .now) (a .waiting .now) (a .swept .now)) (c .before .in-reverse .ensures)
+    ∙ ready-is has way
 
-ready : (c : tie.Else3) → isReady (asked (c .before .before .before .before .before .before .before)) ≡ true
-ready c = sym (told (c .before)) ∙ not-false (c .before .is-ready .result) (c .if3 .left)
+ready : (c : tie.Else3) (job : Job) → let s = c .before .before .before .before .before .before .before in
+    HasArgs s job → job .way ≡ s .args .way → isReady job ≡ true
+ready c job has way = sym (told (c .before) job has way) ∙ not-false (c .before .is-ready .result) (c .if3 .left)
 
 returns-2 : tie.Need-returns-2
 unfolding closeRefusal
-returns-2 c = rw (coherent (c .before .before), ← c .before .is-finished .ensures, c .if2 .taken)
+returns-2 c job has way last = rw (coherent (c .before .before) job has, has .phase-is, ← c .before .is-finished .ensures, c .if2 .taken)
 
 in-reverse-requires : tie.Need-in-reverse-requires
 in-reverse-requires c κs = search needs
 
 is-ready-requires : tie.Need-is-ready-requires
-is-ready-requires c κs = let ok = c .before .before .before in coherent-sizes (asked (ok .before .before)) (coherent ok)
+is-ready-requires c κs =
+    let ok = c .before .before .before in
+    ok .before .is-coherent .ensures .1 (not-false (ok .before .is-coherent .result) (ok .if1 .left))
 
 returns-3 : tie.Need-returns-3
 unfolding closeRefusal
-returns-3 c =
+returns-3 c job has way last =
     let r = c .before in
     let u = r .before .before in
-    rw (coherent (u .before .before), unfinished u, ← told r, not-true (r .is-ready .result) (c .if3 .taken))
+    rw (coherent (u .before .before) job has, unfinished u job has, ← told r job has way, not-true (r .is-ready .result) (c .if3 .taken))
 
 is-past-last-requires : tie.Need-is-past-last-requires
 is-past-last-requires c κs = search needs
 
 returns-4 : tie.Need-returns-4
-unfolding closeRefusal isPastLast countOf
-returns-4 c =
+unfolding closeRefusal
+returns-4 c job has way last =
     let r = c .before .before in
     let u = r .before .before .before in
-    rw (coherent (u .before .before), unfinished u, ready r, ← c .before .is-past-last .ensures, c .if4 .taken)
+    rw (coherent (u .before .before) job has, unfinished u job has, ready r job has way, ← past-is has way last, ← c .before .is-past-last .ensures, c .if4 .taken)
 
 returns-5 : tie.Need-returns-5
-unfolding closeRefusal isPastLast countOf
-returns-5 c =
+unfolding closeRefusal
+returns-5 c job has way last =
     let r = c .before .before in
     let u = r .before .before .before in
-    rw (coherent (u .before .before), unfinished u, ready r, ← c .before .is-past-last .ensures, c .if4 .left)
+    rw (coherent (u .before .before) job has, unfinished u job has, ready r job has way, ← past-is has way last, ← c .before .is-past-last .ensures, c .if4 .left)
 
 pub close-refusal-spec : {M : Type 1} → statement M
 close-refusal-spec =

@@ -12,18 +12,9 @@ level-of-requires c κs = search needs
 returns : tie.Need-returns
 returns c = rw (ne-eqb (levelOf (c .before .before .args .phase)) lastLevel (λ h. c .if1 .taken (c .before .level-of .ensures ∙ h)))
 
-cast-result : tie.Need-cast-result
-cast-result c = search needs
-
-mul-result : tie.Need-mul-result
-mul-result c = search needs
-
-element-copy-out-result : tie.Need-element-copy-out-result
-element-copy-out-result c = search needs
-
 returns-2 : tie.Need-returns-2
-returns-2 c = rw (eq-eqb (levelOf (c .before .before .before .args .phase)) lastLevel (sym (c .before .before .level-of .ensures) ∙ c .before .if1 .left))
+returns-2 c = rw (eq-eqb (levelOf (c .before .before .args .phase)) lastLevel (sym (c .before .level-of .ensures) ∙ c .if1 .left))
 
 pub is-past-last-spec : {M : Type 1} → statement M
 is-past-last-spec =
-    tie.close (tie.spec level-of-requires returns cast-result mul-result element-copy-out-result returns-2)
+    tie.close (tie.spec level-of-requires returns returns-2)

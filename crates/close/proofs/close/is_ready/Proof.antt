@@ -2,7 +2,7 @@
 use mathlib.Core.Path.{_≡_, sym, ap, _∙_}
 use mathlib.Core.Bool.{Bool}
 use Prim.Native.Nat.{ℕ}
-use Rattle.stacks.specs.Stack.{stackCount}
+use Rattle.search.specs.Terms.{N}
 use Rattle.close.specs.Ready.{sweptBy, readyBy}
 use Rattle.close.proofs.close.is_ready.Statement.{statement}
 use Rattle.close.proofs.close.is_ready.Tie as tie
@@ -15,18 +15,18 @@ are-swept-requires c κs = c .segment-count-of .ensures .1
 
 -- what either branch answers is what the definition says
 ready : (s : tie.Start) {t r : Bool} → let a = s .args in
-    a .reverse ≡ t → r ≡ readyBy t (stackCount (a .kind) (a .n)) (a .size) (a .passed .now) (a .waiting .now) (a .swept .now)
-    → r ≡ readyBy (a .reverse) (stackCount (a .kind) (a .n)) (a .size) (a .passed .now) (a .waiting .now) (a .swept .now)
+    a .reverse ≡ t → r ≡ readyBy t (N (a .terms)) (a .terms .size) (a .passed .now) (a .waiting .now) (a .swept .now)
+    → r ≡ readyBy (a .reverse) (N (a .terms)) (a .terms .size) (a .passed .now) (a .waiting .now) (a .swept .now)
 ready s e h =
     let a = s .args in
-    h ∙ ap (λ (t : Bool). readyBy t (stackCount (a .kind) (a .n)) (a .size) (a .passed .now) (a .waiting .now) (a .swept .now)) (sym e)
+    h ∙ ap (λ (t : Bool). readyBy t (N (a .terms)) (a .terms .size) (a .passed .now) (a .waiting .now) (a .swept .now)) (sym e)
 
 returns : tie.Need-returns
 returns c =
     let g = c .before in
     let t = g .before in
     ready (t .before) (t .if1 .taken)
-    (c .are-swept .ensures ∙ ap (λ (G : ℕ). sweptBy G (t .before .args .swept .now)) (g .segment-count-of .ensures .0))
+    (c .are-swept .ensures ∙ ap (λ (count : ℕ). sweptBy count (t .before .args .swept .now)) (g .segment-count-of .ensures .0))
 
 are-done-requires : tie.Need-are-done-requires
 are-done-requires c κs = c .before .pre

@@ -1,6 +1,6 @@
 -- `expand::expand::expand_refusal` meets its contract.
 use mathlib.Core.Path.{sym, _∙_}
-use Rattle.job.proofs.Standings.{passed-is, stacks-are, stands-sizes}
+use Rattle.job.proofs.Standings.{passed-is, stacks-are, stands-begins}
 use Rattle.search.proofs.Accepted.{level-facts}
 use native.Mathlib.Omega.{arith}
 use Rattle.expand.proofs.Expanding.{refusal-level, refusal-passed, refusal-none}
@@ -17,16 +17,17 @@ returns c job e =
 
 stack-count-at-requires : tie.Need-stack-count-at-requires
 stack-count-at-requires c κs =
-    let s = c .before .before in
+    let ok = c .before in
+    let s = ok .before .before in
     let a = s .args in
     let of = s .pre in
-    let f = level-facts (of .job) (a .j) (a .bytes) (a .words) 0 (sym (c .before .level-refusal .ensures (of .job) (of .is)) ∙ c .if1 .left) .0 in
-    stands-sizes (a .standing) (a .j) of (f .called .coherent) .is-pane-count
+    let f = level-facts (of .job) (a .j) (a .bytes) (a .words) 0 (sym (ok .before .level-refusal .ensures (of .job) (of .is)) ∙ ok .if1 .left) .0 in
+    stands-begins (a .standing) (a .j) of (f .called .coherent)
 
 returns-2 : tie.Need-returns-2
 returns-2 c job e =
     let m = c .before .before in
-    let ok = m .before in
+    let ok = m .before .before in
     let a = ok .before .before .args in
     refusal-passed job (a .j) (a .bytes) (a .words) (ok .before .level-refusal .ensures job e)
     (m .stack-count-at .ensures ∙ stacks-are (a .standing) (a .j) job e)
@@ -36,7 +37,7 @@ returns-2 c job e =
 returns-3 : tie.Need-returns-3
 returns-3 c job e =
     let m = c .before .before in
-    let ok = m .before in
+    let ok = m .before .before in
     let a = ok .before .before .args in
     refusal-none job (a .j) (a .bytes) (a .words) (ok .before .level-refusal .ensures job e)
     (m .stack-count-at .ensures ∙ stacks-are (a .standing) (a .j) job e)

@@ -1,5 +1,6 @@
 -- `expand::expand::scan_of` meets its contract.
 use borrow.Author.Needs.{needs}
+use Rattle.search.proofs.Coherence.{begin-given}
 use Rattle.expand.proofs.Expanding.{scan-is}
 use Rattle.expand.proofs.expand.scan_of.Statement.{statement}
 use Rattle.expand.proofs.expand.scan_of.Tie as tie
@@ -11,7 +12,7 @@ segment-count-of-requires : tie.Need-segment-count-of-requires
 segment-count-of-requires c κs = search needs
 
 turn-count-requires : tie.Need-turn-count-requires
-turn-count-requires c κs = search needs
+turn-count-requires c κs = begin-given (c .before .pre .0) .in-range
 
 next-entry-requires : tie.Need-next-entry-requires
 next-entry-requires c κs = search needs
@@ -20,7 +21,7 @@ returns : tie.Need-returns
 returns c =
     let s = c .before .before .before in
     let a = s .args in
-    scan-is (a .kind) (a .n) (a .groups) (a .size) (a .room) (a .level) (a .j) (c .before .before .segment-count-of .ensures .0) (c .before .turn-count .ensures) (s .pre .2)
+    scan-is (a .terms) (a .level) (a .j) (c .before .before .segment-count-of .ensures .0) (c .before .turn-count .ensures) (s .pre .1)
     (c .next-entry .ensures)
 
 pub scan-of-spec : {M : Type 1} → statement M

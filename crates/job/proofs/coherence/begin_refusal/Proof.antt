@@ -6,9 +6,9 @@ use borrow.Author.Needs.{needs}
 use borrow.Author.Tests.{not-true, not-false}
 use Rattle.base.specs.Words.{unless}
 use Rattle.perm.proofs.Refusals.{index-passes}
-use Rattle.stacks.specs.Stack.{stackCount}
-use Rattle.search.specs.JobState.{beginRefusal}
 use Rattle.search.specs.Segments.{isSegmentSize, isLogRoom}
+use Rattle.search.specs.Terms.{N, beginRefusal}
+use Rattle.search.specs.declared.Terms.{Terms}
 use Rattle.job.proofs.Rows.{begin-refuses, begin-goes-on}
 use Rattle.job.proofs.coherence.begin_refusal.Statement.{statement}
 use Rattle.job.proofs.coherence.begin_refusal.Tie as tie
@@ -18,58 +18,58 @@ index-refusal-requires c κs = search needs
 
 returns : tie.Need-returns
 returns c =
-    let a = c .before .before .args in
+    let terms = c .before .before .before .args .terms in
     let f = c .before .index-refusal in
-    begin-refuses (a .kind) (a .n) (a .wanted) (a .groups) (a .size) (a .room) (f .result) (f .ensures) (c .if1 .taken)
+    begin-refuses terms (f .result) (f .ensures) (c .if1 .taken)
 
 is-group-set-requires : tie.Need-is-group-set-requires
 is-group-set-requires c κs = search needs
 
 -- what is tried after the set
-abbrev sizes : ℕ → ℕ → ℕ → ℕ → ℕ
-sizes kind n S C = unless (isSegmentSize (stackCount kind n) S) 5 (unless (isLogRoom C) 6 0)
+abbrev sizes : Terms → ℕ
+sizes terms = unless (isSegmentSize (N terms) (terms .size)) 5 (unless (isLogRoom (terms .room)) 6 0)
 
 -- the wanted stack passes, and the tests of the set, S and C decide
 rest : (c : tie.After-is-group-set)
-    → let a = c .before .before .before .args in
-    unless (c .is-group-set .result) 21 (sizes (a .kind) (a .n) (a .size) (a .room)) ≡ beginRefusal (a .kind) (a .n) (a .wanted) (a .groups) (a .size) (a .room)
+    → let terms = c .before .before .before .before .args .terms in
+    unless (c .is-group-set .result) 21 (sizes terms) ≡ beginRefusal terms
 rest c =
-    let a = c .before .before .before .args in
+    let terms = c .before .before .before .before .args .terms in
     let f = c .before .before .index-refusal in
-    ap (λ (t : Bool). unless t 21 (sizes (a .kind) (a .n) (a .size) (a .room))) (c .is-group-set .ensures)
-    ∙ begin-goes-on (a .kind) (a .n) (a .wanted) (a .groups) (a .size) (a .room) (f .result) (f .ensures) (c .before .if1 .left)
+    ap (λ (t : Bool). unless t 21 (sizes terms)) (c .is-group-set .ensures)
+    ∙ begin-goes-on terms (f .result) (f .ensures) (c .before .if1 .left)
 
 returns-2 : tie.Need-returns-2
 returns-2 c =
-    let a = c .before .before .before .before .args in
-    ap (λ (t : Bool). unless t 21 (sizes (a .kind) (a .n) (a .size) (a .room))) (sym (not-true (c .before .is-group-set .result) (c .if2 .taken)))
+    let terms = c .before .before .before .before .before .args .terms in
+    ap (λ (t : Bool). unless t 21 (sizes terms)) (sym (not-true (c .before .is-group-set .result) (c .if2 .taken)))
     ∙ rest (c .before)
 
 stack-count-requires : tie.Need-stack-count-requires
 stack-count-requires c κs =
     let s = c .before .before in
-    let a = s .before .before .args in
-    index-passes (a .kind) (a .n) (a .wanted) (sym (s .before .index-refusal .ensures) ∙ s .if1 .left) .0
+    let terms = s .before .before .before .args .terms in
+    index-passes (terms .kind) (terms .n) (terms .wanted) (sym (s .before .index-refusal .ensures) ∙ s .if1 .left) .0
 
 is-segment-size-requires : tie.Need-is-segment-size-requires
 is-segment-size-requires c κs = search needs
 
 -- the set passes too, and the tests of S and C decide
 sized : (c : tie.After-is-segment-size)
-    → let a = c .before .before .before .before .before .before .args in
-    unless (c .is-segment-size .result) 5 (unless (isLogRoom (a .room)) 6 0) ≡ beginRefusal (a .kind) (a .n) (a .wanted) (a .groups) (a .size) (a .room)
+    → let terms = c .before .before .before .before .before .before .before .args .terms in
+    unless (c .is-segment-size .result) 5 (unless (isLogRoom (terms .room)) 6 0) ≡ beginRefusal terms
 sized c =
     let e = c .before .before in
-    let a = e .before .before .before .before .args in
-    ap (λ (t : Bool). unless t 5 (unless (isLogRoom (a .room)) 6 0))
-    (c .is-segment-size .ensures ∙ ap (λ (m : ℕ). isSegmentSize m (a .size)) (c .before .stack-count .ensures))
-    ∙ ap (λ (t : Bool). unless t 21 (sizes (a .kind) (a .n) (a .size) (a .room))) (sym (not-false (e .before .is-group-set .result) (e .if2 .left)))
+    let terms = e .before .before .before .before .before .args .terms in
+    ap (λ (t : Bool). unless t 5 (unless (isLogRoom (terms .room)) 6 0))
+    (c .is-segment-size .ensures ∙ ap (λ (m : ℕ). isSegmentSize m (terms .size)) (c .before .stack-count .ensures))
+    ∙ ap (λ (t : Bool). unless t 21 (sizes terms)) (sym (not-false (e .before .is-group-set .result) (e .if2 .left)))
     ∙ rest (e .before)
 
 returns-3 : tie.Need-returns-3
 returns-3 c =
-    let a = c .before .before .before .before .before .before .before .args in
-    ap (λ (t : Bool). unless t 5 (unless (isLogRoom (a .room)) 6 0)) (sym (not-true (c .before .is-segment-size .result) (c .if3 .taken)))
+    let terms = c .before .before .before .before .before .before .before .before .args .terms in
+    ap (λ (t : Bool). unless t 5 (unless (isLogRoom (terms .room)) 6 0)) (sym (not-true (c .before .is-segment-size .result) (c .if3 .taken)))
     ∙ sized (c .before)
 
 is-log-room-requires : tie.Need-is-log-room-requires
@@ -77,12 +77,12 @@ is-log-room-requires c κs = search needs
 
 -- S passes too
 last : (c : tie.After-is-log-room)
-    → let a = c .before .before .before .before .before .before .before .before .args in
-    unless (c .is-log-room .result) 6 0 ≡ beginRefusal (a .kind) (a .n) (a .wanted) (a .groups) (a .size) (a .room)
+    → let terms = c .before .before .before .before .before .before .before .before .before .args .terms in
+    unless (c .is-log-room .result) 6 0 ≡ beginRefusal terms
 last c =
-    let a = c .before .before .before .before .before .before .before .before .args in
+    let terms = c .before .before .before .before .before .before .before .before .before .args .terms in
     ap (λ (t : Bool). unless t 6 0) (c .is-log-room .ensures)
-    ∙ ap (λ (t : Bool). unless t 5 (unless (isLogRoom (a .room)) 6 0))
+    ∙ ap (λ (t : Bool). unless t 5 (unless (isLogRoom (terms .room)) 6 0))
     (sym (not-false (c .before .before .is-segment-size .result) (c .before .if3 .left)))
     ∙ sized (c .before .before)
 

@@ -6,7 +6,7 @@ use Rattle.search.specs.JobState.{isCoherent}
 use Rattle.search.specs.Refusals.{callRefusal}
 use Rattle.search.specs.declared.Job.{Job}
 use Rattle.job.specs.Standing.{standingOf}
-use Rattle.job.proofs.Standings.{coherent-is, segments-are, stands-sizes}
+use Rattle.job.proofs.Standings.{coherent-is, segments-are, stands-begins}
 use Rattle.job.proofs.refusals.call_refusal.Statement.{statement}
 use Rattle.job.proofs.refusals.call_refusal.Tie as tie
 
@@ -24,23 +24,24 @@ coherent c job e =
 
 segment-count-of-requires : tie.Need-segment-count-of-requires
 segment-count-of-requires c κs =
-    let s = c .before .before in
-    let b = stands-sizes (s .args .standing) (s .args .j) (s .pre) (coherent c (s .pre .job) (s .pre .is)) in (b .is-pane-count, b .is-size)
+    let ok = c .before in
+    let s = ok .before .before in
+    stands-begins (s .args .standing) (s .args .j) (s .pre) (coherent ok (s .pre .job) (s .pre .is))
 
 returns-2 : tie.Need-returns-2
 unfolding callRefusal
 returns-2 c job e =
-    let ok = c .before .before in
+    let ok = c .before .before .before in
     rw (coherent ok job e, not-true (ok .before .before .args .in-phase) (c .if2 .taken))
 
-in-phase : (c : tie.Else2) → c .before .before .before .before .args .in-phase ≡ true
-in-phase c = not-false (c .before .before .before .before .args .in-phase) (c .if2 .left)
+in-phase : (c : tie.Else2) → c .before .before .before .before .before .args .in-phase ≡ true
+in-phase c = not-false (c .before .before .before .before .before .args .in-phase) (c .if2 .left)
 
 returns-3 : tie.Need-returns-3
 unfolding callRefusal
 returns-3 c job e =
     let g = c .before .before in
-    let ok = g .before in
+    let ok = g .before .before in
     let a = ok .before .before .args in
     let f = g .segment-count-of in
     rw (coherent ok job e, in-phase (c .before), ← segments-are (a .standing) (a .j) job e, ← f .ensures .0, le-ltb (a .j) (f .result) (c .if3 .taken))
@@ -49,7 +50,7 @@ returns-4 : tie.Need-returns-4
 unfolding callRefusal
 returns-4 c job e =
     let g = c .before .before in
-    let ok = g .before in
+    let ok = g .before .before in
     let a = ok .before .before .args in
     let f = g .segment-count-of in
     rw (coherent ok job e, in-phase (c .before), ← segments-are (a .standing) (a .j) job e, ← f .ensures .0, lt-ltb (a .j) (f .result) (c .if3 .left))

@@ -12,7 +12,7 @@ use Rattle.search.specs.declared.Job.{Job}
 use Rattle.search.proofs.Accepted.{segment-facts}
 use Rattle.job.specs.Standing.{standingOf}
 use Rattle.job.proofs.Rows.{segment-refuses, segment-on}
-use Rattle.job.proofs.Standings.{forward-is, area-is, stands-sizes}
+use Rattle.job.proofs.Standings.{forward-is, area-is, stands-begins}
 use Rattle.job.proofs.refusals.level_refusal.Statement.{statement}
 use Rattle.job.proofs.refusals.level_refusal.Tie as tie
 
@@ -43,18 +43,19 @@ returns c job e =
 
 log-length-requires : tie.Need-log-length-requires
 log-length-requires c κs =
-    let s = c .before .before .before in
+    let ok = c .before in
+    let s = ok .before .before .before in
     let a = s .args in
     let of = s .pre in
-    let f = segment-facts (inForward (of .job)) (of .job) (a .j) (a .bytes) 0 (sym (answered (c .before) (of .job) (of .is)) ∙ c .if1 .left) .0 in
-    let b = stands-sizes (a .standing) (a .j) of (f .coherent) in (b .is-pane-count, b .is-size, b .is-room)
+    let f = segment-facts (inForward (of .job)) (of .job) (a .j) (a .bytes) 0 (sym (answered (ok .before) (of .job) (of .is)) ∙ ok .if1 .left) .0 in
+    stands-begins (a .standing) (a .j) of (f .coherent)
 
 -- the row goes on, and the test of the length decides
-decides : (c : tie.After-log-length) (job : Job) → let a = c .before .before .before .before .args in
+decides : (c : tie.After-log-length) (job : Job) → let a = c .before .before .before .before .before .args in
     a .standing ≡ standingOf job (a .j) → unless (eqb (a .words) (c .log-length .result)) 10 0 ≡ levelRefusal job (a .j) (a .bytes) (a .words) 0
 unfolding levelRefusal
 decides c job e =
-    let ok = c .before in
+    let ok = c .before .before in
     let s = ok .before in
     let a = s .before .before .args in
     ap (λ (m : ℕ). unless (eqb (a .words) m) 10 0) (c .log-length .ensures ∙ area-is (a .standing) (a .j) job e)
@@ -63,12 +64,12 @@ decides c job e =
 returns-2 : tie.Need-returns-2
 returns-2 c job e =
     let l = c .before in
-    ap (λ (t : Bool). unless t 10 0) (sym (ne-eqb (l .before .before .before .before .args .words) (l .log-length .result) (c .if2 .taken))) ∙ decides l job e
+    ap (λ (t : Bool). unless t 10 0) (sym (ne-eqb (l .before .before .before .before .before .args .words) (l .log-length .result) (c .if2 .taken))) ∙ decides l job e
 
 returns-3 : tie.Need-returns-3
 returns-3 c job e =
     let l = c .before in
-    ap (λ (t : Bool). unless t 10 0) (sym (eq-eqb (l .before .before .before .before .args .words) (l .log-length .result) (c .if2 .left))) ∙ decides l job e
+    ap (λ (t : Bool). unless t 10 0) (sym (eq-eqb (l .before .before .before .before .before .args .words) (l .log-length .result) (c .if2 .left))) ∙ decides l job e
 
 pub level-refusal-spec : {M : Type 1} → statement M
 level-refusal-spec =

@@ -13,7 +13,7 @@ use Rattle.search.specs.declared.Job.{Job}
 use Rattle.search.proofs.Accepted.{call-facts}
 use Rattle.job.specs.Standing.{standingOf}
 use Rattle.job.proofs.Rows.{call-refuses, call-on}
-use Rattle.job.proofs.Standings.{stacks-are, stands-sizes}
+use Rattle.job.proofs.Standings.{stacks-are, stands-begins}
 use Rattle.job.proofs.refusals.segment_refusal.Statement.{statement}
 use Rattle.job.proofs.refusals.segment_refusal.Tie as tie
 
@@ -33,11 +33,12 @@ returns c job e =
 
 stack-count-at-requires : tie.Need-stack-count-at-requires
 stack-count-at-requires c κs =
-    let s = c .before .before in
+    let ok = c .before in
+    let s = ok .before .before in
     let a = s .args in
     let of = s .pre in
-    let f = call-facts (a .in-phase) (of .job) (a .j) 0 (sym (c .before .call-refusal .ensures (of .job) (of .is)) ∙ c .if1 .left) .0 in
-    stands-sizes (a .standing) (a .j) of (f .coherent) .is-pane-count
+    let f = call-facts (a .in-phase) (of .job) (a .j) 0 (sym (ok .before .call-refusal .ensures (of .job) (of .is)) ∙ ok .if1 .left) .0 in
+    stands-begins (a .standing) (a .j) of (f .coherent)
 
 bytes-for-requires : tie.Need-bytes-for-requires
 bytes-for-requires c κs = search needs
@@ -46,12 +47,12 @@ cast-length : tie.Need-cast-length
 cast-length c = search needs
 
 -- the row goes on, and the test of the length decides
-decides : (c : tie.After-bytes-for) (job : Job) → let a = c .before .before .before .before .args in
+decides : (c : tie.After-bytes-for) (job : Job) → let a = c .before .before .before .before .before .args in
     a .standing ≡ standingOf job (a .j)
     → unless (eqb (a .bytes) (c .bytes-for .result)) 10 0 ≡ segmentRefusal (a .in-phase) job (a .j) (a .bytes) 0
 unfolding segmentRefusal
 decides c job e =
-    let ok = c .before .before in
+    let ok = c .before .before .before in
     let a = ok .before .before .args in
     let f = ok .before .call-refusal in
     ap (λ (m : ℕ). unless (eqb (a .bytes) m) 10 0)
@@ -61,12 +62,12 @@ decides c job e =
 returns-2 : tie.Need-returns-2
 returns-2 c job e =
     let b = c .before in
-    ap (λ (t : Bool). unless t 10 0) (sym (ne-eqb (b .before .before .before .before .args .bytes) (b .bytes-for .result) (c .if2 .taken))) ∙ decides b job e
+    ap (λ (t : Bool). unless t 10 0) (sym (ne-eqb (b .before .before .before .before .before .args .bytes) (b .bytes-for .result) (c .if2 .taken))) ∙ decides b job e
 
 returns-3 : tie.Need-returns-3
 returns-3 c job e =
     let b = c .before in
-    ap (λ (t : Bool). unless t 10 0) (sym (eq-eqb (b .before .before .before .before .args .bytes) (b .bytes-for .result) (c .if2 .left))) ∙ decides b job e
+    ap (λ (t : Bool). unless t 10 0) (sym (eq-eqb (b .before .before .before .before .before .args .bytes) (b .bytes-for .result) (c .if2 .left))) ∙ decides b job e
 
 pub segment-refusal-spec : {M : Type 1} → statement M
 segment-refusal-spec =

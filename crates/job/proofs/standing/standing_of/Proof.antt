@@ -1,34 +1,39 @@
 -- `job::standing::standing_of` meets its contract.
 use mathlib.Core.Path.{_≡_}
 use mathlib.Core.Bool.{Bool}
+use mathlib.Core.List.{List}
 use Prim.Native.Nat.{ℕ}
+use borrow.Author.Needs.{needs}
+use lib.ListN.{getD}
 use Rattle.search.specs.JobState.{isCoherent, passedOf, waitingOf, sweptOf}
 use Rattle.search.specs.declared.Job.{Job}
-use Rattle.job.specs.Standing.{jobWith, standingOf}
+use Rattle.search.specs.declared.Phase.{Phase}
+use Rattle.search.specs.declared.Terms.{Terms}
+use Rattle.search.specs.declared.Way.{Way}
+use Rattle.job.specs.Standing.{Has, standingOf}
 use Rattle.job.specs.declared.standing.Standing.{Standing}
 use Rattle.job.proofs.standing.standing_of.Statement.{statement}
 use Rattle.job.proofs.standing.standing_of.Tie as tie
 
-made : (job : Job) (j : ℕ) {coherent : Bool} {passed waiting swept : ℕ} → coherent ≡ isCoherent job → passed ≡ passedOf job j → waiting ≡ waitingOf job j
-    → swept ≡ sweptOf job (job .loaded)
+made : {job : Job} {terms : Terms} {phase : Phase} {loaded : ℕ} {passed waiting swept : List ℕ} {fits : Bool}
+    → Has job terms phase loaded passed waiting swept fits → {way : Way} → job .way ≡ way → (j : ℕ) {coherent : Bool} {at on row : ℕ}
+    → coherent ≡ isCoherent job → at ≡ getD passed j 0 → on ≡ getD waiting j 0 → row ≡ getD swept loaded 0
     → _≡_ {A = Standing} (record {
       coherent = coherent;
-      kind = job .kind;
-      n = job .n;
-      size = job .size;
-      room = job .room;
-      phase = job .phase;
-      way = job .way;
-      loaded = job .loaded;
-      passed = passed;
-      waiting = waiting;
-      swept = swept;
+      terms = terms;
+      phase = phase;
+      way = way;
+      loaded = loaded;
+      passed = at;
+      waiting = on;
+      swept = row;
     }) (standingOf job j)
-unfolding standingOf
-made job j a b c d = rw (a, b, c, d)
+unfolding standingOf passedOf waitingOf sweptOf
+made has e j a b c d =
+    rw (a, b, c, d, ← has .terms-is, ← has .phase-is, ← has .loaded-is, ← has .passed-is, ← has .waiting-is, ← has .swept-is, ← e)
 
 is-coherent-requires : tie.Need-is-coherent-requires
-is-coherent-requires c κs = c .pre .3
+is-coherent-requires c κs = search needs
 
 number-at-requires : tie.Need-number-at-requires
 number-at-requires c κs = c .before .pre .0
@@ -40,19 +45,11 @@ row-at-requires : tie.Need-row-at-requires
 row-at-requires c κs = c .before .before .before .pre .2
 
 returns : tie.Need-returns
-unfolding passedOf waitingOf sweptOf
-returns c =
+returns c job has way =
     let w = c .before in
     let p = w .before in
     let h = p .before in
-    let a = h .before .args in
-    made
-    (jobWith (a .kind) (a .n) (a .wanted) (a .groups) (a .size) (a .room) (a .phase) (a .way) (a .loaded) (a .passed .now) (a .waiting .now) (a .swept .now) (a .counts .now))
-    (a .j)
-    (h .is-coherent .ensures (a .way))
-    (p .number-at .ensures)
-    (w .number-at2 .ensures)
-    (c .row-at .ensures)
+    made has way (h .before .args .j) (h .is-coherent .ensures .0 job has) (p .number-at .ensures) (w .number-at2 .ensures) (c .row-at .ensures)
 
 pub standing-of-spec : {M : Type 1} → statement M
 standing-of-spec = tie.close (tie.spec is-coherent-requires number-at-requires number-at-requires-2 row-at-requires returns)

@@ -59,8 +59,8 @@ returns c =
     let l = w .before in
     let g = l .before .report-groups in
     let a = l .before .before .before .args in
-    built-is (a .kind) (a .n) (a .wanted) (a .size) (a .table .now) (f .last .1 .1 .1 .1 .1 .1 .0) (f .last .1 .1 .1 .1 .1 .1 .1 .0)
-    (f .last .1 .1 .1 .1 .1 .1 .1 .1 .0) (f .result) (g .result) (l .table-bytes .result) (w .log-words .result) (i .changed-bytes .result)
+    built-is (a .kind) (a .n) (a .wanted) (a .size) (a .table .now) (f .last .1 .0) (f .last .1 .1 .0)
+    (f .last .1 .1 .1 .0) (f .result) (g .result) (l .table-bytes .result) (w .log-words .result) (i .changed-bytes .result)
     (g .ensures) (l .table-bytes .ensures .0) (w .log-words .ensures .0) (w .log-words .ensures .1) (i .changed-bytes .ensures .0)
     (i .changed-bytes .ensures .1) (f .ensures)
 

@@ -7,17 +7,16 @@ use borrow.Author.Tests.{eq-eqb, ne-eqb}
 use lib.Dec.{eqb}
 use Rattle.search.specs.Changed.{listBytes}
 use Rattle.search.specs.Entries.{bytesFor}
-use Rattle.search.specs.Segments.{stackCountIn}
-use Rattle.stacks.specs.Stack.{stackCount}
+use Rattle.search.specs.Terms.{m}
 use Rattle.sweep.proofs.sweep.lengths_fit.Statement.{statement}
 use Rattle.sweep.proofs.sweep.lengths_fit.Tie as tie
 
 -- the first length does not fit, or it does and the other decides
-first-fails : (a m l : ℕ) (other : Bool) → m ≡ l → (a ≡ m → ⊥) → false ≡ (eqb a l && other)
-first-fails a m l other e h = sym (ap (λ (t : Bool). t && other) (ne-eqb a l (λ q. h (q ∙ sym e))))
+first-fails : (a x l : ℕ) (other : Bool) → x ≡ l → (a ≡ x → ⊥) → false ≡ (eqb a l && other)
+first-fails a x l other e h = sym (ap (λ (t : Bool). t && other) (ne-eqb a l (λ q. h (q ∙ sym e))))
 
-first-fits : (a m l : ℕ) (other : Bool) → m ≡ l → a ≡ m → other ≡ (eqb a l && other)
-first-fits a m l other e h = sym (ap (λ (t : Bool). t && other) (eq-eqb a l (h ∙ e)))
+first-fits : (a x l : ℕ) (other : Bool) → x ≡ l → a ≡ x → other ≡ (eqb a l && other)
+first-fits a x l other e h = sym (ap (λ (t : Bool). t && other) (eq-eqb a l (h ∙ e)))
 
 stack-count-at-requires : tie.Need-stack-count-at-requires
 stack-count-at-requires c κs = search needs
@@ -32,8 +31,7 @@ returns : tie.Need-returns
 returns c =
     let f = c .before in
     let a = f .before .before .args in
-    let N = stackCount (a .kind) (a .n) in
-    first-fails (a .bytes) (f .bytes-for .result) (bytesFor (stackCountIn N (a .size) (a .j))) (eqb (a .listed) (listBytes (stackCountIn N (a .size) (a .b))))
+    first-fails (a .bytes) (f .bytes-for .result) (bytesFor (m (a .terms) (a .j))) (eqb (a .listed) (listBytes (m (a .terms) (a .b))))
     (f .bytes-for .ensures ∙ ap bytesFor (f .before .stack-count-at .ensures))
     (c .if1 .taken)
 
@@ -51,9 +49,8 @@ returns-2 c =
     let t = c .before .before in
     let f = t .before in
     let a = f .before .before .args in
-    let N = stackCount (a .kind) (a .n) in
     ap (eqb (a .listed)) (c .list-bytes .ensures ∙ ap listBytes (c .before .stack-count-at2 .ensures))
-    ∙ first-fits (a .bytes) (f .bytes-for .result) (bytesFor (stackCountIn N (a .size) (a .j))) (eqb (a .listed) (listBytes (stackCountIn N (a .size) (a .b))))
+    ∙ first-fits (a .bytes) (f .bytes-for .result) (bytesFor (m (a .terms) (a .j))) (eqb (a .listed) (listBytes (m (a .terms) (a .b))))
     (f .bytes-for .ensures ∙ ap bytesFor (f .before .stack-count-at .ensures))
     (t .if1 .left)
 

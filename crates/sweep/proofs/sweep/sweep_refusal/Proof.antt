@@ -16,7 +16,7 @@ use Rattle.search.proofs.Accepted.{CallFacts, call-facts}
 use Rattle.job.specs.Standing.{standingOf}
 use Rattle.job.proofs.Bounds.{segment-below}
 use Rattle.job.proofs.Rows.{call-refuses, call-on}
-use Rattle.job.proofs.Standings.{reverse-is, loaded-is, swept-is, stands-sizes}
+use Rattle.job.proofs.Standings.{reverse-is, loaded-is, swept-is, stands-begins}
 use Rattle.sweep.proofs.Sweeping.{lengths-are}
 use Rattle.sweep.proofs.sweep.sweep_refusal.Statement.{statement}
 use Rattle.sweep.proofs.sweep.sweep_refusal.Tie as tie
@@ -95,16 +95,16 @@ cast-lengths-fit c = search needs
 
 lengths-fit-requires : tie.Need-lengths-fit-requires
 lengths-fit-requires c κs =
-    let ok = c .before .before .before in
+    let ok = c .before .before .before .before in
     let s = ok .before .before .before in
-    stands-sizes (s .args .standing) (s .args .j) (s .pre) (facts ok .coherent) .is-pane-count
+    stands-begins (s .args .standing) (s .args .j) (s .pre) (facts ok .coherent)
 
 -- a segment is loaded, and the lengths decide
-decides : (c : tie.After-lengths-fit) (job : Job) → let a = c .before .before .before .before .before .before .before .args in
+decides : (c : tie.After-lengths-fit) (job : Job) → let a = c .before .before .before .before .before .before .before .before .args in
     a .standing ≡ standingOf job (a .j)
     → unless (c .lengths-fit .result) 10 (unless (not (isSwept job (job .loaded) (a .j))) 11 0) ≡ sweepRefusal job (a .j) (a .bytes) (a .listed)
 decides c job e =
-    let some = c .before .before in
+    let some = c .before .before .before in
     let ok = some .before .before in
     let a = ok .before .before .before .args in
     let swept = isSwept job (job .loaded) (a .j) in
@@ -116,13 +116,13 @@ decides c job e =
 returns-3 : tie.Need-returns-3
 returns-3 c job e =
     let f = c .before in
-    let a = f .before .before .before .before .before .before .before .args in
+    let a = f .before .before .before .before .before .before .before .before .args in
     ap (λ (t : Bool). unless t 10 (unless (not (isSwept job (job .loaded) (a .j))) 11 0)) (sym (not-true (f .lengths-fit .result) (c .if3 .taken)))
     ∙ decides f job e
 
 shr-if4 : tie.Need-shr-if4
 shr-if4 c =
-    let ok = c .before .before .before .before .before .before in
+    let ok = c .before .before .before .before .before .before .before in
     let s = ok .before .before .before in
     segment-below (s .pre .job) (facts ok .coherent) (s .args .j) (facts ok .inside)
 
@@ -130,7 +130,7 @@ returns-4 : tie.Need-returns-4
 returns-4 c job e =
     let fit = c .before .before in
     let f = fit .before in
-    let a = f .before .before .before .before .before .before .before .args in
+    let a = f .before .before .before .before .before .before .before .before .args in
     let row = a .standing .swept in
     ap (λ (t : Bool). unless (not t) 11 0) (sym (eq-eqb (row / 2 ^ a .j % 2) 1 (c .if4 .taken)) ∙ swept-says job (a .j) row (swept-is (a .standing) (a .j) job e))
     ∙ ap (λ (t : Bool). unless t 10 (unless (not (isSwept job (job .loaded) (a .j))) 11 0)) (sym (not-false (f .lengths-fit .result) (fit .if3 .left)))
@@ -140,7 +140,7 @@ returns-5 : tie.Need-returns-5
 returns-5 c job e =
     let fit = c .before .before in
     let f = fit .before in
-    let a = f .before .before .before .before .before .before .before .args in
+    let a = f .before .before .before .before .before .before .before .before .args in
     let row = a .standing .swept in
     ap (λ (t : Bool). unless (not t) 11 0) (sym (ne-eqb (row / 2 ^ a .j % 2) 1 (c .if4 .left)) ∙ swept-says job (a .j) row (swept-is (a .standing) (a .j) job e))
     ∙ ap (λ (t : Bool). unless t 10 (unless (not (isSwept job (job .loaded) (a .j))) 11 0)) (sym (not-false (f .lengths-fit .result) (fit .if3 .left)))

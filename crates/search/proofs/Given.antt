@@ -1,6 +1,4 @@
--- What an accepted Begin was given, as one value, with document 01's letters for what follows from it.
---   N, G, m       the stacks, the segments, the stacks of segment j
---   lengthsOf     the right lengths of what calls are lent
+-- What follows from what an accepted Begin was given.
 --   moves, step   the moves, and the child by a move, as an index
 --   goal          the wanted stack's index
 --   D             the fewest moves from the stack at an index, cut beyond the last level
@@ -13,47 +11,18 @@ use mathlib.Core.List.{List}
 use Prim.Native.Nat.{ℕ, suc, _<_, _≤_}
 use native.Mathlib.Omega.{arith}
 use lib.Dec.{eqb}
-use lib.IntN.{ℤ}
 use Rattle.base.specs.Words.{tally, from}
 use Rattle.graph.proofs.Depths.{Depths}
 use Rattle.stacks.specs.Index.{rankOf}
-use Rattle.stacks.specs.Stack.{isKind, isPaneCount, isStack, stackCount}
+use Rattle.stacks.specs.Stack.{isKind, isPaneCount, isStack}
 use Rattle.stacks.specs.Turn.{isGroupSet, turnsIn}
-use Rattle.search.specs.Build.{Lengths}
 use Rattle.search.specs.JobState.{lastLevel}
-use Rattle.search.specs.Promise.{rightLengths}
-use Rattle.search.specs.Segments.{segmentLimit, segmentCount, stackCountIn, isSegmentSize, isLogRoom}
-use Rattle.search.specs.declared.Job.{Job}
+use Rattle.search.specs.Segments.{segmentLimit, isSegmentSize, isLogRoom}
+use Rattle.search.specs.Terms.{N, G}
+use Rattle.search.specs.declared.Terms.{Terms}
 use Rattle.search.proofs.Fewest.{depth, move-depths, goal-inside}
 use Rattle.search.proofs.SegmentLaws.{SegmentSizeFacts, segment-size-facts}
 use Rattle.search.proofs.Turning.{childAt, Moves, set-turns}
-
-pub record Terms : Type 0 where
-  pub kind : ℕ
-  pub n : ℕ
-  pub wanted : List ℤ
-  pub groups : ℕ
-  pub S : ℕ
-  pub C : ℕ
-
--- those of a job, and of Begin's arguments
-abbrev pub termsOf : Job → Terms
-termsOf job = record { kind = job .kind; n = job .n; wanted = job .wanted; groups = job .groups; S = job .size; C = job .room }
-
-abbrev pub termsWith : ℕ → ℕ → List ℤ → ℕ → ℕ → ℕ → Terms
-termsWith kind n wanted groups S C = record { kind = kind; n = n; wanted = wanted; groups = groups; S = S; C = C }
-
-abbrev pub N : Terms → ℕ
-N terms = stackCount (terms .kind) (terms .n)
-
-abbrev pub G : Terms → ℕ
-G terms = segmentCount (N terms) (terms .S)
-
-abbrev pub m : Terms → ℕ → ℕ
-m terms = stackCountIn (N terms) (terms .S)
-
-abbrev pub lengthsOf : Terms → Lengths
-lengthsOf terms = rightLengths (terms .kind) (terms .n) (terms .S) (terms .C)
 
 abbrev pub moves : Terms → List ℕ
 moves terms = turnsIn (terms .kind) (terms .n) (terms .groups)
@@ -79,14 +48,14 @@ pub record Given (terms : Terms) : Type 0 where
   pub in-range : isPaneCount (terms .kind) (terms .n) ≡ true
   pub stack : isStack (terms .kind) (terms .n) (terms .wanted) ≡ true
   pub of-set : isGroupSet (terms .kind) (terms .n) (terms .groups) ≡ true
-  pub segments : isSegmentSize (N terms) (terms .S) ≡ true
-  pub room : isLogRoom (terms .C) ≡ true
+  pub segments : isSegmentSize (N terms) (terms .size) ≡ true
+  pub room : isLogRoom (terms .room) ≡ true
 
 module _ {terms : Terms} (given : Given terms) where
-  sizes : SegmentSizeFacts (N terms) (terms .S)
-  sizes = segment-size-facts (N terms) (terms .S) (given .segments)
+  sizes : SegmentSizeFacts (N terms) (terms .size)
+  sizes = segment-size-facts (N terms) (terms .size) (given .segments)
 
-  pub some : 0 < terms .S
+  pub some : 0 < terms .size
   some = omega (arith, sizes .least)
 
   pub few : G terms ≤ segmentLimit
