@@ -1,5 +1,6 @@
 -- Laws on lists, numbers and tests that the kit lacks.
 pub mod Tests
+pub mod Rows
 pub mod Numbers
 pub mod Lists
 pub mod Counting

@@ -1,13 +1,10 @@
--- Laws on Boolean tests: taking a conjunction apart and putting it together, a row of refusals, a case on a test, and the order of two
--- numbers as a case.
+-- Laws on Boolean tests: taking a conjunction apart and putting it together, a case on a test, and the order of two numbers as a case.
 use mathlib.Core.Path.{_≡_, refl, sym}
 use mathlib.Core.Logic.{_⊎_, inl, inr}
 use mathlib.Core.Bool.{Bool, true, false, _&&_, _||_, true≢false, false≢true}
-use Prim.Native.Nat.{ℕ, suc, _<_, _≤_}
-use native.Mathlib.Nat.{suc-ne-zero}
+use Prim.Native.Nat.{ℕ, _<_, _≤_}
 use lib.Dec.{ltb, eqb}
 use borrow.Author.Tests.{ltb-true, ltb-false, eqb-true, eqb-false}
-use Rattle.base.specs.Words.{unless}
 
 pub and-left : (a b : Bool) → (a && b) ≡ true → a ≡ true
 and-left true b h = refl
@@ -36,11 +33,6 @@ or-right false b h = h
 pub or-cases : (a b : Bool) → (a || b) ≡ true → (a ≡ true) ⊎ (b ≡ true)
 or-cases true b h = inl refl
 or-cases false b h = inr h
-
--- a refusal that was not met
-pub unless-zero : (ok : Bool) (r rest : ℕ) → unless ok (suc r) rest ≡ 0 → (ok ≡ true) × (rest ≡ 0)
-unless-zero true r rest h = (refl, h)
-unless-zero false r rest h = absurd (suc-ne-zero r h)
 
 -- a test is true or false, with the equation
 pub test-cases : (b : Bool) → (b ≡ true) ⊎ (b ≡ false)

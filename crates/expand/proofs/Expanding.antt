@@ -10,8 +10,8 @@ use lib.Dec.{ltb, eqb}
 use lib.ListN.{length, getD, List·getD-eq-default}
 use borrow.Author.Tests.{lt-ltb, le-ltb}
 use Rattle.base.specs.Words.{unless, firstFrom}
+use Rattle.base.proofs.Rows.{row-refuses, row-goes-on}
 use Rattle.base.proofs.Tests.{lt-or-ge}
-use Rattle.job.proofs.Rows.{level-refuses, level-goes-on}
 use Rattle.stacks.specs.Turn.{turnsIn}
 use Rattle.search.specs.Entries.{entryAt, nextEntry}
 use Rattle.search.specs.Expand.{Expansion, isParent, expandRefusal, childrenOf, placeChild, placeAll, passOne, waitFor, expandStack, expandNext, expandRun, expansion, expandedJob, expandOf}
@@ -23,7 +23,7 @@ use Rattle.search.specs.Terms.{G, m}
 use Rattle.search.specs.declared.Expanded.{Expanded}
 use Rattle.search.specs.declared.Job.{Job}
 use Rattle.search.specs.declared.Terms.{Terms}
-use Rattle.search.proofs.Accepted.{LevelFacts, expand-facts, expand-accepted}
+use Rattle.search.proofs.Accepted.{LevelFacts, expand-facts, expand-accepted, level-row}
 use Rattle.search.proofs.Coherence.{begin-given, coherent-facts}
 use Rattle.search.proofs.EntryLaws.{next-level}
 use Rattle.twobit.specs.declared.marking.Found.{Found}
@@ -40,20 +40,20 @@ module _ (job : Job) (j bytes logs : ℕ) {r : ℕ} (e : r ≡ levelRefusal job 
 
   pub refusal-level : (r ≡ 0 → ⊥) → r ≡ expandRefusal job j bytes logs
   unfolding expandRefusal
-  refusal-level = level-refuses job j bytes logs rest r e
+  refusal-level = row-refuses (level-row job j bytes logs) rest r e
 
   module _ {m : ℕ} (all : m ≡ stackCountAt job j) (none : r ≡ 0) where
     pub refusal-passed : m ≤ passedOf job j → 11 ≡ expandRefusal job j bytes logs
     unfolding expandRefusal
     refusal-passed l =
         ap (λ (t : Bool). unless t 11 0) (sym (le-ltb (passedOf job j) (stackCountAt job j) (omega arith)))
-        ∙ level-goes-on job j bytes logs rest r e none
+        ∙ row-goes-on (level-row job j bytes logs) rest r e none
 
     pub refusal-none : passedOf job j < m → 0 ≡ expandRefusal job j bytes logs
     unfolding expandRefusal
     refusal-none l =
         ap (λ (t : Bool). unless t 11 0) (sym (lt-ltb (passedOf job j) (stackCountAt job j) (omega arith)))
-        ∙ level-goes-on job j bytes logs rest r e none
+        ∙ row-goes-on (level-row job j bytes logs) rest r e none
 
 -- ---- the scan, as the code fills it
 pub scan-is : (terms : Terms) (level j : ℕ) {segments turns mark : ℕ} → segments ≡ G terms

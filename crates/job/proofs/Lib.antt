@@ -1,6 +1,5 @@
--- Proofs of the functions: what a coherent job and its standing keep within bounds, loops over segments, rows of refusals, and answers.
+-- Proofs of the functions: what a coherent job and its standing keep within bounds, loops over segments, and answers.
 pub mod Bounds
 pub mod Standings
 pub mod Scans
-pub mod Rows
 pub mod Answers

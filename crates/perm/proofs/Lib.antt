@@ -8,4 +8,4 @@ pub mod Ranking
 pub mod Unranking
 pub mod Below
 pub mod Group
-pub mod Refusals
+pub mod Answers

@@ -2,17 +2,20 @@
 use mathlib.Core.Path.{_≡_, refl, sym, ap, _∙_}
 use mathlib.Core.Bool.{Bool, true, false, not}
 use mathlib.Core.List.{List, _++_}
-use Prim.Native.Nat.{ℕ, _≤_}
+use Prim.Native.Nat.{ℕ, _/_, _≤_, _<_}
 use native.Mathlib.Omega.{arith}
 use lib.Dec.{eqb}
 use lib.IntN.{ℤ}
 use lib.ListN.{length, take, drop}
 use borrow.Author.Tests.{eq-eqb, ne-eqb}
 use Rattle.base.specs.Words.{unless}
+use Rattle.base.proofs.Rows.{row-on, row-refuses, equal, below, _and-then_}
 use Rattle.base.proofs.Tests.{and-fails-left, and-fails-right}
 use Rattle.stacks.specs.Index.{rankOf}
+use Rattle.stacks.specs.Stack.{stackCount}
 use Rattle.stacks.specs.Turn.{turnsIn}
-use Rattle.search.specs.Entries.{entryAt, unseen}
+use Rattle.stacks.proofs.Refusals.{kind-row}
+use Rattle.search.specs.Entries.{bytesFor, entryAt, unseen}
 use Rattle.search.specs.Plan.{planLimit, Route, entryOf, isWanted, routeFrom, hasPlan, planRefusal, planOf, planRow}
 use Rattle.search.specs.Read.{readRefusal, readOf}
 use Rattle.search.specs.declared.Entry.{Entry}
@@ -20,9 +23,20 @@ use Rattle.search.specs.declared.Planned.{Planned}
 use Rattle.plan.specs.Drafts.{noDraft, Drafts}
 use Rattle.plan.specs.declared.plan.Draft.{Draft}
 use Rattle.plan.proofs.Routes.{routeAt}
-use Rattle.search.proofs.PlanLaws.{RowFacts, row-goes-on, row-refuses, plan-facts}
+use Rattle.search.proofs.EntryLaws.{byte-inside}
+use Rattle.search.proofs.PlanLaws.{RowFacts, given-row, plan-row}
 
--- ---- Read an entry: r is what the row answers
+-- ---- Read an entry
+
+-- an entry that is read stands in the table
+pub read-inside : (kind n bytes i : ℕ) → readRefusal kind n bytes i ≡ 0 → i / 4 < bytes
+unfolding readRefusal
+read-inside kind n bytes i h =
+    let count = stackCount kind n in
+    let f = (kind-row kind n and-then equal bytes (bytesFor count) 10 refl and-then below i count 4 refl) .asks h in
+    rw (f .1 .0) (byte-inside i count (f .1 .1))
+
+-- r is what the row answers
 
 module _ (kind n : ℕ) (table : List ℕ) (i r : ℕ) (e : r ≡ readRefusal kind n (length table) i) where
   pub no-entry : (r ≡ 0 → ⊥) → _≡_ {A = Entry} (record { refusal = r; entry = 0 }) (readOf kind n table i)
@@ -77,14 +91,14 @@ module _ (kind n : ℕ) (wanted given : List ℤ) (groups : ℕ) (table : List �
 
   -- the row up to 20 refuses
   pub row-refused : (r : ℕ) → r ≡ planRow kind n wanted given groups (length table) slots 0 → (r ≡ 0 → ⊥) → Drafts kind n wanted given groups table slots (noDraft r)
-  unfolding planRefusal planRow
-  row-refused r e h = refused r (row-refuses kind n wanted given groups (length table) slots r (unless seen 20 (unless planned 15 0)) e h) h
+  unfolding planRefusal
+  row-refused r e h = refused r (row-refuses (given-row kind n wanted given groups (length table) slots) _ r e h) h
 
   -- it does not, and v is the given stack's entry
   module _ (f : RowFacts kind n wanted given groups (length table) slots) (v : ℕ) (e : v ≡ entryOf kind n table given) where
     rest-is : unless seen 20 (unless planned 15 0) ≡ planRefusal kind n wanted given groups table slots 0
-    unfolding planRefusal planRow
-    rest-is = sym (row-goes-on kind n wanted given groups (length table) slots f (unless seen 20 (unless planned 15 0)))
+    unfolding planRefusal
+    rest-is = sym (row-on (given-row kind n wanted given groups (length table) slots) f (unless seen 20 (unless planned 15 0)))
 
     pub draft-unseen : v ≡ 3 → Drafts kind n wanted given groups table slots (noDraft 20)
     unfolding unseen
@@ -109,7 +123,7 @@ module _ (kind n : ℕ) (wanted given : List ℤ) (groups : ℕ) (table list : L
   -- an accepted list has room for the turns
   pub draft-fits : draft .refusal ≡ 0 → (draft .taken ≤ planLimit) × (draft .taken ≤ length list)
   draft-fits h =
-      let f = plan-facts kind n wanted given groups table (length list) 0 (sym (d .refuses) ∙ h) .0 in
+      let f = plan-row kind n wanted given groups table (length list) .asks (sym (d .refuses) ∙ h) in
       (d .few, omega (arith, d .few, f .row .wide))
 
   pub plan-refused : (draft .refusal ≡ 0 → ⊥)

@@ -1,4 +1,3 @@
 -- What the code of Read an entry and Plan is proved with.
 pub mod Routes
-pub mod Rows
 pub mod Answers

@@ -1,14 +1,15 @@
 -- What each accepted call was given, as named facts, and what it leaves; a refused one leaves what it was lent.
 use mathlib.Core.Path.{_≡_, refl, sym, ap, _∙_}
-use mathlib.Core.Logic.{_⊎_, inl, inr}
+use mathlib.Core.Logic.{_⊎_, inl, inr, _↔_}
 use mathlib.Core.Bool.{Bool, true, false, not, cond}
 use mathlib.Core.List.{List}
 use Prim.Native.Nat.{ℕ, _<_}
 use lib.Dec.{ltb, eqb}
 use lib.ListN.{length, set}
-use borrow.Author.Tests.{ltb-true, lt-ltb, eqb-true, eq-eqb, ne-eqb, not-true}
-use Rattle.base.specs.Words.{unless, all}
-use Rattle.base.proofs.Tests.{unless-zero, and-left, and-right, and-both, never, eq-or-ne}
+use borrow.Author.Tests.{eq-eqb, ne-eqb, not-true}
+use Rattle.base.specs.Words.{all}
+use Rattle.base.proofs.Rows.{Row, row-ends, check, equal, below, fails, asking, _and-then_}
+use Rattle.base.proofs.Tests.{and-left, and-right, and-both, never, eq-or-ne}
 use Rattle.search.specs.Blank.{blankRefusal, blanked, blankOf}
 use Rattle.search.specs.Close.{isReady, isPastLast, closeRefusal, nextPhase, closed, closeOf}
 use Rattle.search.specs.Entries.{bytesFor}
@@ -53,35 +54,16 @@ pub record CallFacts (inPhase : Bool) (job : Job) (j : ℕ) : Type 0 where
   pub inside : j < segmentCountOf job
 
 module _ (inPhase : Bool) (job : Job) (j : ℕ) where
-  pub call-facts : (rest : ℕ) → callRefusal inPhase job j rest ≡ 0 → CallFacts inPhase job j × (rest ≡ 0)
+  pub call-row : Row (callRefusal inPhase job j) (CallFacts inPhase job j)
   unfolding callRefusal
-  call-facts rest h =
-      let inside : ℕ = unless (ltb j (segmentCountOf job)) 9 rest in
-      let a = unless-zero (isCoherent job) 6 (unless inPhase 8 inside) h in
-      let b = unless-zero inPhase 7 inside (a .1) in
-      let c = unless-zero (ltb j (segmentCountOf job)) 8 rest (b .1) in
-      (record { coherent = a .0; in-phase = b .0; inside = ltb-true j (segmentCountOf job) (c .0) }, c .1)
+  call-row =
+      asking (check (isCoherent job) 7 refl and-then check inPhase 8 refl and-then below j (segmentCountOf job) 9 refl)
+      (λ f. record { coherent = f .0; in-phase = f .1 .0; inside = f .1 .1 })
+      (λ f. (f .coherent, (f .in-phase, f .inside)))
 
-  -- where they all hold the rest decides
-  pub call-goes-on : (rest : ℕ) → CallFacts inPhase job j → callRefusal inPhase job j rest ≡ rest
-  unfolding callRefusal
-  call-goes-on rest f = rw (f .coherent, f .in-phase, lt-ltb j (segmentCountOf job) (f .inside))
-
-  module _ (bytes : ℕ) where
-    pub segment-facts : (rest : ℕ) → segmentRefusal inPhase job j bytes rest ≡ 0
-        → CallFacts inPhase job j × (bytes ≡ bytesFor (stackCountAt job j)) × (rest ≡ 0)
-    unfolding segmentRefusal
-    segment-facts rest h =
-        let a = call-facts (unless (eqb bytes (bytesFor (stackCountAt job j))) 10 rest) h in
-        let b = unless-zero (eqb bytes (bytesFor (stackCountAt job j))) 9 rest (a .1) in
-        (a .0, eqb-true bytes (bytesFor (stackCountAt job j)) (b .0), b .1)
-
-    pub segment-goes-on : (rest : ℕ) → CallFacts inPhase job j → bytes ≡ bytesFor (stackCountAt job j)
-        → segmentRefusal inPhase job j bytes rest ≡ rest
-    unfolding segmentRefusal
-    segment-goes-on rest f long =
-        call-goes-on (unless (eqb bytes (bytesFor (stackCountAt job j))) 10 rest) f
-        ∙ ap (λ (t : Bool). unless t 10 rest) (eq-eqb bytes (bytesFor (stackCountAt job j)) long)
+  pub segment-row : (bytes : ℕ) → Row (segmentRefusal inPhase job j bytes) (CallFacts inPhase job j × (bytes ≡ bytesFor (stackCountAt job j)))
+  unfolding segmentRefusal
+  segment-row bytes = call-row and-then equal bytes (bytesFor (stackCountAt job j)) 10 refl
 
 pub record BlankFacts (job : Job) (j bytes : ℕ) : Type 0 where
   pub called : CallFacts (isBlanking (job .phase)) job j
@@ -89,21 +71,19 @@ pub record BlankFacts (job : Job) (j bytes : ℕ) : Type 0 where
   pub left : passedOf job j < stackCountAt job j
 
 module _ (job : Job) (j bytes : ℕ) where
-  pub blank-facts : blankRefusal job j bytes ≡ 0 → BlankFacts job j bytes
+  blank-row : (blankRefusal job j bytes ≡ 0) ↔ BlankFacts job j bytes
   unfolding blankRefusal
-  blank-facts h =
-      let a = segment-facts (isBlanking (job .phase)) job j bytes (unless (ltb (passedOf job j) (stackCountAt job j)) 11 0) h in
-      record {
-        called = a .0;
-        long = a .1;
-        left = ltb-true (passedOf job j) (stackCountAt job j) (unless-zero (ltb (passedOf job j) (stackCountAt job j)) 10 0 (a .2) .0);
-      }
+  blank-row =
+      row-ends
+      (asking (segment-row (isBlanking (job .phase)) job j bytes and-then below (passedOf job j) (stackCountAt job j) 11 refl)
+      (λ f. record { called = f .0 .0; long = f .0 .1; left = f .1 })
+      (λ f. ((f .called, f .long), f .left)))
+
+  pub blank-facts : blankRefusal job j bytes ≡ 0 → BlankFacts job j bytes
+  blank-facts = blank-row .0
 
   pub facts-blank : BlankFacts job j bytes → blankRefusal job j bytes ≡ 0
-  unfolding blankRefusal
-  facts-blank f =
-      segment-goes-on (isBlanking (job .phase)) job j bytes (unless (ltb (passedOf job j) (stackCountAt job j)) 11 0) (f .called) (f .long)
-      ∙ ap (λ (t : Bool). unless t 11 0) (lt-ltb (passedOf job j) (stackCountAt job j) (f .left))
+  facts-blank = blank-row .1
 
 -- what Expand and Settle try first
 pub record LevelFacts (job : Job) (j bytes words : ℕ) : Type 0 where
@@ -112,52 +92,41 @@ pub record LevelFacts (job : Job) (j bytes words : ℕ) : Type 0 where
   pub wide : words ≡ logLength job
 
 module _ (job : Job) (j bytes words : ℕ) where
-  pub level-facts : (rest : ℕ) → levelRefusal job j bytes words rest ≡ 0 → LevelFacts job j bytes words × (rest ≡ 0)
+  pub level-row : Row (levelRefusal job j bytes words) (LevelFacts job j bytes words)
   unfolding levelRefusal
-  level-facts rest h =
-      let a = segment-facts (inForward job) job j bytes (unless (eqb words (logLength job)) 10 rest) h in
-      let b = unless-zero (eqb words (logLength job)) 9 rest (a .2) in
-      (record { called = a .0; long = a .1; wide = eqb-true words (logLength job) (b .0) }, b .1)
+  level-row =
+      asking (segment-row (inForward job) job j bytes and-then equal words (logLength job) 10 refl)
+      (λ f. record { called = f .0 .0; long = f .0 .1; wide = f .1 })
+      (λ f. ((f .called, f .long), f .wide))
 
-  pub facts-level : (rest : ℕ) → LevelFacts job j bytes words → rest ≡ 0 → levelRefusal job j bytes words rest ≡ 0
-  unfolding levelRefusal
-  facts-level rest f h =
-      segment-goes-on (inForward job) job j bytes (unless (eqb words (logLength job)) 10 rest) (f .called) (f .long)
-      ∙ ap (λ (t : Bool). unless t 10 rest) (eq-eqb words (logLength job) (f .wide))
-      ∙ h
+  expand-row : (expandRefusal job j bytes words ≡ 0) ↔ (LevelFacts job j bytes words × (passedOf job j < stackCountAt job j))
+  unfolding expandRefusal
+  expand-row = row-ends (level-row and-then below (passedOf job j) (stackCountAt job j) 11 refl)
 
   pub expand-facts : expandRefusal job j bytes words ≡ 0 → LevelFacts job j bytes words × (passedOf job j < stackCountAt job j)
-  unfolding expandRefusal
-  expand-facts h =
-      let a = level-facts (unless (ltb (passedOf job j) (stackCountAt job j)) 11 0) h in
-      (a .0, ltb-true (passedOf job j) (stackCountAt job j) (unless-zero (ltb (passedOf job j) (stackCountAt job j)) 10 0 (a .1) .0))
+  expand-facts = expand-row .0
 
   pub facts-expand : LevelFacts job j bytes words → passedOf job j < stackCountAt job j → expandRefusal job j bytes words ≡ 0
-  unfolding expandRefusal
-  facts-expand f l =
-      facts-level (unless (ltb (passedOf job j) (stackCountAt job j)) 11 0) f (rw (lt-ltb (passedOf job j) (stackCountAt job j) l))
+  facts-expand f l = expand-row .1 (f, l)
 
 module _ (job : Job) (j bytes : ℕ) (log : List ℕ) where
-  pub settle-facts : settleRefusal job j bytes log ≡ 0
-      → LevelFacts job j bytes (length log) × (all (λ i. ltb i (stackCountAt job j)) (pending job j log) ≡ true)
-  unfolding settleRefusal
-  settle-facts h =
-      let fit : Bool = all (λ i. ltb i (stackCountAt job j)) (pending job j log) in
-      let a = level-facts job j bytes (length log) (unless fit 12 0) h in
-      (a .0, unless-zero fit 11 0 (a .1) .0)
+  -- each waiting entry is an offset of the segment
+  abbrev fit : Bool
+  fit = all (λ i. ltb i (stackCountAt job j)) (pending job j log)
 
-  pub facts-settle : LevelFacts job j bytes (length log) → all (λ i. ltb i (stackCountAt job j)) (pending job j log) ≡ true
-      → settleRefusal job j bytes log ≡ 0
+  settle-row : (settleRefusal job j bytes log ≡ 0) ↔ (LevelFacts job j bytes (length log) × (fit ≡ true))
   unfolding settleRefusal
-  facts-settle f e =
-      facts-level job j bytes (length log) (unless (all (λ i. ltb i (stackCountAt job j)) (pending job j log)) 12 0) f
-      (ap (λ (t : Bool). unless t 12 0) e)
+  settle-row = row-ends (level-row job j bytes (length log) and-then check fit 12 refl)
+
+  pub settle-facts : settleRefusal job j bytes log ≡ 0 → LevelFacts job j bytes (length log) × (fit ≡ true)
+  settle-facts = settle-row .0
+
+  pub facts-settle : LevelFacts job j bytes (length log) → fit ≡ true → settleRefusal job j bytes log ≡ 0
+  facts-settle f e = settle-row .1 (f, e)
 
 pub look-facts : (job : Job) (j words : ℕ) → lookRefusal job j words ≡ 0 → CallFacts true job j × (words ≡ logLength job)
 unfolding lookRefusal
-look-facts job j words h =
-    let a = call-facts true job j (unless (eqb words (logLength job)) 10 0) h in
-    (a .0, eqb-true words (logLength job) (unless-zero (eqb words (logLength job)) 9 0 (a .1) .0))
+look-facts job j words = (call-row true job j and-then equal words (logLength job) 10 refl) .asks
 
 -- what Load tries
 pub record LoadFacts (job : Job) (b bytes listed : ℕ) : Type 0 where
@@ -166,18 +135,19 @@ pub record LoadFacts (job : Job) (b bytes listed : ℕ) : Type 0 where
   pub wide : listed ≡ listBytes (stackCountAt job b)
 
 module _ (job : Job) (b bytes listed : ℕ) where
-  pub load-facts : loadRefusal job b bytes listed ≡ 0 → LoadFacts job b bytes listed
+  load-row : (loadRefusal job b bytes listed ≡ 0) ↔ LoadFacts job b bytes listed
   unfolding loadRefusal
-  load-facts h =
-      let fits : Bool = eqb listed (listBytes (stackCountAt job b)) in
-      let a = segment-facts (inReverse job) job b bytes (unless fits 10 0) h in
-      record { called = a .0; long = a .1; wide = eqb-true listed (listBytes (stackCountAt job b)) (unless-zero fits 9 0 (a .2) .0) }
+  load-row =
+      row-ends
+      (asking (segment-row (inReverse job) job b bytes and-then equal listed (listBytes (stackCountAt job b)) 10 refl)
+      (λ f. record { called = f .0 .0; long = f .0 .1; wide = f .1 })
+      (λ f. ((f .called, f .long), f .wide)))
+
+  pub load-facts : loadRefusal job b bytes listed ≡ 0 → LoadFacts job b bytes listed
+  load-facts = load-row .0
 
   pub facts-load : LoadFacts job b bytes listed → loadRefusal job b bytes listed ≡ 0
-  unfolding loadRefusal
-  facts-load f =
-      segment-goes-on (inReverse job) job b bytes (unless (eqb listed (listBytes (stackCountAt job b))) 10 0) (f .called) (f .long)
-      ∙ ap (λ (t : Bool). unless t 10 0) (eq-eqb listed (listBytes (stackCountAt job b)) (f .wide))
+  facts-load = load-row .1
 
 -- what Sweep tries
 pub record SweepFacts (job : Job) (j bytes listed : ℕ) : Type 0 where
@@ -188,33 +158,24 @@ pub record SweepFacts (job : Job) (j bytes listed : ℕ) : Type 0 where
   pub left : isSwept job (job .loaded) j ≡ false
 
 module _ (job : Job) (j bytes listed : ℕ) where
-  pub sweep-facts : sweepRefusal job j bytes listed ≡ 0 → SweepFacts job j bytes listed
+  sweep-row : (sweepRefusal job j bytes listed ≡ 0) ↔ SweepFacts job j bytes listed
   unfolding sweepRefusal
-  sweep-facts h =
-      let long : Bool = eqb bytes (bytesFor (stackCountAt job j)) in
-      let wide : Bool = eqb listed (listBytes (stackCountAt job (job .loaded))) in
-      let left : Bool = not (isSwept job (job .loaded) j) in
-      let a = call-facts (inReverse job) job j (unless (isLoaded job) 22 (unless long 10 (unless wide 10 (unless left 11 0)))) h in
-      let b = unless-zero (isLoaded job) 21 (unless long 10 (unless wide 10 (unless left 11 0))) (a .1) in
-      let c = unless-zero long 9 (unless wide 10 (unless left 11 0)) (b .1) in
-      let d = unless-zero wide 9 (unless left 11 0) (c .1) in
-      record {
-        called = a .0;
-        loaded = b .0;
-        long = eqb-true bytes (bytesFor (stackCountAt job j)) (c .0);
-        wide = eqb-true listed (listBytes (stackCountAt job (job .loaded))) (d .0);
-        left = not-true (isSwept job (job .loaded) j) (unless-zero left 10 0 (d .1) .0);
-      }
+  sweep-row =
+      row-ends
+      (asking
+      (call-row (inReverse job) job j
+      and-then check (isLoaded job) 22 refl
+      and-then equal bytes (bytesFor (stackCountAt job j)) 10 refl
+      and-then equal listed (listBytes (stackCountAt job (job .loaded))) 10 refl
+      and-then fails (isSwept job (job .loaded) j) 11 refl)
+      (λ f. record { called = f .0; loaded = f .1 .0; long = f .1 .1 .0; wide = f .1 .1 .1 .0; left = f .1 .1 .1 .1 })
+      (λ f. (f .called, (f .loaded, (f .long, (f .wide, f .left))))))
+
+  pub sweep-facts : sweepRefusal job j bytes listed ≡ 0 → SweepFacts job j bytes listed
+  sweep-facts = sweep-row .0
 
   pub facts-sweep : SweepFacts job j bytes listed → sweepRefusal job j bytes listed ≡ 0
-  unfolding sweepRefusal
-  facts-sweep f =
-      let m = listBytes (stackCountAt job (job .loaded)) in
-      call-goes-on (inReverse job) job j
-      (unless (isLoaded job) 22
-      (unless (eqb bytes (bytesFor (stackCountAt job j))) 10 (unless (eqb listed m) 10 (unless (not (isSwept job (job .loaded) j)) 11 0))))
-      (f .called)
-      ∙ rw (f .loaded, eq-eqb bytes (bytesFor (stackCountAt job j)) (f .long), eq-eqb listed m (f .wide), f .left)
+  facts-sweep = sweep-row .1
 
 pub record CloseFacts (job : Job) : Type 0 where
   pub coherent : isCoherent job ≡ true
@@ -223,25 +184,23 @@ pub record CloseFacts (job : Job) : Type 0 where
   pub fits : isPastLast job ≡ false
 
 module _ (job : Job) where
-  pub close-facts : closeRefusal job ≡ 0 → CloseFacts job
+  close-row : (closeRefusal job ≡ 0) ↔ CloseFacts job
   unfolding closeRefusal
-  close-facts h =
-      let fits : ℕ = unless (not (isPastLast job)) 14 0 in
-      let ready : ℕ = unless (isReady job) 13 fits in
-      let a = unless-zero (isCoherent job) 6 (unless (not (isFinished (job .phase))) 8 ready) h in
-      let b = unless-zero (not (isFinished (job .phase))) 7 ready (a .1) in
-      let c = unless-zero (isReady job) 12 fits (b .1) in
-      let d = unless-zero (not (isPastLast job)) 13 0 (c .1) in
-      record {
-        coherent = a .0;
-        unfinished = not-true (isFinished (job .phase)) (b .0);
-        ready = c .0;
-        fits = not-true (isPastLast job) (d .0);
-      }
+  close-row =
+      row-ends
+      (asking
+      (check (isCoherent job) 7 refl
+      and-then fails (isFinished (job .phase)) 8 refl
+      and-then check (isReady job) 13 refl
+      and-then fails (isPastLast job) 14 refl)
+      (λ f. record { coherent = f .0; unfinished = f .1 .0; ready = f .1 .1 .0; fits = f .1 .1 .1 })
+      (λ f. (f .coherent, (f .unfinished, (f .ready, f .fits)))))
+
+  pub close-facts : closeRefusal job ≡ 0 → CloseFacts job
+  close-facts = close-row .0
 
   pub facts-close : CloseFacts job → closeRefusal job ≡ 0
-  unfolding closeRefusal
-  facts-close f = rw (f .coherent, f .unfinished, f .ready, f .fits)
+  facts-close = close-row .1
 
 -- the last level closes only where its count is 0
 pub past-facts : (job : Job) → isPastLast job ≡ false → levelOf (job .phase) ≡ lastLevel → countOf job lastLevel ≡ 0

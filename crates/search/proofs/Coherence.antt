@@ -1,18 +1,18 @@
 -- Coherent jobs: what coherence says, and that it asks of its terms what Begin asks.
-use mathlib.Core.Path.{_≡_}
-use mathlib.Core.Logic.{_⊎_, inl, inr}
+use mathlib.Core.Path.{_≡_, refl}
+use mathlib.Core.Logic.{_⊎_, inl, inr, _↔_}
 use mathlib.Core.Bool.{true, _&&_, cond}
 use Prim.Native.Nat.{ℕ, _-_, _^_, _≤_, _<_}
 use native.Mathlib.Omega.{arith}
 use lib.Dec.{leb, ltb, eqb}
 use lib.ListN.{length, getD, List·getD-eq-default}
 use borrow.Author.Tests.{leb-true, le-leb, ltb-true, lt-ltb, eqb-true, eq-eqb}
-use Rattle.base.specs.Words.{unless, all, from}
+use Rattle.base.specs.Words.{all, from}
 use Rattle.base.proofs.Counting.{all-at, at-all, all-below, below-all}
-use Rattle.base.proofs.Tests.{unless-zero, and-left, and-right, and-both, lt-or-ge}
-use Rattle.stacks.specs.Operations.{kindRefusal}
+use Rattle.base.proofs.Rows.{row-ends, check, asking, _and-then_}
+use Rattle.base.proofs.Tests.{and-left, and-right, and-both, lt-or-ge}
 use Rattle.stacks.specs.Turn.{isGroupSet}
-use Rattle.stacks.specs.Stack.{isKind, isPaneCount, isStack}
+use Rattle.stacks.proofs.Refusals.{stack-row}
 use Rattle.search.specs.JobState.{countLimit, segmentCountOf, stackCountAt, passedOf, waitingOf, countOf, phaseFits, segmentFits, countFits, countsFit, isCoherent, sweptOf, sweptFits, loadedFits}
 use Rattle.search.specs.Segments.{segmentLimit, isSegmentSize, isLogRoom}
 use Rattle.search.specs.Terms.{N, beginRefusal}
@@ -22,25 +22,23 @@ use Rattle.search.proofs.Given.{Given}
 
 -- ---- what an accepted Begin was given
 
+begin-row : (terms : Terms) → (beginRefusal terms ≡ 0) ↔ Given terms
+unfolding beginRefusal
+begin-row terms =
+    row-ends
+    (asking
+    (stack-row (terms .kind) (terms .n) (terms .wanted)
+    and-then check (isGroupSet (terms .kind) (terms .n) (terms .groups)) 21 refl
+    and-then check (isSegmentSize (N terms) (terms .size)) 5 refl
+    and-then check (isLogRoom (terms .room)) 6 refl)
+    (λ f. record { is-kind = f .0 .0 .0; in-range = f .0 .0 .1; stack = f .0 .1; of-set = f .1 .0; segments = f .1 .1 .0; room = f .1 .1 .1 })
+    (λ g. (((g .is-kind, g .in-range), g .stack), (g .of-set, (g .segments, g .room)))))
+
 pub begin-given : {terms : Terms} → beginRefusal terms ≡ 0 → Given terms
-unfolding beginRefusal kindRefusal
-begin-given {terms} h =
-    let kind = terms .kind in
-    let n = terms .n in
-    let room : ℕ = unless (isLogRoom (terms .room)) 6 0 in
-    let segments : ℕ = unless (isSegmentSize (N terms) (terms .size)) 5 room in
-    let named : ℕ = unless (isGroupSet kind n (terms .groups)) 21 segments in
-    let stack : ℕ = unless (isStack kind n (terms .wanted)) 3 named in
-    let a = unless-zero (isKind kind) 0 (unless (isPaneCount kind n) 2 stack) h in
-    let b = unless-zero (isPaneCount kind n) 1 stack (a .1) in
-    let c = unless-zero (isStack kind n (terms .wanted)) 2 named (b .1) in
-    let e = unless-zero (isGroupSet kind n (terms .groups)) 20 segments (c .1) in
-    let d = unless-zero (isSegmentSize (N terms) (terms .size)) 4 room (e .1) in
-    record { is-kind = a .0; in-range = b .0; stack = c .0; of-set = e .0; segments = d .0; room = unless-zero (isLogRoom (terms .room)) 5 0 (d .1) .0 }
+begin-given {terms} = begin-row terms .0
 
 pub given-begin : (terms : Terms) → Given terms → beginRefusal terms ≡ 0
-unfolding beginRefusal kindRefusal
-given-begin terms g = rw (g .is-kind, g .in-range, g .stack, g .of-set, g .segments, g .room)
+given-begin terms = begin-row terms .1
 
 -- ---- coherence
 

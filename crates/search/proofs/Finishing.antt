@@ -34,7 +34,7 @@ use Rattle.search.specs.declared.Terms.{Terms}
 use Rattle.search.proofs.Accepted.{names-refusal}
 use Rattle.search.proofs.Fewest.{depth, move-depths, fewest-unique, depth-road, depth-fewest, counts-by}
 use Rattle.search.proofs.Invariant.{Shaped, Ended, entryIn}
-use Rattle.search.proofs.PlanLaws.{RowFacts, PlanFacts, plan-facts, plan-goes-on, plan-unseen, RightTable, route-within, route-arrives, plan-seen, plan-there, plan-fewest}
+use Rattle.search.proofs.PlanLaws.{RowFacts, PlanFacts, plan-row, plan-unseen, RightTable, route-within, route-arrives, plan-seen, plan-there, plan-fewest}
 use Rattle.search.proofs.Shapes.{shaped-segmented}
 use Rattle.search.proofs.SegmentLaws.{Segmented, last-segment, segment-last, spare-offset, bytes-last, joined-entry, joined-length, joined-spare}
 use Rattle.search.proofs.Given.{Given, moves, step, goal, beyond, D, levelCount, laws, depths}
@@ -66,7 +66,7 @@ plan-arrives kind n wanted given groups table list h =
     let accepts : planRefusal kind n wanted given groups table (length list) 0 ≡ 0 = sym (plan-refusal-is kind n wanted given groups table list) ∙ h in
     let moves : List ℕ = turnsIn kind n groups in
     let turns : List ℕ = routeFrom kind n table wanted moves given .turns in
-    let f : PlanFacts kind n wanted given groups table (length list) = plan-facts kind n wanted given groups table (length list) 0 accepts .0 in
+    let f : PlanFacts kind n wanted given groups table (length list) = plan-row kind n wanted given groups table (length list) .asks accepts in
     let row = f .row in
     let road : RoadIn kind n groups turns given wanted =
     route-arrives kind n table wanted given (row .of-panes) (set-turns kind n (row .of-panes) groups) (row .goal) (row .start) (f .plan) in
@@ -116,13 +116,12 @@ module _ {terms : Terms} (begun : Given terms) where
       let wanted = terms .wanted in
       let groups = terms .groups in
       let accepts : planRefusal kind n wanted given groups table (length list) 0 ≡ 0 =
-      plan-goes-on kind n wanted given groups table (length list)
+      plan-row kind n wanted given groups table (length list) .accepts
       (record {
         row = row-is table long given list h l;
         seen = plan-seen kind n wanted beyond table (begun .in-range) (begun .stack) (laws begun) plans-fit right given h near;
         plan = plan-there kind n wanted beyond table (begun .in-range) (begun .stack) (laws begun) plans-fit right given h near;
-      })
-      0 in
+      }) in
       let none : planOf kind n wanted given groups table list .1 .refusal ≡ 0 = plan-refusal-is kind n wanted given groups table list ∙ accepts in
       record {
         accepts = none;

@@ -5,21 +5,22 @@ use mathlib.Core.Bool.{Bool, true, false, not, cond}
 use mathlib.Core.List.{List, [], _∷_, _++_}
 use Prim.Native.Nat.{ℕ, zero, suc, _+_, _-_, _%_, _<_, _≤_, zero-le}
 use native.Mathlib.Omega.{arith}
-use lib.Dec.{leb, eqb}
+use lib.Dec.{eqb}
 use lib.IntN.{ℤ}
 use lib.ListN.{length, length-append}
-use borrow.Author.Tests.{leb-true, le-leb, eqb-true, eq-eqb, ne-eqb}
-use Rattle.base.specs.Words.{unless, all, filter}
-use Rattle.base.proofs.Tests.{unless-zero, and-left, and-right, and-both, eq-or-ne, never}
+use borrow.Author.Tests.{eqb-true, eq-eqb, ne-eqb}
+use Rattle.base.specs.Words.{all, filter}
+use Rattle.base.proofs.Rows.{Row, row-on, check, equal, at-most, asking, _and-then_}
+use Rattle.base.proofs.Tests.{and-left, and-right, and-both, eq-or-ne, never}
 use Rattle.graph.specs.Walks.{isMove}
 use Rattle.graph.proofs.Moves.{isMove-filter, largest-move, move-largest}
 use Rattle.graph.proofs.Depths.{Depths, nearer-label}
 use Rattle.stacks.specs.Stack.{isKind, isPaneCount, isStack, stackCount}
 use Rattle.stacks.specs.Index.{rankOf}
 use Rattle.stacks.specs.Turn.{isGroupSet, turnsIn, turnOf, turnsFrom, RoadBy, FewestBy}
-use Rattle.stacks.specs.Operations.{kindRefusal}
 use Rattle.stacks.proofs.Numbering.{rank-lt, rank-injective}
 use Rattle.stacks.proofs.TurnLaws.{turn-first, first-pos}
+use Rattle.stacks.proofs.Refusals.{stack-row}
 use Rattle.stacks.proofs.Roads.{road-none, road-append}
 use Rattle.search.specs.Entries.{bytesFor, entryAt, unseen, nextEntry}
 use Rattle.search.specs.Plan.{planLimit, Route, entryOf, leadsTo, turnTo, nearerEntry, follow, isWanted, planStep, planRun, routeFrom, hasPlan, planRow, planRefusal}
@@ -39,68 +40,25 @@ pub record RowFacts (kind n : ℕ) (wanted given : List ℤ) (groups bytes slots
   pub wide : planLimit ≤ slots
 
 module _ (kind n : ℕ) (wanted given : List ℤ) (groups bytes slots : ℕ) where
-  -- a row that refuses nothing goes on with the rest
-  pub row-goes-on : RowFacts kind n wanted given groups bytes slots → (rest : ℕ) → planRow kind n wanted given groups bytes slots rest ≡ rest
-  unfolding planRow kindRefusal
-  row-goes-on f rest =
-      rw (
-        f .of-kind,
-        f .of-panes,
-        f .goal,
-        f .start,
-        f .of-set,
-        eq-eqb bytes (bytesFor (stackCount kind n)) (f .long),
-        le-leb planLimit slots (f .wide),
-      )
-
-  pub row-facts : (rest : ℕ) → planRow kind n wanted given groups bytes slots rest ≡ 0 → RowFacts kind n wanted given groups bytes slots × (rest ≡ 0)
-  unfolding planRow kindRefusal
-  row-facts rest h =
-      let wide : ℕ = unless (leb planLimit slots) 10 rest in
-      let long : ℕ = unless (eqb bytes (bytesFor (stackCount kind n))) 10 wide in
-      let named : ℕ = unless (isGroupSet kind n groups) 21 long in
-      let start : ℕ = unless (isStack kind n given) 3 named in
-      let goal : ℕ = unless (isStack kind n wanted) 3 start in
-      let a = unless-zero (isKind kind) 0 (unless (isPaneCount kind n) 2 goal) h in
-      let b = unless-zero (isPaneCount kind n) 1 goal (a .1) in
-      let c = unless-zero (isStack kind n wanted) 2 start (b .1) in
-      let d = unless-zero (isStack kind n given) 2 named (c .1) in
-      let g = unless-zero (isGroupSet kind n groups) 20 long (d .1) in
-      let e = unless-zero (eqb bytes (bytesFor (stackCount kind n))) 9 wide (g .1) in
-      let f = unless-zero (leb planLimit slots) 9 rest (e .1) in (
-        record {
-          of-kind = a .0;
-          of-panes = b .0;
-          goal = c .0;
-          start = d .0;
-          of-set = g .0;
-          long = eqb-true bytes (bytesFor (stackCount kind n)) (e .0);
-          wide = leb-true planLimit slots (f .0);
-        },
-        f .1,
-      )
-
-  -- what a row refuses is what it answers, whatever the rest
-  pub row-refuses : (r rest : ℕ) → r ≡ planRow kind n wanted given groups bytes slots 0 → (r ≡ 0 → ⊥) → r ≡ planRow kind n wanted given groups bytes slots rest
-  unfolding planRow kindRefusal
-  row-refuses r rest e h =
-      e
-      ∙ go (isKind kind) (isPaneCount kind n) (isStack kind n wanted) (isStack kind n given) (isGroupSet kind n groups) (eqb bytes (bytesFor (stackCount kind n)))
-      (leb planLimit slots)
-      (λ q. h (e ∙ q))
-    where
-      row : ℕ → Bool → Bool → Bool → Bool → Bool → Bool → Bool → ℕ
-      row rest a b c d g e f = unless a 1 (unless b 2 (unless c 3 (unless d 3 (unless g 21 (unless e 10 (unless f 10 rest))))))
-
-      go : (a b c d g e f : Bool) → (row 0 a b c d g e f ≡ 0 → ⊥) → row 0 a b c d g e f ≡ row rest a b c d g e f
-      go true true true true true true true k = absurd (k refl)
-      go true true true true true true false k = refl
-      go true true true true true false f k = refl
-      go true true true true false e f k = refl
-      go true true true false g e f k = refl
-      go true true false d g e f k = refl
-      go true false c d g e f k = refl
-      go false b c d g e f k = refl
+  pub given-row : Row (planRow kind n wanted given groups bytes slots) (RowFacts kind n wanted given groups bytes slots)
+  unfolding planRow
+  given-row =
+      asking
+      (stack-row kind n wanted
+      and-then check (isStack kind n given) 3 refl
+      and-then check (isGroupSet kind n groups) 21 refl
+      and-then equal bytes (bytesFor (stackCount kind n)) 10 refl
+      and-then at-most planLimit slots 10 refl)
+      (λ f. record {
+        of-kind = f .0 .0 .0;
+        of-panes = f .0 .0 .1;
+        goal = f .0 .1;
+        start = f .1 .0;
+        of-set = f .1 .1 .0;
+        long = f .1 .1 .1 .0;
+        wide = f .1 .1 .1 .1;
+      })
+      (λ f. (((f .of-kind, f .of-panes), f .goal), (f .start, (f .of-set, (f .long, f .wide)))))
 
 pub record PlanFacts (kind n : ℕ) (wanted given : List ℤ) (groups : ℕ) (table : List ℕ) (slots : ℕ) : Type 0 where
   pub row : RowFacts kind n wanted given groups (length table) slots
@@ -108,41 +66,22 @@ pub record PlanFacts (kind n : ℕ) (wanted given : List ℤ) (groups : ℕ) (ta
   pub plan : hasPlan kind n table wanted (turnsIn kind n groups) given ≡ true
 
 module _ (kind n : ℕ) (wanted given : List ℤ) (groups : ℕ) (table : List ℕ) (slots : ℕ) where
-  -- what the row goes on with
-  abbrev after-row : ℕ → ℕ
-  after-row rest =
-      unless (not (eqb (entryOf kind n table given) unseen)) 20 (unless (hasPlan kind n table wanted (turnsIn kind n groups) given) 15 rest)
-
-  pub plan-goes-on : PlanFacts kind n wanted given groups table slots → (rest : ℕ) → planRefusal kind n wanted given groups table slots rest ≡ rest
+  pub plan-row : Row (planRefusal kind n wanted given groups table slots) (PlanFacts kind n wanted given groups table slots)
   unfolding planRefusal
-  plan-goes-on f rest = row-goes-on kind n wanted given groups (length table) slots (f .row) (after-row rest) ∙ rw (f .seen, f .plan)
-
-  pub plan-facts : (rest : ℕ) → planRefusal kind n wanted given groups table slots rest ≡ 0 → PlanFacts kind n wanted given groups table slots × (rest ≡ 0)
-  unfolding planRefusal
-  plan-facts rest h =
-      let plan : Bool = hasPlan kind n table wanted (turnsIn kind n groups) given in
-      let f = row-facts kind n wanted given groups (length table) slots (after-row rest) h in
-      let s = unless-zero (not (eqb (entryOf kind n table given) unseen)) 19 (unless plan 15 rest) (f .1) in
-      let g = unless-zero plan 14 rest (s .1) in
-      (record { row = f .0; seen = s .0; plan = g .0 }, g .1)
+  plan-row =
+      asking
+      (given-row kind n wanted given groups (length table) slots
+      and-then check (not (eqb (entryOf kind n table given) unseen)) 20 refl
+      and-then check (hasPlan kind n table wanted (turnsIn kind n groups) given) 15 refl)
+      (λ f. record { row = f .0; seen = f .1 .0; plan = f .1 .1 })
+      (λ f. (f .row, (f .seen, f .plan)))
 
   -- a given stack that the table has not seen is refused
   pub plan-unseen : RowFacts kind n wanted given groups (length table) slots → entryOf kind n table given ≡ unseen
       → (rest : ℕ) → planRefusal kind n wanted given groups table slots rest ≡ 20
   unfolding planRefusal
   plan-unseen f h rest =
-      row-goes-on kind n wanted given groups (length table) slots f (after-row rest) ∙ rw (eq-eqb (entryOf kind n table given) unseen h)
-
-  -- what Plan refuses is refused, whatever the rest
-  pub plan-refuses : (r rest : ℕ) → r ≡ planRefusal kind n wanted given groups table slots 0 → (r ≡ 0 → ⊥) → r ≡ planRefusal kind n wanted given groups table slots rest
-  unfolding planRefusal
-  plan-refuses r rest e h = go (not (eqb (entryOf kind n table given) unseen)) (hasPlan kind n table wanted (turnsIn kind n groups) given) e
-    where
-      go : (a b : Bool) → r ≡ planRow kind n wanted given groups (length table) slots (unless a 20 (unless b 15 0))
-          → r ≡ planRow kind n wanted given groups (length table) slots (unless a 20 (unless b 15 rest))
-      go true true k = row-refuses kind n wanted given groups (length table) slots r rest k h
-      go true false k = k
-      go false b k = k
+      row-on (given-row kind n wanted given groups (length table) slots) f _ ∙ rw (eq-eqb (entryOf kind n table given) unseen h)
 
 -- ---- the turn that leads to an entry. Lengths and arrival rest on `turn-taken` and `turn-there`, which hold whichever turn that leads there is
 -- taken.

@@ -1,15 +1,12 @@
 -- Build the whole table: what it accepts, what a loop that drives a build keeps, and that it ends, by the full set in a finished build.
 use mathlib.Core.Path.{_≡_, refl, sym, ap, _∙_, subst}
-use mathlib.Core.Logic.{_⊎_, inl, inr}
-use mathlib.Core.Bool.{Bool, true, false, cond}
+use mathlib.Core.Bool.{true, false}
 use mathlib.Core.List.{List}
 use Prim.Native.Nat.{ℕ, _<_}
 use native.Mathlib.Omega.{arith}
-use lib.Dec.{eqb}
 use lib.ListN.{length}
-use borrow.Author.Tests.{eqb-true, eq-eqb, ne-eqb}
-use Rattle.base.specs.Words.{unless}
-use Rattle.base.proofs.Tests.{unless-zero, eq-or-ne}
+use borrow.Author.Tests.{eq-eqb}
+use Rattle.base.proofs.Rows.{first, equal, _and-then_}
 use Rattle.search.specs.Begin.{begun}
 use Rattle.search.specs.Changed.{listBytes}
 use Rattle.search.specs.Drive.{Store, storeOf, advanced, hasEnded, drive, mostCalls, cut, held, buildRefusal, ended, built, buildOf, Builds}
@@ -42,30 +39,12 @@ module _ (terms : Terms) (bytes words listed : ℕ) where
 
   pub build-accepts : buildRefusal terms bytes words listed ≡ 0 → Accepts
   unfolding buildRefusal
-  build-accepts h = go (eq-or-ne (beginRefusal terms) 0)
-    where
-      fits : Bool
-      fits = eqb listed (listBytes (m terms 0))
-
-      last : ℕ
-      last = unless (eqb words (rightWords terms)) 10 (unless fits 10 0)
-
-      rest : ℕ
-      rest = unless (eqb bytes (bytesFor (N terms))) 10 last
-
-      go : (beginRefusal terms ≡ 0) ⊎ (beginRefusal terms ≡ 0 → ⊥) → Accepts
-      go (inl e) =
-          let a = unless-zero (eqb bytes (bytesFor (N terms))) 9 last (sym (ap (λ (r : ℕ). cond (eqb r 0) rest r) e) ∙ h) in
-          let b = unless-zero (eqb words (rightWords terms)) 9 (unless fits 10 0) (a .1) in
-          record {
-            given = begin-given e;
-            bytes-fit = eqb-true bytes (bytesFor (N terms)) (a .0);
-            words-fit = eqb-true words (rightWords terms) (b .0);
-            list-fits = eqb-true listed (listBytes (m terms 0)) (unless-zero fits 9 0 (b .1) .0);
-          }
-      go (inr ne) =
-          let r = beginRefusal terms in
-          absurd (ne (sym (ap (λ (t : Bool). cond t rest r) (ne-eqb r 0 ne)) ∙ h))
+  build-accepts h =
+      let f = (first (beginRefusal terms)
+      and-then equal bytes (bytesFor (N terms)) 10 refl
+      and-then equal words (rightWords terms) 10 refl
+      and-then equal listed (listBytes (m terms 0)) 10 refl) .asks h in
+      record { given = begin-given (f .0); bytes-fit = f .1 .0; words-fit = f .1 .1 .0; list-fits = f .1 .1 .1 }
 
 -- ---- a loop that drives a build
 

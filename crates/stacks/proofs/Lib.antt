@@ -1,5 +1,6 @@
 -- Laws of stacks, turns and the numbering.
 pub mod KindLaws
+pub mod Refusals
 pub mod Panes
 pub mod OrderLaws
 pub mod CoatLaws

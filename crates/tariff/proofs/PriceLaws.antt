@@ -10,6 +10,7 @@ use lib.IntN.{ℤ}
 use lib.ListN.{length, getD, take, drop, List·getD-append}
 use borrow.Author.Tests.{eq-eqb, ne-eqb}
 use Rattle.base.proofs.Counting.{all-at}
+use Rattle.base.proofs.Rows.{row-facts}
 use Rattle.base.proofs.Tests.{eq-or-ne}
 use Rattle.graph.specs.Walks.{isMove}
 use Rattle.stacks.specs.Turn.{lastTurn, turnsIn}
@@ -23,7 +24,7 @@ use Rattle.search.specs.declared.Planned.{Planned}
 use Rattle.search.specs.declared.Terms.{Terms}
 use Rattle.search.proofs.Accepted.{names-refusal}
 use Rattle.search.proofs.Finishing.{plan-accepted, plan-refused, plan-refusal-is}
-use Rattle.search.proofs.PlanLaws.{plan-facts, plan-goes-on, plan-refuses, route-arrives}
+use Rattle.search.proofs.PlanLaws.{plan-row, route-arrives}
 use Rattle.search.proofs.Refused.{alone}
 use Rattle.search.proofs.Turning.{Moves, set-turns}
 use Rattle.search.proofs.WholeBuild.{whole-build-by}
@@ -58,17 +59,7 @@ module _ (kind n : ℕ) (wanted given : List ℤ) (groups : ℕ) (table list : L
   pub refusal-order : refusal
       ≡ cond (eqb (planRefusal kind n wanted given groups table (length list) 0) 0) (tariffRefusal (lastTurn kind n) tariff) (planRefusal kind n wanted given groups table (length list) 0)
   unfolding priceRefusal
-  refusal-order = go (eq-or-ne r 0)
-    where
-      r : ℕ
-      r = planRefusal kind n wanted given groups table (length list) 0
-
-      t : ℕ
-      t = tariffRefusal (lastTurn kind n) tariff
-
-      go : (r ≡ 0) ⊎ (r ≡ 0 → ⊥) → refusal ≡ cond (eqb r 0) t r
-      go (inl e) = rw (eq-eqb r 0 e) (plan-goes-on kind n wanted given groups table (length list) (plan-facts kind n wanted given groups table (length list) 0 e .0) t)
-      go (inr e) = rw (ne-eqb r 0 e) (sym (plan-refuses kind n wanted given groups table (length list) r t refl e))
+  refusal-order = plan-row kind n wanted given groups table (length list) .says (tariffRefusal (lastTurn kind n) tariff)
 
 -- ---- the plan is Plan's
 
@@ -144,10 +135,11 @@ pub priced-turns : PricedTurns
 unfolding PricedTurns OnePriceEach priceRefusal lastTurn
 priced-turns kind n wanted given groups table list tariff h i l =
     let accepts = sym (price-refusal-is kind n wanted given groups table list tariff) ∙ h in
-    let f = plan-facts kind n wanted given groups table (length list) (tariffRefusal (lastTurn kind n) tariff) accepts in
+    let asked = plan-row kind n wanted given groups table (length list) in
+    let f = row-facts asked (tariffRefusal (lastTurn kind n) tariff) accepts in
     let row = f .0 .row in
     let turns : List ℕ = routeFrom kind n table wanted (turnsIn kind n groups) given .turns in
-    let plan = plan-accepted kind n wanted given groups table list (plan-goes-on kind n wanted given groups table (length list) (f .0) 0) in
+    let plan = plan-accepted kind n wanted given groups table list (asked .accepts (f .0)) in
     let out = price-accepted kind n wanted given groups table list tariff accepts in
     let laws : Moves kind n (turnsIn kind n groups) = set-turns kind n (row .of-panes) groups in
     let road : RoadIn kind n groups turns given wanted =
@@ -175,7 +167,7 @@ same-priced one other refused costs kind n wanted given groups table list = go (
     go : (priceRefusal kind n wanted given groups table (length list) one ≡ 0) ⊎ (priceRefusal kind n wanted given groups table (length list) one ≡ 0 → ⊥)
         → priceOf kind n wanted given groups table list one ≡ priceOf kind n wanted given groups table list other
     go (inl e) =
-        let none = plan-facts kind n wanted given groups table (length list) (tariffRefusal (lastTurn kind n) one) e .1 in
+        let none = row-facts (plan-row kind n wanted given groups table (length list)) (tariffRefusal (lastTurn kind n) one) e .1 in
         let turns = take (planOf kind n wanted given groups table list .1 .turns) (planOf kind n wanted given groups table list .0) in
         let cost : costOf (priceAt (tariffLines one)) turns ≡ costOf (priceAt (tariffLines other)) turns = λ i. costOf (λ k. costs (lastTurn kind n) none k i) turns in
         price-accepted kind n wanted given groups table list one e

@@ -10,7 +10,8 @@ use borrow.Author.Tests.{leb-true, lt-leb}
 use Rattle.base.specs.Words.{unless, all, tally, from}
 use Rattle.base.proofs.Counting.{all-at, tally-true, tally-false}
 use Rattle.base.proofs.Lists.{from-length, getD-from}
-use Rattle.base.proofs.Tests.{unless-zero, test-cases, and-left, and-right, and-fails-left, and-fails-right, lt-or-ge}
+use Rattle.base.proofs.Rows.{check, at-most, _and-then_}
+use Rattle.base.proofs.Tests.{test-cases, and-left, and-right, and-fails-left, and-fails-right, lt-or-ge}
 use Rattle.tariff.specs.Promise.{OnePrice, OnePriceEach}
 use Rattle.tariff.specs.Tariffs.{lineLimit, priceLimit, tariffLines, isLine, covers, linesAt, hasLine, hasNoSecond, coverRefusal, tariffRefusal, priceAt}
 use Rattle.tariff.specs.declared.Line.{Line}
@@ -28,17 +29,11 @@ pub tariff-facts : (last : ℕ) (tariff : Tariff) → tariffRefusal last tariff 
 unfolding tariffRefusal coverRefusal
 tariff-facts last tariff h =
     let lines : List Line = tariffLines tariff in
-    let single : ℕ = unless (all (hasNoSecond lines) (from 1 last)) 19 0 in
-    let covered : ℕ = unless (all (hasLine lines) (from 1 last)) 18 single in
-    let a = unless-zero (leb (tariff .count) lineLimit) 16 (unless (all (isLine last) lines) 17 covered) h in
-    let b = unless-zero (all (isLine last) lines) 16 covered (a .1) in
-    let c = unless-zero (all (hasLine lines) (from 1 last)) 17 single (b .1) in
-    record {
-      counted = leb-true (tariff .count) lineLimit (a .0);
-      lines = b .0;
-      covered = c .0;
-      single = unless-zero (all (hasNoSecond lines) (from 1 last)) 18 0 (c .1) .0;
-    }
+    let f = (at-most (tariff .count) lineLimit 17 refl
+    and-then check (all (isLine last) lines) 17 refl
+    and-then check (all (hasLine lines) (from 1 last)) 18 refl
+    and-then check (all (hasNoSecond lines) (from 1 last)) 19 refl) .asks h in
+    record { counted = f .0; lines = f .1 .0; covered = f .1 .1 .0; single = f .1 .1 .1 }
 
 -- a test of the sizes from 1 to the last, at one of them
 at-group : (p : ℕ → Bool) (last k : ℕ) → all p (from 1 last) ≡ true → 1 ≤ k → k ≤ last → p k ≡ true

@@ -1,21 +1,21 @@
 -- Rows of a frame's refusals as code goes through them, over the bytes of the line's characters; and what holds where nothing is refused.
-use mathlib.Core.Path.{_≡_, sym, ap, ap₂, _∙_}
+use mathlib.Core.Path.{_≡_, refl, sym, ap, ap₂, _∙_}
 use mathlib.Core.Bool.{Bool, true, false}
 use mathlib.Core.List.{List, [], _∷_, map}
 use Prim.Native.Nat.{ℕ, zero, suc, _+_, _-_, _/_, _≤_, _<_}
 use native.Mathlib.Nat.{zero-add, suc-add}
 use native.Mathlib.Omega.{arith}
-use lib.Dec.{leb, eqb}
 use lib.IntN.{ℤ, pos}
 use lib.ListN.{length, getD, take, drop, replicate, length-append, length-map, length-replicate}
 use lib.Seq.{take-nil, take-take, length-take-le, getD-take}
-use borrow.Author.Tests.{le-leb, lt-leb, leb-true, eq-eqb, ne-eqb, eqb-true}
+use borrow.Author.Tests.{le-leb, lt-leb, eq-eqb, ne-eqb}
 use Rattle.base.specs.Words.{unless}
-use Rattle.base.proofs.Tests.{unless-zero}
+use Rattle.base.proofs.Rows.{check, equal, at-most, _and-then_}
 use Rattle.stacks.specs.Operations.{kindRefusal, stacked}
 use Rattle.stacks.specs.Stack.{stackPlaces, isKind, isPaneCount, isStack, stackCount}
 use Rattle.stacks.proofs.Panes.{stack-facts}
 use Rattle.stacks.proofs.KindLaws.{panes-twelve}
+use Rattle.stacks.proofs.Refusals.{kind-row}
 use Rattle.search.specs.Segments.{isSegmentSize}
 use Rattle.text.specs.Frame.{frameLimit, stackLimit, isFrame, paneOf, placesOf, kindIn, panesIn, wantedIn, sizeIn, fieldsRefusal, bytesRefusal, firstRefusal, firstWith, firstOf, laterRefusal, laterOf}
 use Rattle.text.specs.Hex.{bytesOf, numberOf}
@@ -112,33 +112,29 @@ pub record FirstPasses (cs : List ℕ) : Type 0 where
   pub segments : isSegmentSize (stackCount (kindIn (bytesOf cs)) (panesIn (bytesOf cs))) (sizeIn (panesIn (bytesOf cs)) (bytesOf cs)) ≡ true
 
 pub first-passes : (cs : List ℕ) → firstRefusal cs ≡ 0 → FirstPasses cs
-unfolding firstRefusal bytesRefusal fieldsRefusal kindRefusal
+unfolding firstRefusal bytesRefusal fieldsRefusal
 first-passes cs h =
     let bs = bytesOf cs in
     let kind = kindIn bs in
     let n = panesIn bs in
     let N = stackCount kind n in
-    let last : ℕ = unless (isSegmentSize N (sizeIn n bs)) 5 0 in
-    let stack : ℕ = unless (isStack kind n (wantedIn n bs)) 3 last in
-    let few : ℕ = unless (leb N stackLimit) 16 stack in
-    let long : ℕ = unless (eqb (length bs) (n + 6)) 16 few in
-    let size : ℕ = unless (isPaneCount kind n) 2 long in
-    let a = unless-zero (isFrame cs) 15 (bytesRefusal bs) h in
-    let b = unless-zero (leb 2 (length bs)) 15 (unless (isKind kind) 1 size) (a .1) in
-    let c = unless-zero (isKind kind) 0 size (b .1) in
-    let d = unless-zero (isPaneCount kind n) 1 long (c .1) in
-    let e = unless-zero (eqb (length bs) (n + 6)) 15 few (d .1) in
-    let f = unless-zero (leb N stackLimit) 15 stack (e .1) in
-    let g = unless-zero (isStack kind n (wantedIn n bs)) 2 last (f .1) in
+    let f = (check (isFrame cs) 16 refl
+    and-then at-most 2 (length bs) 16 refl
+    and-then kind-row kind n
+    and-then equal (length bs) (n + 6) 16 refl
+    and-then at-most N stackLimit 16 refl
+    and-then check (isStack kind n (wantedIn n bs)) 3 refl
+    and-then check (isSegmentSize N (sizeIn n bs)) 5 refl) .asks h in
+    let fields = f .1 .1 .1 in
     record {
-      frame = a .0;
-      two = leb-true 2 (length bs) (b .0);
-      in-range = d .0;
-      long = eqb-true (length bs) (n + 6) (e .0);
-      is-kind = c .0;
-      few = leb-true N stackLimit (f .0);
-      stack = g .0;
-      segments = unless-zero (isSegmentSize N (sizeIn n bs)) 4 0 (g .1) .0;
+      frame = f .0;
+      two = f .1 .0;
+      in-range = f .1 .1 .0 .1;
+      long = fields .0;
+      is-kind = f .1 .1 .0 .0;
+      few = fields .1 .0;
+      stack = fields .1 .1 .0;
+      segments = fields .1 .1 .1;
     }
 
 -- the fields of an accepted first frame, as its line's characters have them
@@ -226,15 +222,17 @@ module _ (kind n : ℕ) (line : Line) (w : length (line .chars) ≡ frameLimit) 
         rw (f, bytes-length line w f, eq-eqb (line .length / 2) n e, p, ap placesOf later-bytes)
 
 -- what an accepted later frame has
-pub later-passes : (kind n : ℕ) (cs : List ℕ) → laterRefusal kind n cs ≡ 0 → (isFrame cs ≡ true) × (length (bytesOf cs) ≡ n) × (n ≤ stackPlaces)
+pub later-facts : (kind n : ℕ) (cs : List ℕ) → laterRefusal kind n cs ≡ 0
+    → (isFrame cs ≡ true) × ((length (bytesOf cs) ≡ n) × (isStack kind n (placesOf (bytesOf cs)) ≡ true))
 unfolding laterRefusal
+later-facts kind n cs =
+    (check (isFrame cs) 16 refl and-then equal (length (bytesOf cs)) n 16 refl and-then check (isStack kind n (placesOf (bytesOf cs))) 3 refl) .asks
+
+pub later-passes : (kind n : ℕ) (cs : List ℕ) → laterRefusal kind n cs ≡ 0 → (isFrame cs ≡ true) × (length (bytesOf cs) ≡ n) × (n ≤ stackPlaces)
 later-passes kind n cs h =
-    let bs = bytesOf cs in
-    let a = unless-zero (isFrame cs) 15 (unless (eqb (length bs) n) 16 (unless (isStack kind n (placesOf bs)) 3 0)) h in
-    let b = unless-zero (eqb (length bs) n) 15 (unless (isStack kind n (placesOf bs)) 3 0) (a .1) in
-    let c = unless-zero (isStack kind n (placesOf bs)) 2 0 (b .1) in
-    let long = eqb-true (length bs) n (b .0) in
-    (a .0, long, omega (arith, places-length bs, stack-facts kind n (placesOf bs) (c .0) .twelve))
+    let f = later-facts kind n cs h in
+    let long = f .1 .0 in
+    (f .0, long, omega (arith, places-length (bytesOf cs), stack-facts kind n (placesOf (bytesOf cs)) (f .1 .1) .twelve))
 
 -- its panes' bytes
 pub later-panes : (kind n : ℕ) (line : Line) → length (line .chars) ≡ frameLimit → laterRefusal kind n (textOf line) ≡ 0

@@ -11,9 +11,9 @@ use lib.IntN.{ℤ}
 use lib.ListN.{length, getD, take, drop, replicate, length-replicate, take-append-drop, List·getD-eq-default}
 use lib.Seq.{take-at, take-append-seam, length-take-le, getD-take, getD-drop}
 use borrow.Author.Tests.{eq-eqb, ne-eqb, lt-ltb, le-leb}
-use Rattle.base.specs.Words.{unless, all, tally, total}
+use Rattle.base.specs.Words.{all, tally, total}
 use Rattle.base.proofs.Counting.{tally-le, tally-at, total-append}
-use Rattle.base.proofs.Tests.{unless-zero, and-left, and-right, and-both, lt-or-ge}
+use Rattle.base.proofs.Tests.{and-left, and-right, and-both, lt-or-ge}
 use Rattle.stacks.specs.Counts.{CountsAt}
 use Rattle.stacks.specs.Index.{rankOf, allStacks}
 use Rattle.stacks.specs.Stack.{stackPlaces, isPaneCount, isStack, stackCount}
@@ -41,10 +41,10 @@ use Rattle.search.proofs.Given.{Given}
 use Rattle.search.proofs.Finishing.{plan-arrives}
 use Rattle.search.proofs.WholeTable.{build-ends, build-finishes}
 use Rattle.search.proofs.AllTurns.{few-turns}
-use Rattle.text.specs.Frame.{stackLimit, tableLimit, reportRoom, isFrame, placesOf, kindIn, panesIn, wantedIn, sizeIn, firstWith, firstRefusal, firstOf, laterRefusal, laterOf}
+use Rattle.text.specs.Frame.{stackLimit, tableLimit, reportRoom, placesOf, kindIn, panesIn, wantedIn, sizeIn, firstWith, firstRefusal, firstOf, laterRefusal, laterOf}
 use Rattle.text.specs.Hex.{isByte, bytesOf, lineOf, fourBytes}
 use Rattle.text.specs.Output.{levelLine, levelsFrom, levelCounts, levelLines, deepestLine, totalLine, planLine, refusalLine}
-use Rattle.text.proofs.FrameRefusals.{FirstPasses, first-passes, later-passes}
+use Rattle.text.proofs.FrameRefusals.{FirstPasses, first-passes, later-facts, later-passes}
 use Rattle.text.proofs.HexLaws.{number-four, line-says}
 use Rattle.text.specs.Report.{isReported, reportGroups, tableBytes, logWords, changedBytes, builtIn, printedTotal, headText, planText, laterTexts, reportFrom, reportOf}
 use Rattle.text.specs.Promise.{Answers, Reports}
@@ -71,11 +71,7 @@ unfolding laterOf
 later-stack kind n cs h = rw (eq-eqb (laterRefusal kind n cs) 0 h)
 
 later-is-stack : (kind n : ℕ) (cs : List ℕ) → laterRefusal kind n cs ≡ 0 → isStack kind n (placesOf (bytesOf cs)) ≡ true
-unfolding laterRefusal
-later-is-stack kind n cs h =
-    let stack : ℕ = unless (isStack kind n (placesOf (bytesOf cs))) 3 0 in
-    let a = unless-zero (isFrame cs) 15 (unless (eqb (length (bytesOf cs)) n) 16 stack) h in
-    unless-zero (isStack kind n (placesOf (bytesOf cs))) 2 0 (unless-zero (eqb (length (bytesOf cs)) n) 15 stack (a .1) .1) .0
+later-is-stack kind n cs h = later-facts kind n cs h .1 .1
 
 -- turns fit their byte, and so does the number of a plan's turns
 turns-fit : (kind n : ℕ) (ks : List ℕ) → n ≤ stackPlaces → all (isTurn kind n) ks ≡ true → all isByte ks ≡ true

@@ -6,20 +6,16 @@ use borrow.Author.Needs.{needs}
 use borrow.Author.Tests.{lt-ltb, le-ltb}
 use lib.Dec.{ltb}
 use Rattle.base.specs.Words.{unless}
+use Rattle.base.proofs.Rows.{row-refuses, row-goes-on}
 use Rattle.search.specs.Blank.{blankRefusal}
-use Rattle.search.specs.JobState.{isBlanking, stackCountAt, passedOf}
+use Rattle.search.specs.JobState.{isBlanking, stackCountAt}
 use Rattle.search.specs.Refusals.{segmentRefusal}
 use Rattle.search.specs.declared.Job.{Job}
-use Rattle.search.proofs.Accepted.{segment-facts}
+use Rattle.search.proofs.Accepted.{segment-row}
 use Rattle.job.specs.Standing.{standingOf}
-use Rattle.job.proofs.Rows.{segment-refuses, segment-on}
 use Rattle.job.proofs.Standings.{phase-is, passed-is, stacks-are, stands-begins}
 use Rattle.calls.proofs.blank.blank_refusal.Statement.{statement}
 use Rattle.calls.proofs.blank.blank_refusal.Tie as tie
-
--- what is left of the row
-abbrev rest : Job → ℕ → ℕ
-rest job j = unless (ltb (passedOf job j) (stackCountAt job j)) 11 0
 
 is-blanking-requires : tie.Need-is-blanking-requires
 is-blanking-requires c κs = search needs
@@ -40,7 +36,7 @@ unfolding blankRefusal
 returns c job e =
     let s = c .before in
     let a = s .before .before .args in
-    segment-refuses (isBlanking (job .phase)) job (a .j) (rest job (a .j)) (s .segment-refusal .result) (a .bytes) (answered s job e) (c .if1 .taken)
+    row-refuses (segment-row (isBlanking (job .phase)) job (a .j) (a .bytes)) _ (s .segment-refusal .result) (answered s job e) (c .if1 .taken)
 
 stack-count-at-requires : tie.Need-stack-count-at-requires
 stack-count-at-requires c κs =
@@ -48,7 +44,7 @@ stack-count-at-requires c κs =
     let s = ok .before .before .before in
     let a = s .args in
     let of = s .pre in
-    let f = segment-facts (isBlanking (of .job .phase)) (of .job) (a .j) (a .bytes) 0 (sym (answered (ok .before) (of .job) (of .is)) ∙ ok .if1 .left) .0 in
+    let f = segment-row (isBlanking (of .job .phase)) (of .job) (a .j) (a .bytes) .asks (sym (answered (ok .before) (of .job) (of .is)) ∙ ok .if1 .left) .0 in
     stands-begins (a .standing) (a .j) of (f .coherent)
 
 -- the row goes on, and the test of the stacks passed decides
@@ -62,7 +58,7 @@ decides c job e =
     let a = s .before .before .args in
     ap (λ (m : ℕ). unless (ltb (a .standing .passed) m) 11 0) (c .stack-count-at .ensures ∙ stacks-are (a .standing) (a .j) job e)
     ∙ ap (λ (p : ℕ). unless (ltb p (stackCountAt job (a .j))) 11 0) (passed-is (a .standing) (a .j) job e)
-    ∙ segment-on (isBlanking (job .phase)) job (a .j) (rest job (a .j)) (s .segment-refusal .result) (a .bytes) (answered s job e) (ok .if1 .left)
+    ∙ row-goes-on (segment-row (isBlanking (job .phase)) job (a .j) (a .bytes)) _ (s .segment-refusal .result) (answered s job e) (ok .if1 .left)
 
 returns-2 : tie.Need-returns-2
 returns-2 c job e =

@@ -6,21 +6,17 @@ use borrow.Author.Needs.{needs}
 use borrow.Author.Tests.{eq-eqb, ne-eqb}
 use lib.Dec.{eqb}
 use Rattle.base.specs.Words.{unless}
+use Rattle.base.proofs.Rows.{row-refuses, row-goes-on}
 use Rattle.search.specs.Changed.{listBytes}
-use Rattle.search.specs.JobState.{inReverse, stackCountAt}
+use Rattle.search.specs.JobState.{inReverse}
 use Rattle.search.specs.Load.{loadRefusal}
 use Rattle.search.specs.Refusals.{segmentRefusal}
 use Rattle.search.specs.declared.Job.{Job}
-use Rattle.search.proofs.Accepted.{segment-facts}
+use Rattle.search.proofs.Accepted.{segment-row}
 use Rattle.job.specs.Standing.{standingOf}
-use Rattle.job.proofs.Rows.{segment-refuses, segment-on}
 use Rattle.job.proofs.Standings.{reverse-is, stacks-are, stands-begins}
 use Rattle.calls.proofs.load.load_refusal.Statement.{statement}
 use Rattle.calls.proofs.load.load_refusal.Tie as tie
-
--- what is left of the row
-abbrev rest : Job → ℕ → ℕ → ℕ
-rest job b listed = unless (eqb listed (listBytes (stackCountAt job b))) 10 0
 
 in-reverse-requires : tie.Need-in-reverse-requires
 in-reverse-requires c κs = search needs
@@ -41,7 +37,7 @@ unfolding loadRefusal
 returns c job e =
     let s = c .before in
     let a = s .before .before .args in
-    segment-refuses (inReverse job) job (a .b) (rest job (a .b) (a .listed)) (s .segment-refusal .result) (a .bytes) (answered s job e) (c .if1 .taken)
+    row-refuses (segment-row (inReverse job) job (a .b) (a .bytes)) _ (s .segment-refusal .result) (answered s job e) (c .if1 .taken)
 
 stack-count-at-requires : tie.Need-stack-count-at-requires
 stack-count-at-requires c κs =
@@ -49,7 +45,7 @@ stack-count-at-requires c κs =
     let s = ok .before .before .before in
     let a = s .args in
     let of = s .pre in
-    let f = segment-facts (inReverse (of .job)) (of .job) (a .b) (a .bytes) 0 (sym (answered (ok .before) (of .job) (of .is)) ∙ ok .if1 .left) .0 in
+    let f = segment-row (inReverse (of .job)) (of .job) (a .b) (a .bytes) .asks (sym (answered (ok .before) (of .job) (of .is)) ∙ ok .if1 .left) .0 in
     stands-begins (a .standing) (a .b) of (f .coherent)
 
 list-bytes-requires : tie.Need-list-bytes-requires
@@ -68,7 +64,7 @@ decides c job e =
     let a = s .before .before .args in
     ap (λ (m : ℕ). unless (eqb (a .listed) m) 10 0)
     (c .list-bytes .ensures ∙ ap listBytes (c .before .stack-count-at .ensures ∙ stacks-are (a .standing) (a .b) job e))
-    ∙ segment-on (inReverse job) job (a .b) (rest job (a .b) (a .listed)) (s .segment-refusal .result) (a .bytes) (answered s job e) (ok .if1 .left)
+    ∙ row-goes-on (segment-row (inReverse job) job (a .b) (a .bytes)) _ (s .segment-refusal .result) (answered s job e) (ok .if1 .left)
 
 returns-2 : tie.Need-returns-2
 returns-2 c job e =

@@ -5,19 +5,14 @@ use Prim.Native.Nat.{ℕ}
 use borrow.Author.Tests.{eq-eqb, ne-eqb}
 use lib.Dec.{eqb}
 use Rattle.base.specs.Words.{unless}
-use Rattle.search.specs.JobState.{logLength}
+use Rattle.base.proofs.Rows.{row-refuses, row-goes-on}
 use Rattle.search.specs.Look.{lookRefusal}
 use Rattle.search.specs.declared.Job.{Job}
-use Rattle.search.proofs.Accepted.{call-facts}
+use Rattle.search.proofs.Accepted.{call-row}
 use Rattle.job.specs.Standing.{standingOf}
-use Rattle.job.proofs.Rows.{call-refuses, call-on}
 use Rattle.job.proofs.Standings.{area-is, stands-begins}
 use Rattle.calls.proofs.look.look_refusal.Statement.{statement}
 use Rattle.calls.proofs.look.look_refusal.Tie as tie
-
--- what is left of the row
-abbrev rest : Job → ℕ → ℕ
-rest job words = unless (eqb words (logLength job)) 10 0
 
 call-refusal-requires : tie.Need-call-refusal-requires
 call-refusal-requires c κs = c .pre
@@ -27,7 +22,7 @@ unfolding lookRefusal
 returns c job e =
     let a = c .before .before .args in
     let f = c .before .call-refusal in
-    call-refuses true job (a .j) (rest job (a .words)) (f .result) (f .ensures job e) (c .if1 .taken)
+    row-refuses (call-row true job (a .j)) _ (f .result) (f .ensures job e) (c .if1 .taken)
 
 log-length-requires : tie.Need-log-length-requires
 log-length-requires c κs =
@@ -35,7 +30,7 @@ log-length-requires c κs =
     let s = ok .before .before in
     let a = s .args in
     let of = s .pre in
-    let f = call-facts true (of .job) (a .j) 0 (sym (ok .before .call-refusal .ensures (of .job) (of .is)) ∙ ok .if1 .left) .0 in
+    let f = call-row true (of .job) (a .j) .asks (sym (ok .before .call-refusal .ensures (of .job) (of .is)) ∙ ok .if1 .left) in
     stands-begins (a .standing) (a .j) of (f .coherent)
 
 -- the row goes on, and the test of the length decides
@@ -47,7 +42,7 @@ decides c job e =
     let a = ok .before .before .args in
     let f = ok .before .call-refusal in
     ap (λ (m : ℕ). unless (eqb (a .words) m) 10 0) (c .log-length .ensures ∙ area-is (a .standing) (a .j) job e)
-    ∙ call-on true job (a .j) (rest job (a .words)) (f .result) (f .ensures job e) (ok .if1 .left)
+    ∙ row-goes-on (call-row true job (a .j)) _ (f .result) (f .ensures job e) (ok .if1 .left)
 
 returns-2 : tie.Need-returns-2
 returns-2 c job e =

@@ -1,28 +1,22 @@
 -- `calls::settle::settle_refusal` meets its contract: the row that Expand shares, and then the waiting offsets.
 use mathlib.Core.Path.{_≡_, sym, ap, _∙_}
 use mathlib.Core.Bool.{Bool}
-use mathlib.Core.List.{List}
 use Prim.Native.Nat.{ℕ}
 use borrow.Author.Needs.{needs}
 use borrow.Author.Tests.{not-true, not-false}
 use lib.Dec.{ltb}
 use lib.ListN.{length}
 use Rattle.base.specs.Words.{unless, all}
+use Rattle.base.proofs.Rows.{row-refuses, row-goes-on}
 use Rattle.search.specs.JobState.{stackCountAt}
 use Rattle.search.specs.Settle.{settleRefusal}
-use Rattle.search.specs.Logs.{pending}
 use Rattle.search.specs.declared.Job.{Job}
-use Rattle.search.proofs.Accepted.{LevelFacts, level-facts}
+use Rattle.search.proofs.Accepted.{LevelFacts, level-row}
 use Rattle.job.specs.Standing.{standingOf}
 use Rattle.job.proofs.Bounds.{area-small, part-within}
-use Rattle.job.proofs.Rows.{level-refuses, level-goes-on}
 use Rattle.job.proofs.Standings.{stacks-are, part-is, stands-begins}
 use Rattle.calls.proofs.settle.settle_refusal.Statement.{statement}
 use Rattle.calls.proofs.settle.settle_refusal.Tie as tie
-
--- what is left of the row
-abbrev rest : Job → ℕ → List ℕ → ℕ
-rest job j log = unless (all (λ i. ltb i (stackCountAt job j)) (pending job j log)) 12 0
 
 level-refusal-requires : tie.Need-level-refusal-requires
 level-refusal-requires c κs = c .before .pre
@@ -32,14 +26,14 @@ unfolding settleRefusal
 returns c job e =
     let a = c .before .before .before .args in
     let f = c .before .level-refusal in
-    level-refuses job (a .j) (a .bytes) (length (a .log .now)) (rest job (a .j) (a .log .now)) (f .result) (f .ensures job e) (c .if1 .taken)
+    row-refuses (level-row job (a .j) (a .bytes) (length (a .log .now))) _ (f .result) (f .ensures job e) (c .if1 .taken)
 
 facts : (c : tie.Else1) → let s = c .before .before .before in LevelFacts (s .pre .job) (s .args .j) (s .args .bytes) (length (s .args .log .now))
 facts c =
     let s = c .before .before .before in
     let a = s .args in
     let of = s .pre in
-    level-facts (of .job) (a .j) (a .bytes) (length (a .log .now)) 0 (sym (c .before .level-refusal .ensures (of .job) (of .is)) ∙ c .if1 .left) .0
+    level-row (of .job) (a .j) (a .bytes) (length (a .log .now)) .asks (sym (c .before .level-refusal .ensures (of .job) (of .is)) ∙ c .if1 .left)
 
 stack-count-at-requires : tie.Need-stack-count-at-requires
 stack-count-at-requires c κs =
@@ -73,7 +67,7 @@ decides c job e =
     (c .offsets-fit .ensures
     ∙ ap (λ (m : ℕ). all (λ i. ltb i m) (c .before .waiting-part .result .now)) (c .before .before .stack-count-at .ensures ∙ stacks-are (a .standing) (a .j) job e)
     ∙ ap (all (λ i. ltb i (stackCountAt job (a .j)))) (c .before .waiting-part .ensures ∙ part-is (a .standing) (a .j) job e (a .log .now)))
-    ∙ level-goes-on job (a .j) (a .bytes) (length (a .log .now)) (rest job (a .j) (a .log .now)) (f .result) (f .ensures job e) (ok .if1 .left)
+    ∙ row-goes-on (level-row job (a .j) (a .bytes) (length (a .log .now))) _ (f .result) (f .ensures job e) (ok .if1 .left)
 
 returns-2 : tie.Need-returns-2
 returns-2 c job e = ap (λ (t : Bool). unless t 12 0) (sym (not-true (c .before .offsets-fit .result) (c .if2 .taken))) ∙ decides (c .before) job e

@@ -1,7 +1,7 @@
 -- `expand::expand::expand_refusal` meets its contract.
 use mathlib.Core.Path.{sym, _∙_}
 use Rattle.job.proofs.Standings.{passed-is, stacks-are, stands-begins}
-use Rattle.search.proofs.Accepted.{level-facts}
+use Rattle.search.proofs.Accepted.{level-row}
 use native.Mathlib.Omega.{arith}
 use Rattle.expand.proofs.Expanding.{refusal-level, refusal-passed, refusal-none}
 use Rattle.expand.proofs.expand.expand_refusal.Statement.{statement}
@@ -21,7 +21,7 @@ stack-count-at-requires c κs =
     let s = ok .before .before in
     let a = s .args in
     let of = s .pre in
-    let f = level-facts (of .job) (a .j) (a .bytes) (a .words) 0 (sym (ok .before .level-refusal .ensures (of .job) (of .is)) ∙ ok .if1 .left) .0 in
+    let f = level-row (of .job) (a .j) (a .bytes) (a .words) .asks (sym (ok .before .level-refusal .ensures (of .job) (of .is)) ∙ ok .if1 .left) in
     stands-begins (a .standing) (a .j) of (f .called .coherent)
 
 returns-2 : tie.Need-returns-2

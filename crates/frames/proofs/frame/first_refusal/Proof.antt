@@ -5,8 +5,9 @@ use Prim.Native.Nat.{ℕ, _/_}
 use borrow.Author.Needs.{needs}
 use borrow.Author.Tests.{not-true, not-false}
 use lib.ListN.{take}
+use Rattle.base.proofs.Rows.{row-refuses, row-goes-on}
 use Rattle.stacks.specs.Operations.{kindRefusal}
-use Rattle.perm.proofs.Refusals.{kind-refuses, kind-goes-on, kind-passes}
+use Rattle.stacks.proofs.Refusals.{kind-row}
 use Rattle.text.specs.Frame.{isFrame, fieldsRefusal, firstRefusal}
 use Rattle.text.specs.Hex.{bytesOf}
 use Rattle.text.specs.Kept.{textOf}
@@ -58,14 +59,14 @@ row c =
 returns-3 : tie.Need-returns-3
 returns-3 c =
     let s = c .before in
-    kind-refuses (s .before .before .byte-at .result) (s .before .byte-at2 .result) (left s) (s .kind-refusal .result) (s .kind-refusal .ensures) (c .if3 .taken)
+    row-refuses (kind-row (s .before .before .byte-at .result) (s .before .byte-at2 .result)) (left s) (s .kind-refusal .result) (s .kind-refusal .ensures) (c .if3 .taken)
     ∙ row s
 
 fields-refusal-requires : tie.Need-fields-refusal-requires
 fields-refusal-requires c κs =
     let s = c .before in
     let e = s .before .before .before .before .before .before in (
-      kind-passes (s .before .before .byte-at .result) (s .before .byte-at2 .result) 0 (sym (s .kind-refusal .ensures) ∙ c .if3 .left) .0,
+      kind-row (s .before .before .byte-at .result) (s .before .byte-at2 .result) .asks (sym (s .kind-refusal .ensures) ∙ c .if3 .left) .1,
       frame-count (e .before .before .args .line) (search needs) (is-one e),
     )
 
@@ -74,7 +75,7 @@ returns-4 c =
     let s = c .before .before in
     let k = s .kind-refusal in
     c .fields-refusal .ensures
-    ∙ kind-goes-on (s .before .before .byte-at .result) (s .before .byte-at2 .result) (left s) (k .result) (k .ensures) (c .before .if3 .left)
+    ∙ row-goes-on (kind-row (s .before .before .byte-at .result) (s .before .byte-at2 .result)) (left s) (k .result) (k .ensures) (c .before .if3 .left)
     ∙ row s
 
 pub first-refusal-spec : {M : Type 1} → statement M

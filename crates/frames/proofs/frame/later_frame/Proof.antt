@@ -2,7 +2,7 @@
 use mathlib.Core.Path.{_≡_, sym, ap, _∙_}
 use native.Mathlib.Omega.{arith}
 use borrow.Author.Needs.{needs}
-use Rattle.perm.proofs.Refusals.{no-stack, a-stack}
+use Rattle.perm.proofs.Answers.{no-stack, a-stack}
 use Rattle.text.specs.Frame.{laterRefusal, laterOf, placesOf}
 use Rattle.text.specs.Hex.{bytesOf}
 use Rattle.text.specs.Kept.{textOf}

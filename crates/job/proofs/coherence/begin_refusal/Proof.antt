@@ -5,11 +5,12 @@ use Prim.Native.Nat.{ℕ}
 use borrow.Author.Needs.{needs}
 use borrow.Author.Tests.{not-true, not-false}
 use Rattle.base.specs.Words.{unless}
-use Rattle.perm.proofs.Refusals.{index-passes}
+use Rattle.base.proofs.Rows.{row-refuses, row-goes-on}
+use Rattle.stacks.specs.Operations.{indexRefusal}
+use Rattle.stacks.proofs.Refusals.{stack-row, index-passes}
 use Rattle.search.specs.Segments.{isSegmentSize, isLogRoom}
 use Rattle.search.specs.Terms.{N, beginRefusal}
 use Rattle.search.specs.declared.Terms.{Terms}
-use Rattle.job.proofs.Rows.{begin-refuses, begin-goes-on}
 use Rattle.job.proofs.coherence.begin_refusal.Statement.{statement}
 use Rattle.job.proofs.coherence.begin_refusal.Tie as tie
 
@@ -17,10 +18,11 @@ index-refusal-requires : tie.Need-index-refusal-requires
 index-refusal-requires c κs = search needs
 
 returns : tie.Need-returns
+unfolding beginRefusal indexRefusal
 returns c =
     let terms = c .before .before .before .args .terms in
     let f = c .before .index-refusal in
-    begin-refuses terms (f .result) (f .ensures) (c .if1 .taken)
+    row-refuses (stack-row (terms .kind) (terms .n) (terms .wanted)) _ (f .result) (f .ensures) (c .if1 .taken)
 
 is-group-set-requires : tie.Need-is-group-set-requires
 is-group-set-requires c κs = search needs
@@ -33,11 +35,12 @@ sizes terms = unless (isSegmentSize (N terms) (terms .size)) 5 (unless (isLogRoo
 rest : (c : tie.After-is-group-set)
     → let terms = c .before .before .before .before .args .terms in
     unless (c .is-group-set .result) 21 (sizes terms) ≡ beginRefusal terms
+unfolding beginRefusal indexRefusal
 rest c =
     let terms = c .before .before .before .before .args .terms in
     let f = c .before .before .index-refusal in
     ap (λ (t : Bool). unless t 21 (sizes terms)) (c .is-group-set .ensures)
-    ∙ begin-goes-on terms (f .result) (f .ensures) (c .before .if1 .left)
+    ∙ row-goes-on (stack-row (terms .kind) (terms .n) (terms .wanted)) _ (f .result) (f .ensures) (c .before .if1 .left)
 
 returns-2 : tie.Need-returns-2
 returns-2 c =

@@ -6,19 +6,15 @@ use borrow.Author.Tests.{eq-eqb, ne-eqb}
 use Prim.Native.Nat.{ℕ}
 use lib.Dec.{eqb}
 use Rattle.base.specs.Words.{unless}
-use Rattle.search.specs.JobState.{inForward, logLength}
+use Rattle.base.proofs.Rows.{row-refuses, row-goes-on}
+use Rattle.search.specs.JobState.{inForward}
 use Rattle.search.specs.Refusals.{segmentRefusal, levelRefusal}
 use Rattle.search.specs.declared.Job.{Job}
-use Rattle.search.proofs.Accepted.{segment-facts}
+use Rattle.search.proofs.Accepted.{segment-row}
 use Rattle.job.specs.Standing.{standingOf}
-use Rattle.job.proofs.Rows.{segment-refuses, segment-on}
 use Rattle.job.proofs.Standings.{forward-is, area-is, stands-begins}
 use Rattle.job.proofs.refusals.level_refusal.Statement.{statement}
 use Rattle.job.proofs.refusals.level_refusal.Tie as tie
-
--- what is left of the row
-abbrev rest : Job → ℕ → ℕ
-rest job words = unless (eqb words (logLength job)) 10 0
 
 in-forward-requires : tie.Need-in-forward-requires
 in-forward-requires c κs = search needs
@@ -39,7 +35,7 @@ unfolding levelRefusal
 returns c job e =
     let s = c .before in
     let a = s .before .before .args in
-    segment-refuses (inForward job) job (a .j) (rest job (a .words)) (s .segment-refusal .result) (a .bytes) (answered s job e) (c .if1 .taken)
+    row-refuses (segment-row (inForward job) job (a .j) (a .bytes)) _ (s .segment-refusal .result) (answered s job e) (c .if1 .taken)
 
 log-length-requires : tie.Need-log-length-requires
 log-length-requires c κs =
@@ -47,7 +43,7 @@ log-length-requires c κs =
     let s = ok .before .before .before in
     let a = s .args in
     let of = s .pre in
-    let f = segment-facts (inForward (of .job)) (of .job) (a .j) (a .bytes) 0 (sym (answered (ok .before) (of .job) (of .is)) ∙ ok .if1 .left) .0 in
+    let f = segment-row (inForward (of .job)) (of .job) (a .j) (a .bytes) .asks (sym (answered (ok .before) (of .job) (of .is)) ∙ ok .if1 .left) .0 in
     stands-begins (a .standing) (a .j) of (f .coherent)
 
 -- the row goes on, and the test of the length decides
@@ -59,7 +55,7 @@ decides c job e =
     let s = ok .before in
     let a = s .before .before .args in
     ap (λ (m : ℕ). unless (eqb (a .words) m) 10 0) (c .log-length .ensures ∙ area-is (a .standing) (a .j) job e)
-    ∙ segment-on (inForward job) job (a .j) (rest job (a .words)) (s .segment-refusal .result) (a .bytes) (answered s job e) (ok .if1 .left)
+    ∙ row-goes-on (segment-row (inForward job) job (a .j) (a .bytes)) _ (s .segment-refusal .result) (answered s job e) (ok .if1 .left)
 
 returns-2 : tie.Need-returns-2
 returns-2 c job e =

@@ -6,20 +6,15 @@ use borrow.Author.Tests.{eq-eqb, ne-eqb}
 use Prim.Native.Nat.{ℕ}
 use lib.Dec.{eqb}
 use Rattle.base.specs.Words.{unless}
+use Rattle.base.proofs.Rows.{row-refuses, row-goes-on}
 use Rattle.search.specs.Entries.{bytesFor}
-use Rattle.search.specs.JobState.{stackCountAt}
 use Rattle.search.specs.Refusals.{segmentRefusal}
 use Rattle.search.specs.declared.Job.{Job}
-use Rattle.search.proofs.Accepted.{call-facts}
+use Rattle.search.proofs.Accepted.{call-row}
 use Rattle.job.specs.Standing.{standingOf}
-use Rattle.job.proofs.Rows.{call-refuses, call-on}
 use Rattle.job.proofs.Standings.{stacks-are, stands-begins}
 use Rattle.job.proofs.refusals.segment_refusal.Statement.{statement}
 use Rattle.job.proofs.refusals.segment_refusal.Tie as tie
-
--- what is left of the row
-abbrev rest : Job → ℕ → ℕ → ℕ
-rest job j bytes = unless (eqb bytes (bytesFor (stackCountAt job j))) 10 0
 
 call-refusal-requires : tie.Need-call-refusal-requires
 call-refusal-requires c κs = c .pre
@@ -29,7 +24,7 @@ unfolding segmentRefusal
 returns c job e =
     let a = c .before .before .args in
     let f = c .before .call-refusal in
-    call-refuses (a .in-phase) job (a .j) (rest job (a .j) (a .bytes)) (f .result) (f .ensures job e) (c .if1 .taken)
+    row-refuses (call-row (a .in-phase) job (a .j)) _ (f .result) (f .ensures job e) (c .if1 .taken)
 
 stack-count-at-requires : tie.Need-stack-count-at-requires
 stack-count-at-requires c κs =
@@ -37,7 +32,7 @@ stack-count-at-requires c κs =
     let s = ok .before .before in
     let a = s .args in
     let of = s .pre in
-    let f = call-facts (a .in-phase) (of .job) (a .j) 0 (sym (ok .before .call-refusal .ensures (of .job) (of .is)) ∙ ok .if1 .left) .0 in
+    let f = call-row (a .in-phase) (of .job) (a .j) .asks (sym (ok .before .call-refusal .ensures (of .job) (of .is)) ∙ ok .if1 .left) in
     stands-begins (a .standing) (a .j) of (f .coherent)
 
 bytes-for-requires : tie.Need-bytes-for-requires
@@ -57,7 +52,7 @@ decides c job e =
     let f = ok .before .call-refusal in
     ap (λ (m : ℕ). unless (eqb (a .bytes) m) 10 0)
     (c .bytes-for .ensures ∙ ap bytesFor (c .before .stack-count-at .ensures ∙ stacks-are (a .standing) (a .j) job e))
-    ∙ call-on (a .in-phase) job (a .j) (rest job (a .j) (a .bytes)) (f .result) (f .ensures job e) (ok .if1 .left)
+    ∙ row-goes-on (call-row (a .in-phase) job (a .j)) _ (f .result) (f .ensures job e) (ok .if1 .left)
 
 returns-2 : tie.Need-returns-2
 returns-2 c job e =

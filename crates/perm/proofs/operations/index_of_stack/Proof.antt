@@ -2,7 +2,8 @@
 use mathlib.Core.Path.{sym, _∙_}
 use Rattle.stacks.specs.Index.{rankOf}
 use Rattle.stacks.specs.Operations.{indexRefusal, indexOf}
-use Rattle.perm.proofs.Refusals.{no-index, an-index, index-passes}
+use Rattle.stacks.proofs.Refusals.{index-passes}
+use Rattle.perm.proofs.Answers.{no-index, an-index}
 use borrow.Author.Needs.{needs}
 use Rattle.perm.proofs.operations.index_of_stack.Statement.{statement}
 use Rattle.perm.proofs.operations.index_of_stack.Tie as tie

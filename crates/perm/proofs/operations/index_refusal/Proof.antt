@@ -3,10 +3,10 @@ use mathlib.Core.Path.{_≡_, sym, ap, _∙_}
 use mathlib.Core.Bool.{Bool}
 use borrow.Author.Tests.{not-true, not-false}
 use Rattle.base.specs.Words.{unless}
+use Rattle.base.proofs.Rows.{row-refuses, row-goes-on}
 use Rattle.stacks.specs.Operations.{indexRefusal}
-use Rattle.stacks.specs.Stack.{isStack}
 use Rattle.stacks.proofs.KindLaws.{panes-twelve}
-use Rattle.perm.proofs.Refusals.{kind-refuses, kind-goes-on, kind-passes}
+use Rattle.stacks.proofs.Refusals.{kind-row}
 use borrow.Author.Needs.{needs}
 use Rattle.perm.proofs.operations.index_refusal.Statement.{statement}
 use Rattle.perm.proofs.operations.index_refusal.Tie as tie
@@ -18,12 +18,13 @@ returns : tie.Need-returns
 unfolding indexRefusal
 returns c =
     let a = c .before .before .args in
-    kind-refuses (a .kind) (a .n) (unless (isStack (a .kind) (a .n) (a .stack)) 3 0) (c .before .kind-refusal .result) (c .before .kind-refusal .ensures) (c .if1 .taken)
+    let f = c .before .kind-refusal in
+    row-refuses (kind-row (a .kind) (a .n)) _ (f .result) (f .ensures) (c .if1 .taken)
 
 is-stack-requires : tie.Need-is-stack-requires
 is-stack-requires c κs =
     let a = c .before .before .args in
-    panes-twelve (a .kind) (a .n) (kind-passes (a .kind) (a .n) 0 (sym (c .before .kind-refusal .ensures) ∙ c .if1 .left) .0)
+    panes-twelve (a .kind) (a .n) (kind-row (a .kind) (a .n) .asks (sym (c .before .kind-refusal .ensures) ∙ c .if1 .left) .1)
 
 -- the kind and n pass, and the stack's test decides
 rest : (c : tie.After-is-stack)
@@ -33,7 +34,7 @@ rest c =
     let a = c .before .before .before .args in
     let f = c .before .before .kind-refusal in
     ap (λ (t : Bool). unless t 3 0) (c .is-stack .ensures)
-    ∙ kind-goes-on (a .kind) (a .n) (unless (isStack (a .kind) (a .n) (a .stack)) 3 0) (f .result) (f .ensures) (c .before .if1 .left)
+    ∙ row-goes-on (kind-row (a .kind) (a .n)) _ (f .result) (f .ensures) (c .before .if1 .left)
 
 returns-2 : tie.Need-returns-2
 returns-2 c = ap (λ (t : Bool). unless t 3 0) (sym (not-true (c .before .is-stack .result) (c .if2 .taken))) ∙ rest (c .before)

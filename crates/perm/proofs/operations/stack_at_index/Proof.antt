@@ -2,7 +2,8 @@
 use mathlib.Core.Path.{sym, _∙_}
 use Rattle.stacks.specs.Index.{stackAt}
 use Rattle.stacks.specs.Operations.{stackRefusal, stackOf}
-use Rattle.perm.proofs.Refusals.{no-stack, a-stack, stack-passes}
+use Rattle.stacks.proofs.Refusals.{stack-passes}
+use Rattle.perm.proofs.Answers.{no-stack, a-stack}
 use borrow.Author.Needs.{needs}
 use Rattle.perm.proofs.operations.stack_at_index.Statement.{statement}
 use Rattle.perm.proofs.operations.stack_at_index.Tie as tie

@@ -6,9 +6,9 @@ use native.Mathlib.Omega.{arith}
 use lib.Dec.{ltb}
 use borrow.Author.Tests.{lt-ltb, le-ltb}
 use Rattle.base.specs.Words.{unless}
+use Rattle.base.proofs.Rows.{row-refuses, row-goes-on}
 use Rattle.stacks.specs.Operations.{stackRefusal}
-use Rattle.stacks.specs.Stack.{stackCount}
-use Rattle.perm.proofs.Refusals.{kind-refuses, kind-goes-on, kind-passes}
+use Rattle.stacks.proofs.Refusals.{kind-row}
 use borrow.Author.Needs.{needs}
 use Rattle.perm.proofs.operations.stack_refusal.Statement.{statement}
 use Rattle.perm.proofs.operations.stack_refusal.Tie as tie
@@ -20,12 +20,13 @@ returns : tie.Need-returns
 unfolding stackRefusal
 returns c =
     let a = c .before .before .args in
-    kind-refuses (a .kind) (a .n) (unless (ltb (a .index) (stackCount (a .kind) (a .n))) 4 0) (c .before .kind-refusal .result) (c .before .kind-refusal .ensures) (c .if1 .taken)
+    let f = c .before .kind-refusal in
+    row-refuses (kind-row (a .kind) (a .n)) _ (f .result) (f .ensures) (c .if1 .taken)
 
 stack-count-requires : tie.Need-stack-count-requires
 stack-count-requires c κs =
     let a = c .before .before .args in
-    kind-passes (a .kind) (a .n) 0 (sym (c .before .kind-refusal .ensures) ∙ c .if1 .left) .0
+    kind-row (a .kind) (a .n) .asks (sym (c .before .kind-refusal .ensures) ∙ c .if1 .left) .1
 
 -- the kind and n pass, and the index's test decides
 rest : (c : tie.After-stack-count)
@@ -35,7 +36,7 @@ rest c =
     let a = c .before .before .before .args in
     let f = c .before .before .kind-refusal in
     ap (λ (m : ℕ). unless (ltb (a .index) m) 4 0) (c .stack-count .ensures)
-    ∙ kind-goes-on (a .kind) (a .n) (unless (ltb (a .index) (stackCount (a .kind) (a .n))) 4 0) (f .result) (f .ensures) (c .before .if1 .left)
+    ∙ row-goes-on (kind-row (a .kind) (a .n)) _ (f .result) (f .ensures) (c .before .if1 .left)
 
 returns-2 : tie.Need-returns-2
 returns-2 c =

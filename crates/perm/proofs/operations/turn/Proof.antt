@@ -2,8 +2,9 @@
 use mathlib.Core.Path.{sym, _∙_}
 use Rattle.stacks.specs.Operations.{turnRefusal, turnedOf}
 use Rattle.stacks.specs.Turn.{turnOf}
+use Rattle.stacks.proofs.Refusals.{turn-passes}
 use Rattle.stacks.proofs.TurnLaws.{turn-last}
-use Rattle.perm.proofs.Refusals.{no-stack, a-stack, turn-passes}
+use Rattle.perm.proofs.Answers.{no-stack, a-stack}
 use borrow.Author.Needs.{needs}
 use Rattle.perm.proofs.operations.turn.Statement.{statement}
 use Rattle.perm.proofs.operations.turn.Tie as tie

@@ -3,8 +3,9 @@ use mathlib.Core.Path.{_≡_, sym, ap, _∙_}
 use mathlib.Core.Bool.{Bool}
 use borrow.Author.Tests.{not-true, not-false}
 use Rattle.base.specs.Words.{unless}
-use Rattle.stacks.specs.Operations.{turnRefusal}
-use Rattle.perm.proofs.Refusals.{turn-refuses, turn-goes-on}
+use Rattle.base.proofs.Rows.{row-refuses, row-goes-on}
+use Rattle.stacks.specs.Operations.{indexRefusal, turnRefusal}
+use Rattle.stacks.proofs.Refusals.{stack-row}
 use borrow.Author.Needs.{needs}
 use Rattle.perm.proofs.operations.turn_refusal.Statement.{statement}
 use Rattle.perm.proofs.operations.turn_refusal.Tie as tie
@@ -13,18 +14,21 @@ index-refusal-requires : tie.Need-index-refusal-requires
 index-refusal-requires c κs = search needs
 
 returns : tie.Need-returns
+unfolding indexRefusal turnRefusal
 returns c =
     let a = c .before .before .args in
-    turn-refuses (a .kind) (a .n) (a .stack) (a .k) (c .before .index-refusal .result) (c .before .index-refusal .ensures) (c .if1 .taken)
+    let f = c .before .index-refusal in
+    row-refuses (stack-row (a .kind) (a .n) (a .stack)) _ (f .result) (f .ensures) (c .if1 .taken)
 
 -- the stack passes, and the turn's test decides
 rest : (c : tie.After-is-turn)
     → let a = c .before .before .before .args in unless (c .is-turn .result) 4 0 ≡ turnRefusal (a .kind) (a .n) (a .stack) (a .k)
+unfolding indexRefusal turnRefusal
 rest c =
     let a = c .before .before .before .args in
     let f = c .before .before .index-refusal in
     ap (λ (t : Bool). unless t 4 0) (c .is-turn .ensures)
-    ∙ turn-goes-on (a .kind) (a .n) (a .stack) (a .k) (f .result) (f .ensures) (c .before .if1 .left)
+    ∙ row-goes-on (stack-row (a .kind) (a .n) (a .stack)) _ (f .result) (f .ensures) (c .before .if1 .left)
 
 is-turn-requires : tie.Need-is-turn-requires
 is-turn-requires c κs = search needs

@@ -1,8 +1,7 @@
 -- `plan::read::read_entry` meets its contract: the refusal's number alone, or the entry.
 use mathlib.Core.Path.{sym, _∙_}
 use lib.ListN.{length}
-use Rattle.plan.proofs.Rows.{read-inside}
-use Rattle.plan.proofs.Answers.{no-entry, an-entry}
+use Rattle.plan.proofs.Answers.{read-inside, no-entry, an-entry}
 use borrow.Author.Needs.{needs}
 use Rattle.plan.proofs.read.read_entry.Statement.{statement}
 use Rattle.plan.proofs.read.read_entry.Tie as tie

@@ -6,16 +6,16 @@ use borrow.Author.Needs.{needs}
 use borrow.Author.Tests.{eq-eqb, ne-eqb, not-true, not-false}
 use lib.Dec.{eqb}
 use Rattle.base.specs.Words.{unless}
+use Rattle.base.proofs.Rows.{row-refuses, row-goes-on}
 use Rattle.search.specs.Changed.{listBytes}
 use Rattle.search.specs.Entries.{bytesFor}
 use Rattle.search.specs.JobState.{inReverse, isLoaded, isSwept, sweptOf, noSegment, stackCountAt}
 use Rattle.search.specs.Refusals.{callRefusal}
 use Rattle.search.specs.Sweep.{sweepRefusal}
 use Rattle.search.specs.declared.Job.{Job}
-use Rattle.search.proofs.Accepted.{CallFacts, call-facts}
+use Rattle.search.proofs.Accepted.{CallFacts, call-row}
 use Rattle.job.specs.Standing.{standingOf}
 use Rattle.job.proofs.Bounds.{segment-below}
-use Rattle.job.proofs.Rows.{call-refuses, call-on}
 use Rattle.job.proofs.Standings.{reverse-is, loaded-is, swept-is, stands-begins}
 use Rattle.sweep.proofs.Sweeping.{lengths-are}
 use Rattle.sweep.proofs.sweep.sweep_refusal.Statement.{statement}
@@ -65,7 +65,7 @@ unfolding sweepRefusal
 returns c job e =
     let f = c .before in
     let a = f .before .before .args in
-    call-refuses (inReverse job) job (a .j) (rest job (a .j) (a .bytes) (a .listed)) (f .call-refusal .result) (answered f job e) (c .if1 .taken)
+    row-refuses (call-row (inReverse job) job (a .j)) _ (f .call-refusal .result) (answered f job e) (c .if1 .taken)
 
 -- it goes on
 goes-on : (c : tie.Else1) (job : Job) → let a = c .before .before .before .args in
@@ -74,13 +74,13 @@ unfolding sweepRefusal
 goes-on c job e =
     let f = c .before in
     let a = f .before .before .args in
-    call-on (inReverse job) job (a .j) (rest job (a .j) (a .bytes) (a .listed)) (f .call-refusal .result) (answered f job e) (c .if1 .left)
+    row-goes-on (call-row (inReverse job) job (a .j)) _ (f .call-refusal .result) (answered f job e) (c .if1 .left)
 
 facts : (c : tie.Else1) → let s = c .before .before .before in CallFacts (inReverse (s .pre .job)) (s .pre .job) (s .args .j)
 facts c =
     let s = c .before .before .before in
     let of = s .pre in
-    call-facts (inReverse (of .job)) (of .job) (s .args .j) 0 (sym (answered (c .before) (of .job) (of .is)) ∙ c .if1 .left) .0
+    call-row (inReverse (of .job)) (of .job) (s .args .j) .asks (sym (answered (c .before) (of .job) (of .is)) ∙ c .if1 .left)
 
 returns-2 : tie.Need-returns-2
 returns-2 c job e =
