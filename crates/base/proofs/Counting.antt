@@ -142,15 +142,6 @@ below-all p n h = at-all p (from 0 n) 0 (λ i l. go i (rw from-length at l))
 -- ---- some element of a list, and what a test leaves of it
 
 module _ {A : Type 0} (p : A → Bool) where
-  pub any-append : (xs ys : List A) → any p (xs ++ ys) ≡ (any p xs || any p ys)
-  unfolding any
-  any-append [] ys = refl
-  any-append (x ∷ xs) ys = go (p x) (any-append xs ys)
-    where
-      go : (t : Bool) → any p (xs ++ ys) ≡ (any p xs || any p ys) → (t || any p (xs ++ ys)) ≡ ((t || any p xs) || any p ys)
-      go true h = refl
-      go false h = h
-
   module _ (a : A) where
     pub any-at : (xs : List A) (i : ℕ) → i < length xs → p (getD xs i a) ≡ true → any p xs ≡ true
     unfolding any

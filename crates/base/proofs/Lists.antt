@@ -1,9 +1,9 @@
 -- Laws on lists: reversal, mapping, cutting, the list of numbers from a on, a list of one element, many times, and what a test leaves.
-use mathlib.Core.Path.{_≡_, refl, sym, ap, ap₂, _∙_}
+use mathlib.Core.Path.{_≡_, refl, sym, ap, _∙_}
 use mathlib.Core.Bool.{Bool, true, false, cond}
 use mathlib.Core.List.{List, [], _∷_, _++_, map, reverse, reverse-cons}
 use Prim.Native.Nat.{ℕ, zero, suc, _+_, _-_, _<_, _≤_}
-use native.Mathlib.Nat.{add-zero, le-of-suc-le-suc, not-suc-le-zero}
+use native.Mathlib.Nat.{zero-add, add-zero, suc-add, add-suc, le-of-suc-le-suc, not-suc-le-zero}
 use native.Mathlib.Omega.{arith}
 use lib.ListN.{length, getD, take, drop, replicate, length-reverse, length-replicate, getD-replicate, replicate-append-replicate, List·getD-append, List·getD-eq-default}
 use mathlib.Core.Logic.{_⊎_, inl, inr}
@@ -124,11 +124,8 @@ module _ {A : Type 0} (p : A → Bool) where
 -- the numbers up to some, and the others; and up to one more
 pub from-split : (a m p : ℕ) → from a (m + p) ≡ from a m ++ from (a + m) p
 unfolding from
-from-split a zero p = ap₂ from (let e : a ≡ a + 0 = omega arith in e) (let e : 0 + p ≡ p = omega arith in e)
-from-split a (suc m) p =
-    ap (from a) (let e : suc m + p ≡ suc (m + p) = omega arith in e)
-    ∙ ap (λ (xs : List ℕ). a ∷ xs)
-    (from-split (suc a) m p ∙ ap (λ (x : ℕ). from (suc a) m ++ from x p) (let e : suc a + m ≡ a + suc m = omega arith in e))
+from-split a zero p = rw (zero-add, add-zero)
+from-split a (suc m) p = rw (suc-add, add-suc, ← suc-add) (ap (λ (l : List ℕ). a ∷ l) (from-split (suc a) m p))
 
 pub from-more : (a n : ℕ) → from a (suc n) ≡ from a n ++ ((a + n) ∷ [])
 unfolding from

@@ -11,11 +11,10 @@ ghost use Rattle.stacks.specs.Turn.{isGroupSet, turnsIn};
 ghost use Rattle.perm.specs.Moves.{mostMoves};
 use ones::SETS;
 use perm::groups::MOST_MOVES;
-use perm::kind;
 use perm::numbering;
+use perm::walk;
 
-// The indexes of the children of the stack at an index, by rising k, and zeros after them. The set is halved from turn to turn, and k is the
-// last size that was asked for: a list of its turns costs more for each pane of a child.
+// The indexes of the children of the stack at an index, by rising k, and zeros after them.
 pub(crate) fn children_of(
     kind: u8,
     n: u8,
@@ -28,16 +27,15 @@ pub(crate) fn children_of(
 {
     let stack = numbering::unrank(kind, n, index, lookup);
     let mut children = [0u32; MOST_MOVES];
-    let mut k = kind::first_turn(kind) - 1;
-    let mut rest = groups >> (k as u32);
+    let mut walk = walk::begin(kind, n, groups);
     let mut i: usize = 0;
-    while rest != 0 {
-        k += 1;
-        if rest % 2 == 1 {
+    while walk.rest != 0 {
+        let k = walk.k + 1;
+        if walk.rest % 2 == 1 {
             children[i] = numbering::rank_turned(kind, n, &stack, index, k, lookup);
             i += 1;
         }
-        rest = rest / 2;
+        walk = walk::next(walk);
     }
     children
 }

@@ -4,20 +4,15 @@ use mathlib.Core.Logic.{_⊎_, inl, inr}
 use mathlib.Core.Bool.{Bool, true, false, not, _&&_, and-true, cond}
 use lib.Dec.{ltb, eqb}
 use borrow.Author.Tests.{lt-ltb, le-ltb, eq-eqb, ne-eqb}
-use mathlib.Core.List.{List, _∷_, _++_, map}
+use mathlib.Core.List.{List, map}
 use Prim.Native.Nat.{ℕ, zero, suc, _+_, _<_, _≤_, zero-le}
-use native.Mathlib.Nat.{zero-add, add-zero, add-suc, suc-add}
+use native.Mathlib.Nat.{zero-add, add-zero, add-suc}
 use native.Mathlib.Numerals.{add-one}
 use native.Mathlib.Omega.{arith}
 use Rattle.base.specs.Words.{tally, total, from}
 use Rattle.base.proofs.Tests.{and-both, and-fails-right, never, test-cases, not-is-false, lt-or-ge, eq-or-ne}
 use Rattle.base.proofs.Counting.{tally-append, tally-mono, total-append}
-use Rattle.base.proofs.Lists.{map-append}
-
-pub from-split : (a m n : ℕ) → from a (m + n) ≡ from a m ++ from (a + m) n
-unfolding from
-from-split a zero n = rw (zero-add, add-zero)
-from-split a (suc m) n = rw (suc-add, add-suc, ← suc-add) (ap (λ (l : List ℕ). a ∷ l) (from-split (suc a) m n))
+use Rattle.base.proofs.Lists.{map-append, from-split}
 
 pub tally-split : (p : ℕ → Bool) (a m n : ℕ) → tally p (from a (m + n)) ≡ tally p (from a m) + tally p (from (a + m) n)
 tally-split p a m n = ap (tally p) (from-split a m n) ∙ tally-append p (from a m) (from (a + m) n)

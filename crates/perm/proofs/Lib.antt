@@ -4,6 +4,7 @@ pub mod Signed
 pub mod Sets
 pub mod Places
 pub mod Sizes
+pub mod Walks
 pub mod Ranking
 pub mod Unranking
 pub mod Below

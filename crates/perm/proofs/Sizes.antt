@@ -2,20 +2,20 @@
 use mathlib.Core.Path.{_≡_, refl, sym, ap, _∙_}
 use mathlib.Core.Logic.{_⊎_, inl, inr}
 use mathlib.Core.Bool.{Bool, true, false, not, _&&_, _||_, cond}
-use mathlib.Core.List.{List, [], _∷_, _++_, append-nil}
+use mathlib.Core.List.{[], _∷_}
 use Prim.Native.Nat.{ℕ, zero, suc, _+_, _-_, _/_, _%_, _^_, _≤_, _<_}
 use native.Mathlib.Nat.{pow-suc, mod-lt, div-div-eq-div-mul}
 use native.Mathlib.Numerals.{add-one}
 use native.Mathlib.Omega.{arith}
 use lib.Dec.{leb, eqb}
-use lib.ListN.{length, getD, length-append}
+use lib.ListN.{length, getD}
 use borrow.Author.Tests.{le-leb, lt-leb, eq-eqb, ne-eqb}
 use Rattle.base.specs.Words.{all, filter, from}
 use Rattle.base.proofs.Counting.{all-at}
-use Rattle.base.proofs.Lists.{from-length, getD-from, filter-append, from-split, from-more}
+use Rattle.base.proofs.Lists.{from-length, getD-from}
 use Rattle.base.proofs.Tests.{and-left, not-is-false, never, lt-or-ge}
 use Rattle.stacks.specs.Stack.{stackPlaces, isPaneCount}
-use Rattle.stacks.specs.Turn.{firstTurn, lastTurn, isTurn, turnsOf, lifts, groupPlaces, isGroupSet, turnsIn}
+use Rattle.stacks.specs.Turn.{firstTurn, lastTurn, isTurn, turnsOf, lifts, groupPlaces, isGroupSet}
 use Rattle.stacks.proofs.KindLaws.{panes-twelve}
 use Rattle.stacks.proofs.TurnLaws.{first-inside, turn-last}
 
@@ -74,46 +74,6 @@ turns-some kind n =
     go (inr h) =
         le-leb (firstTurn kind) (lastTurn kind n) h ∙ sym (ap not (ne-eqb (suc (lastTurn kind n) - firstTurn kind) 0 (λ e. omega arith)))
 
--- the turns up to k that a set names
-abbrev pub namedTo : ℕ → ℕ → ℕ → List ℕ
-namedTo groups first k = filter (lifts groups) (from first (k - first))
-
-named-more : (groups first k : ℕ) → first ≤ k → namedTo groups first (k + 1) ≡ namedTo groups first k ++ filter (lifts groups) (k ∷ [])
-named-more groups first k h =
-    let e : k + 1 - first ≡ suc (k - first) = omega arith in
-    let s : first + (k - first) ≡ k = omega arith in
-    ap (λ (m : ℕ). filter (lifts groups) (from first m)) e
-    ∙ ap (filter (lifts groups)) (from-more first (k - first) ∙ ap (λ (x : ℕ). from first (k - first) ++ (x ∷ [])) s)
-    ∙ filter-append (lifts groups) (from first (k - first)) (k ∷ [])
-
--- with or without k, as the set says, and so they are one more or as many
-module _ (groups first k : ℕ) (h : first ≤ k) where
-  module _ (named : lifts groups k ≡ true) where
-    pub named-with : namedTo groups first (k + 1) ≡ namedTo groups first k ++ (k ∷ [])
-    unfolding filter
-    named-with = named-more groups first k h ∙ rw named
-
-    pub count-with : (i : ℕ) → i ≡ length (namedTo groups first k) → i + 1 ≡ length (namedTo groups first (k + 1))
-    count-with i e = omega (arith, ap length named-with, length-append (namedTo groups first k) (k ∷ []))
-
-  module _ (unnamed : lifts groups k ≡ false) where
-    pub named-without : namedTo groups first (k + 1) ≡ namedTo groups first k
-    unfolding filter
-    named-without = named-more groups first k h ∙ rw unnamed (append-nil (namedTo groups first k))
-
-    pub count-without : (i : ℕ) → i ≡ length (namedTo groups first k) → i ≡ length (namedTo groups first (k + 1))
-    count-without i e = e ∙ ap length (sym named-without)
-
--- before the first turn none is named, and up to the last they all are
-pub named-none : (groups first : ℕ) → namedTo groups first first ≡ []
-unfolding filter from
-named-none groups first = ap (λ (m : ℕ). filter (lifts groups) (from first m)) (let e : first - first ≡ 0 = omega arith in e)
-
-pub named-all : (kind n groups k : ℕ) → k ≡ lastTurn kind n + 1 → namedTo groups (firstTurn kind) k ≡ turnsIn kind n groups
-unfolding turnsIn turnsOf
-named-all kind n groups k e =
-    ap (λ (m : ℕ). filter (lifts groups) (from (firstTurn kind) m)) (let q : k - firstTurn kind ≡ suc (lastTurn kind n) - firstTurn kind = omega arith in q)
-
 -- ---- a set that is halved from size to size
 
 -- half of what is left at k is left at k + 1
@@ -149,27 +109,12 @@ fits-past kind n groups k (suc m) some none =
     ∙ fits-past kind n groups (suc k) m (omega arith) (none-left groups k some none)
 
 -- and no size from k on is named
-named-past : (groups k m : ℕ) → 1 ≤ k → groups / 2 ^ (k - 1) ≡ 0 → filter (lifts groups) (from k m) ≡ []
+pub named-past : (groups k m : ℕ) → 1 ≤ k → groups / 2 ^ (k - 1) ≡ 0 → filter (lifts groups) (from k m) ≡ []
 unfolding filter from lifts
 named-past groups k zero some none = refl
 named-past groups k (suc m) some none =
     ap (λ (x : ℕ). cond (eqb (x % 2) 1) (k ∷ filter (lifts groups) (from (suc k) m)) (filter (lifts groups) (from (suc k) m))) none
     ∙ named-past groups (suc k) m (omega arith) (none-left groups k some none)
-
-pub named-rest : (kind n groups k : ℕ) → firstTurn kind ≤ k → k ≤ lastTurn kind n + 1 → 1 ≤ k → groups / 2 ^ (k - 1) ≡ 0
-    → namedTo groups (firstTurn kind) k ≡ turnsIn kind n groups
-unfolding turnsIn turnsOf
-named-rest kind n groups k h l some none =
-    let first : ℕ = firstTurn kind in
-    let past : ℕ = suc (lastTurn kind n) - k in
-    let all-of : suc (lastTurn kind n) - first ≡ k - first + past = omega arith in
-    let next : first + (k - first) ≡ k = omega arith in
-    sym
-    (ap (λ (m : ℕ). filter (lifts groups) (from first m)) all-of
-    ∙ ap (filter (lifts groups)) (from-split first (k - first) past ∙ ap (λ (x : ℕ). from first (k - first) ++ from x past) next)
-    ∙ filter-append (lifts groups) (from first (k - first)) (from k past)
-    ∙ ap (λ (ks : List ℕ). namedTo groups first k ++ ks) (named-past groups k past some none)
-    ∙ append-nil (namedTo groups first k))
 
 unnamed-bit : (groups k : ℕ) → lifts groups k ≡ false → groups / 2 ^ (k - 1) % 2 ≡ 1 → ⊥
 unfolding lifts

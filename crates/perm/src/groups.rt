@@ -8,6 +8,7 @@ ghost use Rattle.base.specs.Words.{all, from};
 ghost use Rattle.stacks.specs.Stack.{isPaneCount};
 ghost use Rattle.stacks.specs.Turn.{isTurn, turnsOf, lifts, groupPlaces, isGroupSet, turnsIn, allGroups};
 use crate::kind;
+use crate::walk;
 use stacks::PLACES;
 
 // As many moves as a search can have: no more than a stack has places.
@@ -77,17 +78,14 @@ pub fn all_groups(kind: u8, n: u8) -> u32
 
 // How many turns a set names.
 pub fn turn_count(kind: u8, n: u8, groups: u32) -> u32
-    requires { ⌜ isPaneCount kind n ≡ true ⌝ }
+    requires { ⌜ (isPaneCount kind n ≡ true) × (isGroupSet kind n groups ≡ true) ⌝ }
     ensures { λ r. ⌜ r ≡ length (turnsIn kind n groups) ⌝ }
 {
-    let last = kind::last_turn(kind, n);
     let mut count: u32 = 0;
-    let mut k = kind::first_turn(kind);
-    while k <= last {
-        if lifts(groups, k) {
-            count += 1;
-        }
-        k += 1;
+    let mut walk = walk::begin(kind, n, groups);
+    while walk.rest != 0 {
+        count += walk.rest % 2;
+        walk = walk::next(walk);
     }
     count
 }

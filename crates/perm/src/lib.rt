@@ -7,3 +7,4 @@ mod place;
 mod set;
 pub mod turning;
 pub mod valid;
+pub mod walk;

@@ -1,12 +1,13 @@
 -- Laws of `childrenOf`: the children of an index are where its moves lead, and nothing else.
 use mathlib.Core.Path.{_≡_, refl, sym, ap, _∙_, subst}
 use mathlib.Core.Bool.{true}
-use mathlib.Core.List.{List, [], _∷_, _++_, map}
+use mathlib.Core.List.{List, _∷_, map}
 use Prim.Native.Nat.{ℕ, _<_}
+use lib.IntN.{ℤ}
 use lib.ListN.{length, getD, length-map}
 use Rattle.graph.specs.Walks.{isMove}
 use Rattle.graph.proofs.Moves.{move-listed, listed-move}
-use Rattle.base.proofs.Lists.{getD-map, map-append}
+use Rattle.base.proofs.Lists.{getD-map}
 use Rattle.stacks.specs.Index.{rankOf, stackAt}
 use Rattle.stacks.specs.Stack.{isPaneCount, stackCount}
 use Rattle.stacks.specs.Turn.{turnOf}
@@ -18,9 +19,11 @@ module _ (kind n : ℕ) (moves : List ℕ) (v : ℕ) where
   unfolding childrenOf childAt
   children-are = refl
 
-  pub children-more : (k : ℕ) → childrenOf kind n (moves ++ (k ∷ [])) v ≡ childrenOf kind n moves v ++ (childAt kind n k v ∷ [])
-  unfolding childrenOf childAt
-  children-more k = map-append (λ j. rankOf kind n (turnOf kind j (stackAt kind n v))) moves (k ∷ [])
+  -- the first of them, as code makes it
+  pub children-next : (k : ℕ) (later : List ℕ) → moves ≡ k ∷ later → (stack : List ℤ) → stack ≡ stackAt kind n v
+      → (r : ℕ) → r ≡ rankOf kind n (turnOf kind k stack) → childrenOf kind n moves v ≡ r ∷ childrenOf kind n later v
+  unfolding childrenOf
+  children-next k later e stack is r made = rw (e, made, is)
 
   pub children-length : length (childrenOf kind n moves v) ≡ length moves
   children-length = ap length children-are ∙ length-map moves (λ k. childAt kind n k v)

@@ -4,8 +4,8 @@ ghost use Rattle.ones.specs.Ones.{onesTable};
 ghost use Rattle.search.specs.Sweep.{isChanged};
 ghost use Rattle.sweep.specs.Reach.{BitFits, ReachFits, reachedBy};
 use ones::SETS;
-use perm::kind;
 use perm::numbering;
+use perm::walk;
 use twobit::list;
 
 // Only the stacks of segment b have bits in the list.
@@ -19,7 +19,7 @@ fn is_changed(size: u32, b: u32, list: &[u8], child: u32) -> bool
     list::get_bit(list, child % size)
 }
 
-// The turns of the set by rising k, the set halved from turn to turn: the first that leads to a changed stack ends the search.
+// The first turn of the set that leads to a changed stack ends the search.
 pub(crate) fn is_reached(
     kind: u8,
     n: u8,
@@ -34,17 +34,16 @@ pub(crate) fn is_reached(
     ensures { λ r. ⌜ r ≡ reachedBy kind n groups size b (now (list .entry)) index ⌝ }
 {
     let stack = numbering::unrank(kind, n, index, lookup);
-    let mut k = kind::first_turn(kind) - 1;
-    let mut rest = groups >> (k as u32);
-    while rest != 0 {
-        k += 1;
-        if rest % 2 == 1 {
+    let mut walk = walk::begin(kind, n, groups);
+    while walk.rest != 0 {
+        let k = walk.k + 1;
+        if walk.rest % 2 == 1 {
             let child = numbering::rank_turned(kind, n, &stack, index, k, lookup);
             if is_changed(size, b, list, child) {
                 return true;
             }
         }
-        rest = rest / 2;
+        walk = walk::next(walk);
     }
     false
 }

@@ -12,7 +12,7 @@ segment-count-of-requires : tie.Need-segment-count-of-requires
 segment-count-of-requires c κs = search needs
 
 turn-count-requires : tie.Need-turn-count-requires
-turn-count-requires c κs = begin-given (c .before .pre .0) .in-range
+turn-count-requires c κs = let g = begin-given (c .before .pre .0) in (g .in-range, g .of-set)
 
 next-entry-requires : tie.Need-next-entry-requires
 next-entry-requires c κs = search needs

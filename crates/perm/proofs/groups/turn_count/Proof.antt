@@ -1,80 +1,65 @@
--- `perm::groups::turn_count` meets its contract. The loop's invariant: so many turns below k are named.
-use mathlib.Core.Logic.{⊎-elim}
-use mathlib.Core.Path.{_≡_, sym, ap, _∙_}
-use Prim.Native.Nat.{_+_, _-_, _≤_}
+-- `perm::groups::turn_count` meets its contract. The loop's invariant: those counted and those ahead are all.
+use mathlib.Core.Path.{_≡_, sym, ap, subst}
+use Prim.Native.Nat.{ℕ, _+_, _%_, _≤_, _<_}
+use native.Mathlib.Nat.{mod-lt}
 use native.Mathlib.Omega.{arith}
 use borrow.Author.Needs.{needs}
 use lib.ListN.{length}
 use Rattle.stacks.specs.Stack.{stackPlaces}
-use Rattle.stacks.specs.Turn.{firstTurn}
-use Rattle.stacks.proofs.TurnLaws.{first-pos}
-use Rattle.perm.proofs.Sizes.{last-twelve, first-last, namedTo, named-none, count-with, count-without, named-all}
+use Rattle.stacks.specs.Turn.{turnsIn}
+use Rattle.perm.specs.Walk.{Walks, turnsAfter}
+use Rattle.perm.specs.declared.walk.Walk.{Walk}
+use Rattle.perm.proofs.Walks.{next-turn, walk-on, count-ahead, none-ahead}
 use Rattle.perm.proofs.groups.turn_count.Statement.{statement}
 use Rattle.perm.proofs.groups.turn_count.Tie as tie
 
+-- what holds of a walk and a count
+abbrev Counted : ℕ → ℕ → ℕ → Walk → ℕ → Type 0
+Counted kind n groups walk count =
+    Walks kind n groups (walk .k) (walk .rest) × (count ≤ walk .k) × (count + length (turnsAfter kind n groups (walk .k)) ≡ length (turnsIn kind n groups))
+
 abbrev Inv-loop : tie.InvT-loop
-Inv-loop kind n groups last count₀ k₀ count k =
-    (1 ≤ firstTurn kind) × (firstTurn kind ≤ k) × (last ≤ stackPlaces) × (k ≤ last + 1)
-    × (count ≡ length (namedTo groups (firstTurn kind) k)) × (count ≤ k - firstTurn kind)
+Inv-loop kind n groups count₀ walk₀ count walk = Counted kind n groups walk count
 
 abbrev μ-loop : tie.MeasureT-loop
-μ-loop kind n groups last count₀ k₀ count k = last + 1 - k
+μ-loop kind n groups count₀ walk₀ count walk = walk .rest
 
-last-turn-requires : tie.Need-last-turn-requires Inv-loop μ-loop
-last-turn-requires c κs = search needs
-
-first-turn-requires : tie.Need-first-turn-requires Inv-loop μ-loop
-first-turn-requires c κs = search needs
+begin-requires : tie.Need-begin-requires Inv-loop μ-loop
+begin-requires c κs = search needs
 
 loop-holds : tie.Need-loop-holds Inv-loop μ-loop
-loop-holds c =
-    let s = c .before .before in
-    let first = c .first-turn .ensures in
-    let last = c .before .last-turn .ensures in (
-      first-pos (s .args .kind),
-      omega arith,
-      omega (arith, last-twelve (s .args .kind) (s .args .n) (s .pre)),
-      omega (arith, first-last (s .args .kind) (s .args .n) (s .pre)),
-      sym (ap length (ap (namedTo (s .args .groups) (firstTurn (s .args .kind))) first ∙ named-none (s .args .groups) (firstTurn (s .args .kind)))),
-      omega arith,
-    )
+loop-holds c = (c .begin .ensures .walks, omega arith, omega (arith, ap length (c .begin .ensures .all)))
 
-lifts-requires : tie.Need-lifts-requires Inv-loop μ-loop
-lifts-requires c κs = omega arith
+-- a bit is at most one
+bit : (l : tie.At-loop Inv-loop μ-loop) → l .loop .walk .rest % 2 ≤ 1
+bit l = omega (arith, mod-lt (l .loop .walk .rest) {m = 2} (omega arith))
+
+-- while something is left, the next size is a turn
+low : (t : tie.Then1 Inv-loop μ-loop) → t .before .before .loop .walk .k < stackPlaces
+low t = let walks = t .before .before .loop .inv .0 in omega (arith, next-turn walks (t .if1 .taken), walks .low)
 
 add-count : tie.Need-add-count Inv-loop μ-loop
-add-count c = omega arith
+add-count c = let t = c .before in omega (arith, bit (t .before .before), low t)
 
-add-k : tie.Need-add-k Inv-loop μ-loop
-add-k c = omega arith
+next-requires : tie.Need-next-requires Inv-loop μ-loop
+next-requires c κs = low (c .before)
 
 loop-less : tie.Need-loop-less Inv-loop μ-loop
-loop-less c = omega arith
+loop-less c = omega (arith, ap (λ (w : Walk). w .rest) (c .next .ensures))
 
 loop-again : tie.Need-loop-again Inv-loop μ-loop
 loop-again c =
-    let l = c .before .before .before in
-    let a = l .before .before .before .args in
+    let t = c .before .before in
+    let l = t .before .before in
+    let a = l .before .before .args in
     let inv = l .loop .inv in
-    let named = c .before .lifts .ensures in (
-      inv .0,
-      omega arith,
-      inv .2,
-      omega arith,
-      ⊎-elim (λ w. w .1 ∙ count-with (a .groups) (firstTurn (a .kind)) (l .loop .k) (inv .1) (sym named ∙ w .0 .taken) (l .loop .count) (inv .4))
-          (λ w. w .1 ∙ count-without (a .groups) (firstTurn (a .kind)) (l .loop .k) (inv .1) (sym named ∙ w .0 .left) (l .loop .count) (inv .4)) (c .if1 .came),
-      ⊎-elim (λ w. omega (arith, w .1)) (λ w. omega (arith, w .1)) (c .if1 .came),
-    )
+    let some = t .if1 .taken in
+    subst (λ (w : Walk). Counted (a .kind) (a .n) (a .groups) w (l .loop .count + l .loop .walk .rest % 2)) (sym (c .next .ensures))
+    (walk-on (inv .0) some, omega (arith, bit l), omega (arith, count-ahead (inv .0) some))
 
 returns : tie.Need-returns Inv-loop μ-loop
-returns c =
-    let l = c .before in
-    let a = l .before .before .before .args in
-    let inv = l .loop .inv in
-    let last = l .before .before .last-turn .ensures in
-    inv .4 ∙ ap length (named-all (a .kind) (a .n) (a .groups) (l .loop .k) (omega arith))
+returns c = let inv = c .before .before .loop .inv in omega (arith, inv .2, ap length (none-ahead (inv .0) (c .if1 .left)))
 
 pub turn-count-spec : {M : Type 1} → statement M
 turn-count-spec =
-    tie.close
-    (tie.spec Inv-loop μ-loop last-turn-requires first-turn-requires loop-holds lifts-requires add-count add-k loop-less loop-again returns)
+    tie.close (tie.spec Inv-loop μ-loop begin-requires loop-holds add-count next-requires loop-less loop-again returns)

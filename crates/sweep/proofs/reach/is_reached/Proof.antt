@@ -1,166 +1,121 @@
--- `sweep::reach::is_reached` meets its contract. The loop's invariant: no turn up to k that the set names leads to a changed stack; rest is what
--- is left of the set.
+-- `sweep::reach::is_reached` meets its contract. The loop's invariant: the stack is reached if a turn ahead leads to a changed stack.
 use mathlib.Core.Path.{_≡_, sym, ap, _∙_, subst}
 use mathlib.Core.Logic.{⊎-elim}
-use Prim.Native.Nat.{ℕ, _+_, _-_, _/_, _%_, _^_, _≤_}
+use mathlib.Core.List.{List}
+use Prim.Native.Nat.{ℕ, _+_, _≤_}
 use native.Mathlib.Omega.{arith}
-use borrow.Author.Needs.{needs}
-use borrow.Author.Tests.{eq-eqb, ne-eqb}
-use Rattle.stacks.specs.Index.{rankOf}
-use Rattle.stacks.specs.Stack.{stackPlaces, isStack}
-use Rattle.stacks.specs.Turn.{firstTurn, lastTurn}
-use Rattle.stacks.proofs.Numbering.{unrank-stack, rank-unrank}
-use Rattle.stacks.proofs.TurnLaws.{first-pos}
-use Rattle.perm.proofs.Sizes.{last-twelve, first-last, lifts-is, still-turn, half-left, set-left}
-use Rattle.sweep.proofs.Reaching.{Unreached, child-bit, unreached-none, unreached-taken, unreached-left, unreached-all, reached-by}
+use Rattle.base.specs.Words.{any}
+use Rattle.stacks.specs.Turn.{lastTurn}
+use Rattle.search.specs.Expand.{childrenOf}
+use Rattle.search.specs.Sweep.{isChanged}
+use Rattle.perm.specs.Walk.{Walks}
+use Rattle.perm.specs.declared.walk.Walk.{Walk}
+use Rattle.perm.proofs.Walks.{next-turn, walk-on}
+use Rattle.job.proofs.Walked.{unranked, childrenAfter, next-child, no-child, no-children}
+use Rattle.sweep.specs.Reach.{reachedBy}
+use Rattle.sweep.proofs.Reaching.{child-bit}
 use Rattle.sweep.proofs.reach.is_reached.Statement.{statement}
 use Rattle.sweep.proofs.reach.is_reached.Tie as tie
 
 abbrev Inv-loop : tie.InvT-loop
-Inv-loop kind n groups size b list index lookup stack k₀ rest₀ k rest =
-    (1 ≤ firstTurn kind) × (firstTurn kind ≤ k + 1) × (lastTurn kind n ≤ stackPlaces) × (k ≤ lastTurn kind n) × (groups / 2 ^ lastTurn kind n ≡ 0)
-    × (rest ≡ groups / 2 ^ (k + 1 - 1)) × Unreached kind n groups size b list index (k + 1)
+Inv-loop kind n groups size b list index lookup stack walk₀ walk =
+    Walks kind n groups (walk .k) (walk .rest)
+    × (reachedBy kind n groups size b list index ≡ any (isChanged size b list) (childrenAfter kind n groups index (walk .k)))
 
 abbrev μ-loop : tie.MeasureT-loop
-μ-loop kind n groups size b list index lookup stack k₀ rest₀ k rest = rest
+μ-loop kind n groups size b list index lookup stack walk₀ walk = walk .rest
 
 unrank-requires : tie.Need-unrank-requires Inv-loop μ-loop
 unrank-requires c κs = (c .before .pre .0 .is-pane-count, c .before .pre .0 .below, c .before .pre .1)
 
-first-turn-requires : tie.Need-first-turn-requires Inv-loop μ-loop
-first-turn-requires c κs = search needs
-
-sub-k : tie.Need-sub-k Inv-loop μ-loop
-sub-k c = omega (arith, c .first-turn .ensures, first-pos (c .before .before .before .args .kind))
-
-cast-rest : tie.Need-cast-rest Inv-loop μ-loop
-cast-rest c = search needs
-
-shr-rest : tie.Need-shr-rest Inv-loop μ-loop
-shr-rest c =
-    let s = c .before .before .before in
-    omega (
-      arith,
-      c .first-turn .ensures,
-      first-last (s .args .kind) (s .args .n) (s .pre .0 .is-pane-count),
-      last-twelve (s .args .kind) (s .args .n) (s .pre .0 .is-pane-count),
-    )
+begin-requires : tie.Need-begin-requires Inv-loop μ-loop
+begin-requires c κs = (c .before .before .pre .0 .is-pane-count, c .before .before .pre .0 .set-fits)
 
 loop-holds : tie.Need-loop-holds Inv-loop μ-loop
 loop-holds c =
-    let s = c .before .before .before in
-    let a = s .args in
-    let kind = a .kind in
-    let n = a .n in
-    let groups = a .groups in
-    let k = c .first-turn .result - 1 in
-    let first : k + 1 ≡ firstTurn kind = omega (arith, c .first-turn .ensures, first-pos kind) in
-    let low = last-twelve kind n (s .pre .0 .is-pane-count) in (
-      first-pos kind,
-      omega arith,
-      low,
-      omega (arith, first-last kind n (s .pre .0 .is-pane-count)),
-      set-left kind n groups low (s .pre .0 .set-fits) (search needs),
-      ap (λ (j : ℕ). groups / 2 ^ j) (let e : k ≡ k + 1 - 1 = omega arith in e),
-      subst (Unreached kind n groups (a .size) (a .b) (a .list .now) (a .index)) (sym first)
-          (unreached-none kind n groups (a .size) (a .b) (a .list .now) (a .index)),
-    )
+    let a = c .before .before .before .args in
+    (c .begin .ensures .walks, ap (λ (ks : List ℕ). any (isChanged (a .size) (a .b) (a .list .now)) (childrenOf (a .kind) (a .n) ks (a .index))) (sym (c .begin .ensures .all)))
 
--- while something is left of the set, the next size is a turn
-turn-left : (l : tie.At-loop Inv-loop μ-loop) → (l .loop .rest ≡ 0 → ⊥)
-    → let a = l .before .before .before .before .args in l .loop .k + 1 ≤ lastTurn (a .kind) (a .n)
-turn-left l some =
-    let a = l .before .before .before .before .args in
-    let inv = l .loop .inv in
-    still-turn (a .groups) (lastTurn (a .kind) (a .n)) (l .loop .k + 1) (l .loop .rest) (inv .4) (omega arith) (inv .5) some
+-- the loop, seen from its body, and the start
+abbrev at-loop : tie.Then1 Inv-loop μ-loop → tie.At-loop Inv-loop μ-loop
+at-loop t = t .before .before
+
+abbrev at-start : tie.At-loop Inv-loop μ-loop → tie.Start Inv-loop μ-loop
+at-start l = l .before .before .before .before
+
+next-is-turn : (t : tie.Then1 Inv-loop μ-loop) → let l = at-loop t in let a = at-start l .args in l .loop .walk .k + 1 ≤ lastTurn (a .kind) (a .n)
+next-is-turn t = next-turn (at-loop t .loop .inv .0) (t .if1 .taken)
 
 add-k : tie.Need-add-k Inv-loop μ-loop
-add-k c = omega (arith, turn-left (c .before) (c .loop-test .taken))
+add-k c = let t = c .before in omega (arith, next-is-turn t, at-loop t .loop .inv .0 .low)
 
 rank-turned-requires : tie.Need-rank-turned-requires Inv-loop μ-loop
 unfolding lastTurn
 rank-turned-requires c κs =
-    let l = c .before .before .before in
-    let s = l .before .before .before .before in
-    let kind = s .args .kind in
-    let n = s .args .n in
-    let index = s .args .index in
-    let e = l .before .before .unrank .ensures in (
-      s .pre .0 .is-pane-count,
-      ap (isStack kind n) e ∙ unrank-stack kind n index (s .pre .0 .is-pane-count) (s .pre .0 .below),
-      sym (ap (rankOf kind n) e ∙ rank-unrank kind n index (s .pre .0 .is-pane-count) (s .pre .0 .below)),
-      turn-left l (c .before .before .loop-test .taken),
-      s .pre .1,
-    )
+    let t = c .before .before .before .before in
+    let l = at-loop t in
+    let s = at-start l in
+    let f = s .pre .0 in
+    let a = s .args in
+    let u = unranked (a .kind) (a .n) (a .index) (f .is-pane-count) (f .below) (l .before .before .unrank .ensures) in
+    (f .is-pane-count, u .0, u .1, next-is-turn t, s .pre .1)
 
 is-changed-requires : tie.Need-is-changed-requires Inv-loop μ-loop
 unfolding lastTurn
 is-changed-requires c κs =
-    let t = c .before .before .before in
-    let l = t .before in
-    let s = l .before .before .before .before in
-    child-bit (s .pre .0) (l .loop .k + 1) (c .rank-turned .result) (l .before .before .unrank .result) (turn-left l (t .loop-test .taken))
-    (l .before .before .unrank .ensures)
-    (c .rank-turned .ensures)
+    let t = c .before .before .before .before .before in
+    let l = at-loop t in
+    let u = l .before .before .unrank in
+    child-bit (at-start l .pre .0) (l .loop .walk .k + 1) (c .rank-turned .result) (u .result) (next-is-turn t) (u .ensures) (c .rank-turned .ensures)
 
 returns : tie.Need-returns Inv-loop μ-loop
-unfolding lastTurn
+unfolding any
 returns c =
-    let r = c .before .before in
-    let t = r .before .before .before in
-    let l = t .before in
-    let a = l .before .before .before .before .args in
-    let k = l .loop .k + 1 in
-    let inv = l .loop .inv in
-    reached-by (a .kind) (a .n) (a .groups) (a .size) (a .b) (a .list .now) (a .index) k (inv .1)
-    (lifts-is (a .groups) k (l .loop .rest) (inv .5) ∙ eq-eqb (l .loop .rest % 2) 1 (r .before .before .if1 .taken))
-    (r .rank-turned .result)
-    (l .before .before .unrank .result)
-    (l .before .before .unrank .ensures)
-    (r .rank-turned .ensures)
-    (turn-left l (t .loop-test .taken))
-    (sym (c .before .is-changed .ensures) ∙ c .if2 .taken)
+    let h = c .before in
+    let r = h .before in
+    let b = r .before .before in
+    let t = b .before .before .before in
+    let l = at-loop t in
+    let a = at-start l .args in
+    sym
+    (l .loop .inv .1
+    ∙ ap (any (isChanged (a .size) (a .b) (a .list .now)))
+    (next-child (l .loop .inv .0) (a .index) (t .if1 .taken) (b .if2 .taken) (l .before .before .unrank .ensures) (r .rank-turned .ensures))
+    ∙ rw (← h .is-changed .ensures, c .if3 .taken))
+
+next-requires : tie.Need-next-requires Inv-loop μ-loop
+next-requires c κs = let t = c .before .before .before in omega (arith, next-is-turn t, at-loop t .loop .inv .0 .low)
 
 loop-less : tie.Need-loop-less Inv-loop μ-loop
-loop-less c = omega arith
+loop-less c = omega (arith, ap (λ (w : Walk). w .rest) (c .next .ensures), c .before .before .before .before .if1 .taken)
 
 loop-again : tie.Need-loop-again Inv-loop μ-loop
+unfolding any
 loop-again c =
-    let t = c .before in
-    let l = t .before in
-    let a = l .before .before .before .before .args in
-    let inv = l .loop .inv in
-    let k = l .loop .k + 1 in
-    let low = turn-left l (t .loop-test .taken) in (
-      inv .0,
-      omega arith,
-      inv .2,
-      low,
-      inv .4,
-      ap (λ (x : ℕ). x / 2) (inv .5) ∙ half-left (a .groups) k (omega arith),
-      ⊎-elim
-          (λ w. unreached-taken (a .kind) (a .n) (a .groups) (a .size) (a .b) (a .list .now) (a .index) k (inv .1)
-          (lifts-is (a .groups) k (l .loop .rest) (inv .5) ∙ eq-eqb (l .loop .rest % 2) 1 (w .0 .taken))
-          (w .2 .result)
-          (l .before .before .unrank .result)
-          (l .before .before .unrank .ensures)
-          (w .2 .ensures)
-          (inv .6)
-          (sym (w .3 .ensures) ∙ w .4 .left))
-          (λ w. unreached-left (a .kind) (a .n) (a .groups) (a .size) (a .b) (a .list .now) (a .index) k (inv .1)
-          (lifts-is (a .groups) k (l .loop .rest) (inv .5) ∙ ne-eqb (l .loop .rest % 2) 1 (w .left))
-          (inv .6))
-          (c .if1 .came),
+    let t = c .before .before .before .before in
+    let l = at-loop t in
+    let a = at-start l .args in
+    let walks = l .loop .inv .0 in
+    let changed = isChanged (a .size) (a .b) (a .list .now) in
+    subst (λ (w : Walk). Walks (a .kind) (a .n) (a .groups) (w .k) (w .rest)
+    × (reachedBy (a .kind) (a .n) (a .groups) (a .size) (a .b) (a .list .now) (a .index)
+    ≡ any changed (childrenAfter (a .kind) (a .n) (a .groups) (a .index) (w .k))))
+    (sym (c .next .ensures)) (
+      walk-on walks (t .if1 .taken),
+      l .loop .inv .1
+          ∙ ⊎-elim
+          (λ w. ap (any changed) (next-child walks (a .index) (t .if1 .taken) (w .0 .taken) (l .before .before .unrank .ensures) (w .2 .ensures))
+          ∙ rw (← w .3 .ensures, w .4 .left))
+          (λ w. ap (any changed) (no-child walks (a .index) (t .if1 .taken) (w .left)))
+          (c .before .if2 .came),
     )
 
 returns-2 : tie.Need-returns-2 Inv-loop μ-loop
+unfolding any
 returns-2 c =
-    let l = c .before in
-    let a = l .before .before .before .before .args in
-    let inv = l .loop .inv in
-    unreached-all (a .kind) (a .n) (a .groups) (a .size) (a .b) (a .list .now) (a .index) (l .loop .k + 1) (inv .1) (omega arith) (omega arith)
-    (sym (inv .5) ∙ c .loop-test .left)
-    (inv .6)
+    let l = c .before .before in
+    let a = at-start l .args in
+    sym (l .loop .inv .1 ∙ ap (any (isChanged (a .size) (a .b) (a .list .now))) (no-children (l .loop .inv .0) (a .index) (c .if1 .left)))
 
 pub is-reached-spec : {M : Type 1} → statement M
 is-reached-spec =
@@ -169,15 +124,13 @@ is-reached-spec =
     Inv-loop
     μ-loop
     unrank-requires
-    first-turn-requires
-    sub-k
-    cast-rest
-    shr-rest
+    begin-requires
     loop-holds
     add-k
     rank-turned-requires
     is-changed-requires
     returns
+    next-requires
     loop-less
     loop-again
     returns-2)
