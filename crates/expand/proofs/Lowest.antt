@@ -119,7 +119,8 @@ module _ {scan : Scan} {waiting array : List ℕ} where
 
     -- the test of its segment
     module _ {r : Bool}
-        (e : r ≡ (not (eqb (getD array i 0 / scan .size) (scan .j)) && ltb (scan .room - getD waiting (getD array i 0 / scan .size) 0) (fallingIn (scan .size) (getD array i 0 / scan .size) (take (scan .turns) array)))) where
+        (e : r ≡ (not (eqb (getD array i 0 / scan .size) (scan .j))
+        && ltb (scan .room - getD waiting (getD array i 0 / scan .size) 0) (fallingIn (scan .size) (getD array i 0 / scan .size) (take (scan .turns) array)))) where
       test : r ≡ lacks scan waiting array (getD array i 0 / scan .size)
       unfolding lacksRoom
       test = e

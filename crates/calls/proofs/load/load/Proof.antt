@@ -108,7 +108,8 @@ fill-list-requires c κs =
 
 cast-next : tie.Need-cast-next
 cast-next c =
-    let ok = c .before .before .before .before .before .before in
+    let filled = c .before .before in
+    let ok = filled .before .before .before .before in
     let a = start (ok .before .before) .args in
     let f = facts ok .called in
     omega (arith, segment-below (a .job) (f .coherent) (a .b) (f .inside))

@@ -54,14 +54,21 @@ list-bytes-requires c κs = search needs
 cast-length : tie.Need-cast-length
 cast-length c = search needs
 
+-- where the row above has gone on, and the start, seen from the list's length
+abbrev at-row : tie.After-list-bytes → tie.Else1
+at-row l = l .before .before .before
+
+abbrev at-start : tie.After-list-bytes → tie.Start
+at-start l = at-row l .before .before .before
+
 -- the row goes on, and the test of the length decides
-decides : (c : tie.After-list-bytes) (job : Job) → let a = c .before .before .before .before .before .before .args in
+decides : (c : tie.After-list-bytes) (job : Job) → let a = at-start c .args in
     a .standing ≡ standingOf job (a .b) → unless (eqb (a .listed) (c .list-bytes .result)) 10 0 ≡ loadRefusal job (a .b) (a .bytes) (a .listed)
 unfolding loadRefusal
 decides c job e =
-    let ok = c .before .before .before in
+    let ok = at-row c in
     let s = ok .before in
-    let a = s .before .before .args in
+    let a = at-start c .args in
     ap (λ (m : ℕ). unless (eqb (a .listed) m) 10 0)
     (c .list-bytes .ensures ∙ ap listBytes (c .before .stack-count-at .ensures ∙ stacks-are (a .standing) (a .b) job e))
     ∙ row-goes-on (segment-row (inReverse job) job (a .b) (a .bytes)) _ (s .segment-refusal .result) (answered s job e) (ok .if1 .left)
@@ -69,12 +76,12 @@ decides c job e =
 returns-2 : tie.Need-returns-2
 returns-2 c job e =
     let l = c .before in
-    ap (λ (t : Bool). unless t 10 0) (sym (ne-eqb (l .before .before .before .before .before .before .args .listed) (l .list-bytes .result) (c .if2 .taken))) ∙ decides l job e
+    ap (λ (t : Bool). unless t 10 0) (sym (ne-eqb (at-start l .args .listed) (l .list-bytes .result) (c .if2 .taken))) ∙ decides l job e
 
 returns-3 : tie.Need-returns-3
 returns-3 c job e =
     let l = c .before in
-    ap (λ (t : Bool). unless t 10 0) (sym (eq-eqb (l .before .before .before .before .before .before .args .listed) (l .list-bytes .result) (c .if2 .left))) ∙ decides l job e
+    ap (λ (t : Bool). unless t 10 0) (sym (eq-eqb (at-start l .args .listed) (l .list-bytes .result) (c .if2 .left))) ∙ decides l job e
 
 pub load-refusal-spec : {M : Type 1} → statement M
 load-refusal-spec =

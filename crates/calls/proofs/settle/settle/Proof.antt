@@ -123,11 +123,15 @@ place c =
     let f = given c .called in
     segment-below (a .job) (f .coherent) (a .j) (f .inside)
 
+-- where nothing was refused, seen from the marks
+abbrev passed : tie.After-mark-all → tie.Else1
+passed m = let w = m .before .before .before in w .before .before .before
+
 mul-next : tie.Need-mul-next
-mul-next c = omega (arith, place (c .before .before .before .before .before .before .before .before))
+mul-next c = omega (arith, place (passed (c .before .before)))
 
 element-write-next : tie.Need-element-write-next
-element-write-next c = place (c .before .before .before .before .before .before .before .before)
+element-write-next c = place (passed (c .before .before))
 
 cast-next : tie.Need-cast-next
 cast-next c = search needs

@@ -55,12 +55,16 @@ waiting-part-requires c κs =
 offsets-fit-requires : tie.Need-offsets-fit-requires
 offsets-fit-requires c κs = search needs
 
+-- where the row above has gone on, seen from the offsets
+abbrev at-row : tie.After-offsets-fit → tie.Else1
+at-row c = c .before .before .before .before
+
 -- the row goes on, and the test of the offsets decides
-decides : (c : tie.After-offsets-fit) (job : Job) → let a = c .before .before .before .before .before .before .before .args in
+decides : (c : tie.After-offsets-fit) (job : Job) → let a = at-row c .before .before .before .args in
     a .standing ≡ standingOf job (a .j) → unless (c .offsets-fit .result) 12 0 ≡ settleRefusal job (a .j) (a .bytes) (a .log .now)
 unfolding settleRefusal
 decides c job e =
-    let ok = c .before .before .before .before in
+    let ok = at-row c in
     let a = ok .before .before .before .args in
     let f = ok .before .level-refusal in
     ap (λ (t : Bool). unless t 12 0)

@@ -50,16 +50,19 @@ coherent c job has = sym (c .before .is-coherent .ensures .0 job has) ∙ not-fa
 unfinished : (c : tie.Else2) (job : Job) → HasArgs (c .before .before .before .before) job → isFinished (job .phase) ≡ false
 unfinished c job has = ap isFinished (has .phase-is) ∙ sym (c .before .is-finished .ensures) ∙ c .if2 .left
 
+abbrev ready-start : tie.After-is-ready → tie.Start
+ready-start c = let u = c .before .before in u .before .before .before .before
+
 -- what is_ready has answered
-told : (c : tie.After-is-ready) (job : Job) → let s = c .before .before .before .before .before .before in
+told : (c : tie.After-is-ready) (job : Job) → let s = ready-start c in
     HasArgs s job → job .way ≡ s .args .way → c .is-ready .result ≡ isReady job
 told c job has way =
-    let a = c .before .before .before .before .before .before .args in
+    let a = ready-start c .args in
     c .is-ready .ensures
     ∙ ap (λ (t : Bool). readyBy t (N (a .terms)) (a .terms .size) (a .passed .now) (a .waiting .now) (a .swept .now)) (c .before .in-reverse .ensures)
     ∙ ready-is has way
 
-ready : (c : tie.Else3) (job : Job) → let s = c .before .before .before .before .before .before .before in
+ready : (c : tie.Else3) (job : Job) → let s = ready-start (c .before) in
     HasArgs s job → job .way ≡ s .args .way → isReady job ≡ true
 ready c job has way = sym (told (c .before) job has way) ∙ not-false (c .before .is-ready .result) (c .if3 .left)
 

@@ -104,11 +104,18 @@ place c =
     let f = given c .called in
     segment-below (a .job) (f .coherent) (a .j) (f .inside)
 
+-- where the stacks were counted and where nothing was refused, seen from the run
+abbrev counts : tie.After-expand-run → tie.After-stack-count-at
+counts ran = ran .before .before .before .before .before
+
+abbrev passed : tie.After-expand-run → tie.Else1
+passed ran = counts ran .before .before .before
+
 mul-next : tie.Need-mul-next
-mul-next c = omega (arith, place (c .before .before .before .before .before .before .before .before .before .before .before .before))
+mul-next c = omega (arith, place (passed (c .before .before .before .before)))
 
 element-write-next : tie.Need-element-write-next
-element-write-next c = place (c .before .before .before .before .before .before .before .before .before .before .before .before)
+element-write-next c = place (passed (c .before .before .before .before))
 
 cast-next : tie.Need-cast-next
 cast-next c = search needs
@@ -129,7 +136,7 @@ returns-2 : tie.Need-returns-2
 unfolding expandedJob progressed
 returns-2 c =
     let ran = c .before .before .before .before in
-    let counted = ran .before .before .before .before .before in
+    let counted = counts ran in
     let scanned = counted .before in
     let leveled = scanned .before in
     let ok = leveled .before in

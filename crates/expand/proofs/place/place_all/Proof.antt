@@ -31,7 +31,8 @@ array-read-place-child c = omega arith
 
 place-child-requires : tie.Need-place-child-requires Inv-loop μ-loop
 place-child-requires c κs =
-    placed-child (c .before .before .before .before .loop .inv .1) (c .before .before .before .loop-test .taken)
+    let t = c .before .before .before in
+    placed-child (t .before .loop .inv .1) (t .loop-test .taken)
 
 add-i : tie.Need-add-i Inv-loop μ-loop
 add-i c = omega arith

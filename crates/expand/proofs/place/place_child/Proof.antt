@@ -71,17 +71,21 @@ cast-append c = omega (arith, place (c .before .before .before))
 append-requires : tie.Need-append-requires
 append-requires c κs = simp (length-take, length-drop) (omega (arith, place (c .before .before .before)))
 
+-- and seen from the appended log
+abbrev elsewhere : tie.After-append → tie.Else1
+elsewhere c = c .before .before .before .before
+
 add-waiting : tie.Need-add-waiting
-add-waiting c = omega (arith, place (c .before .before .before .before .before .before))
+add-waiting c = omega (arith, place (elsewhere (c .before .before)))
 
 cast-waiting : tie.Need-cast-waiting
-cast-waiting c = omega (arith, place (c .before .before .before .before .before .before))
+cast-waiting c = omega (arith, place (elsewhere (c .before .before)))
 
 mul-waiting : tie.Need-mul-waiting
-mul-waiting c = omega (arith, place (c .before .before .before .before .before .before))
+mul-waiting c = omega (arith, place (elsewhere (c .before .before)))
 
 element-write-waiting : tie.Need-element-write-waiting
-element-write-waiting c = omega (arith, place (c .before .before .before .before .before .before))
+element-write-waiting c = omega (arith, place (elsewhere (c .before .before)))
 
 same-length-2 : tie.Need-same-length-2
 same-length-2 c = search needs
@@ -89,8 +93,8 @@ same-length-2 c = search needs
 returns-2 : tie.Need-returns-2
 returns-2 c =
     let appended = c .before .before in
-    let elsewhere = appended .before .before .before .before in
-    placed-elsewhere (elsewhere .before .before .before .before .pre) (elsewhere .if1 .left) (appended .append .ensures)
+    let other = elsewhere appended in
+    placed-elsewhere (other .before .before .before .before .pre) (other .if1 .left) (appended .append .ensures)
 
 pub place-child-spec : {M : Type 1} → statement M
 place-child-spec =

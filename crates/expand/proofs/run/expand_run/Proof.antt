@@ -31,37 +31,47 @@ loop-holds c = run-none (c .before .before .before .before .pre)
 get-entry-requires : tie.Need-get-entry-requires Inv-loop μ-loop
 get-entry-requires c κs = run-byte (c .before .before .loop .inv) (c .before .loop-test .taken)
 
+-- the loop's body, seen from a stack that is due and from the test of its children's room
+abbrev in-loop : tie.Then1 Inv-loop μ-loop → tie.In-loop Inv-loop μ-loop
+in-loop due = due .before .before .before .before
+
+abbrev due-at : tie.After-full-segment Inv-loop μ-loop → tie.Then1 Inv-loop μ-loop
+due-at found = let filled = found .before .before in filled .before .before
+
+abbrev start : tie.In-loop Inv-loop μ-loop → tie.Start Inv-loop μ-loop
+start l = let at = l .before in at .before .before .before .before .before
+
 add-children-of : tie.Need-add-children-of Inv-loop μ-loop
 add-children-of c =
-    let l = c .before .before .before .before in
+    let l = in-loop c in
     let r = l .before .loop .inv in
-    let scan = l .before .before .before .before .before .before .args .scan in
+    let scan = start l .args .scan in
     omega (arith, run-inside r (l .loop-test .taken), count-fits (scan .kind) (scan .n) (r .given .fit .is-pane-count))
 
 children-of-requires : tie.Need-children-of-requires Inv-loop μ-loop
 children-of-requires c κs =
-    let l = c .before .before .before .before .before in
+    let l = in-loop (c .before) in
     let r = l .before .loop .inv in
     (r .given .fit .is-pane-count, run-inside r (l .loop-test .taken), r .given .fit .set-fits, l .before .before .before .table .ensures)
 
 full-segment-requires : tie.Need-full-segment-requires Inv-loop μ-loop
 full-segment-requires c κs =
-    let r = c .before .before .before .before .before .before .before .before .loop .inv in (r .given .fit, r .fits .most)
+    let r = in-loop (c .before .before .before) .before .loop .inv in (r .given .fit, r .fits .most)
 
 same-length : tie.Need-same-length Inv-loop μ-loop
 same-length c =
-    let r = c .before .before .before .before .before .before .before .before .before .before .loop .inv in r .fits .bytes ∙ sym (r .given .lent .bytes)
+    let r = in-loop (due-at (c .before)) .before .loop .inv in r .fits .bytes ∙ sym (r .given .lent .bytes)
 
 same-length-2 : tie.Need-same-length-2 Inv-loop μ-loop
 same-length-2 c =
-    let r = c .before .before .before .before .before .before .before .before .before .before .loop .inv in r .fits .places ∙ sym (r .given .lent .places)
+    let r = in-loop (due-at (c .before)) .before .loop .inv in r .fits .places ∙ sym (r .given .lent .places)
 
 returns : tie.Need-returns Inv-loop μ-loop
 returns c =
     let found = c .before in
     let filled = found .before .before in
-    let due = filled .before .before in
-    let l = due .before .before .before .before in
+    let due = due-at found in
+    let l = in-loop due in
     run-blocked (l .before .loop .inv) (l .loop-test .taken) (sym (due .before .before .get-entry .ensures) ∙ due .if1 .taken)
     (filled .children-of .ensures)
     (found .full-segment .ensures)
@@ -72,8 +82,8 @@ place-all-requires c κs =
     let enough = c .before .before .before in
     let found = enough .before in
     let filled = found .before .before in
-    let due = filled .before .before in
-    let l = due .before .before .before .before in
+    let due = due-at found in
+    let l = in-loop due in
     run-children (l .before .loop .inv) (l .loop-test .taken) (sym (due .before .before .get-entry .ensures) ∙ due .if1 .taken)
     (filled .children-of .ensures)
     (found .full-segment .ensures)

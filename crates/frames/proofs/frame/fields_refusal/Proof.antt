@@ -54,9 +54,13 @@ is-stack-requires c κs =
     let a = c .before .before .before .before in
     panes-twelve (a .args .kind) (a .args .n) (a .pre .0)
 
+-- the start, seen from the stack's test
+abbrev at-start : tie.After-is-stack → tie.Start
+at-start c = c .before .before .before .before .before
+
 -- the length and the count of stacks pass, and the stack's and the size's tests decide
 rest : (c : tie.After-is-stack) (t : Bool)
-    → let a = c .before .before .before .before .before in
+    → let a = at-start c in
     t ≡ isSegmentSize (stackCount (a .args .kind) (a .args .n)) (sizeIn (a .args .n) (bytes a))
     → unless (c .is-stack .result) 3 (unless t 5 0) ≡ fieldsRefusal (a .args .kind) (a .args .n) (bytes a)
 rest c t q =
@@ -70,7 +74,7 @@ rest c t q =
 
 returns-3 : tie.Need-returns-3
 returns-3 c =
-    let a = c .before .before .before .before .before .before in
+    let a = at-start (c .before) in
     let t = isSegmentSize (stackCount (a .args .kind) (a .args .n)) (sizeIn (a .args .n) (bytes a)) in
     ap (λ (s : Bool). unless s 3 (unless t 5 0)) (sym (not-true (c .before .is-stack .result) (c .if3 .taken))) ∙ rest (c .before) t refl
 
@@ -85,7 +89,7 @@ is-segment-size-requires c κs = search needs
 
 -- the size's test alone decides
 last : (c : tie.After-is-segment-size)
-    → let a = c .before .before .before .before .before .before .before .before in
+    → let a = at-start (c .before .before .before) in
     unless (c .is-segment-size .result) 5 0 ≡ fieldsRefusal (a .args .kind) (a .args .n) (bytes a)
 last c =
     let f = c .before .before .before in

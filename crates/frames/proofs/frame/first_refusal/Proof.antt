@@ -41,15 +41,19 @@ byte-at-requires-2 c κs = search needs
 kind-refusal-requires : tie.Need-kind-refusal-requires
 kind-refusal-requires c κs = search needs
 
+-- where the line is a frame, seen from the kind's refusal
+abbrev framed : tie.After-kind-refusal → tie.Else1
+framed c = let t = c .before .before .before .before in t .before .before
+
 -- what is left to refuse after the kind and n
 abbrev left : tie.After-kind-refusal → ℕ
 left c =
-    let a = c .before .before .before .before .before .before .before .before .args .line in
+    let a = framed c .before .before .args .line in
     fieldsRefusal (c .before .before .byte-at .result) (c .before .byte-at2 .result) (take (a .length / 2) (bytesOf (a .chars)))
 
 row : (c : tie.After-kind-refusal)
     → kindRefusal (c .before .before .byte-at .result) (c .before .byte-at2 .result) (left c)
-    ≡ firstRefusal (textOf (c .before .before .before .before .before .before .before .before .args .line))
+    ≡ firstRefusal (textOf (framed c .before .before .args .line))
 row c =
     let t = c .before .before .before .before in
     let e = t .before .before in
@@ -65,7 +69,7 @@ returns-3 c =
 fields-refusal-requires : tie.Need-fields-refusal-requires
 fields-refusal-requires c κs =
     let s = c .before in
-    let e = s .before .before .before .before .before .before in (
+    let e = framed s in (
       kind-row (s .before .before .byte-at .result) (s .before .byte-at2 .result) .asks (sym (s .kind-refusal .ensures) ∙ c .if3 .left) .1,
       frame-count (e .before .before .args .line) (search needs) (is-one e),
     )

@@ -41,9 +41,13 @@ places-at-requires c κs = search needs
 is-stack-requires : tie.Need-is-stack-requires
 is-stack-requires c κs = search needs
 
+-- where the line is a frame, seen from the stack's test
+abbrev framed : tie.After-is-stack → tie.Else1
+framed c = let t = c .before .before .before .before in t .before .before
+
 -- the length passes, and the stack's test decides
 rest : (c : tie.After-is-stack)
-    → let a = c .before .before .before .before .before .before .before .before .args in
+    → let a = framed c .before .before .args in
     unless (c .is-stack .result) 3 0 ≡ laterRefusal (a .kind) (a .n) (textOf (a .line))
 rest c =
     let t = c .before .before .before .before in

@@ -13,6 +13,13 @@ use Rattle.text.proofs.Writing.{line-length, put-after, levels-most}
 use Rattle.frames.proofs.output.write_head.Statement.{statement}
 use Rattle.frames.proofs.output.write_head.Tie as tie
 
+-- the levels' lines, seen from the line after them, and the start
+abbrev levels-at : tie.After-put-line → tie.After-write-levels
+levels-at l = l .before .before .before
+
+abbrev at-start : tie.After-write-levels → tie.Start
+at-start w = w .before .before
+
 write-levels-requires : tie.Need-write-levels-requires
 write-levels-requires c κs = search needs
 
@@ -22,7 +29,7 @@ slice-aggregate-put-line c = search needs
 put-line-requires : tie.Need-put-line-requires
 put-line-requires c κs =
     let w = c .before .before .write-levels in
-    let a = c .before .before .before .before .args in
+    let a = at-start (c .before .before) .args in
     omega (arith, c .before .put-line-arg .given .0 .1, w .ensures .count, levels-most (a .counts) (a .deepest) (search needs))
 
 total-of-requires : tie.Need-total-of-requires
@@ -30,9 +37,10 @@ total-of-requires c κs = search needs
 
 put-number-requires : tie.Need-put-number-requires
 put-number-requires c κs =
-    let w = c .before .before .before .before .before .write-levels in
-    let a = c .before .before .before .before .before .before .before .args in
-    let l = c .before .before .put-line in
+    let p = c .before .before in
+    let w = levels-at p .write-levels in
+    let a = at-start (levels-at p) .args in
+    let l = p .put-line in
     omega (
       arith,
       c .before .put-number-arg .given .0 .1,
@@ -45,9 +53,10 @@ put-number-requires c κs =
 returns : tie.Need-returns
 unfolding deepestLine totalLine
 returns c =
-    let w = c .before .before .before .before .before .before .write-levels in
-    let a = c .before .before .before .before .before .before .before .before .args in
-    let l = c .before .before .before .put-line in
+    let q = c .before .before .before in
+    let w = levels-at q .write-levels in
+    let a = at-start (levels-at q) .args in
+    let l = q .put-line in
     let p = c .put-number in
     let t = c .before .total-of in
     let levels = levelLines (a .deepest) (a .counts) in

@@ -17,8 +17,9 @@ same-length c = search needs
 returns : tie.Need-returns
 unfolding over
 returns c =
-    let a = c .before .before .before .before .before .before .args in
-    let f = c .before .before .put-line in
+    let l = c .before .before in
+    let a = l .before .before .before .before .args in
+    let f = l .put-line in
     put-after [] (lineOf (a .bytes .now)) (a .out .now) (a .out .now) (f .last .0) 0 (f .result) refl refl (f .ensures)
 
 pub write-line-spec : {M : Type 1} → statement M

@@ -12,6 +12,10 @@ use Rattle.text.proofs.Writing.{hex-length, over-more, put-after}
 use Rattle.frames.proofs.output.write_turns.Statement.{statement}
 use Rattle.frames.proofs.output.write_turns.Tie as tie
 
+-- the start, seen from the number
+abbrev at-start : tie.After-put-bytes → tie.Start
+at-start f = f .before .before .before .before .before
+
 cast-t6 : tie.Need-cast-t6
 cast-t6 c = search needs
 
@@ -23,8 +27,9 @@ put-bytes-requires c κs = search needs
 
 put-line-requires : tie.Need-put-line-requires
 put-line-requires c κs =
-    let a = c .before .before .before .before .before .before .before .before .args in
-    omega (arith, c .before .before .before .put-bytes .ensures .end, hex-length (length (a .turns .now) ∷ []))
+    let f = c .before .before .before in
+    let a = at-start f .args in
+    omega (arith, f .put-bytes .ensures .end, hex-length (length (a .turns .now) ∷ []))
 
 same-length : tie.Need-same-length
 same-length c = search needs
@@ -32,10 +37,12 @@ same-length c = search needs
 returns : tie.Need-returns
 unfolding planLine lineOf over hexOf
 returns c =
-    let a = c .before .before .before .before .before .before .before .before .before .before .before .args in
+    let l = c .before .before in
+    let p = l .before .before .before .before in
+    let a = at-start p .args in
     let n : List ℕ = length (a .turns .now) ∷ [] in
-    let f = c .before .before .before .before .before .before .put-bytes in
-    let g = c .before .before .put-line in
+    let f = p .put-bytes in
+    let g = l .put-line in
     put-after (hexOf n) (lineOf (a .turns .now)) (a .out .now) (f .last .0) (g .last .0) (f .result) (g .result) (f .ensures .end)
     (over-more [] (hexOf n) (a .out .now) (a .out .now) (f .last .0) 0 refl refl (f .ensures .front)) (g .ensures)
 

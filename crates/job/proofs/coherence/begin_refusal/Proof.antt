@@ -31,20 +31,30 @@ is-group-set-requires c κs = search needs
 abbrev sizes : Terms → ℕ
 sizes terms = unless (isSegmentSize (N terms) (terms .size)) 5 (unless (isLogRoom (terms .room)) 6 0)
 
+-- what Begin was given, seen from the tests of the set, S and C
+abbrev at-set : tie.After-is-group-set → Terms
+at-set c = c .before .before .before .before .args .terms
+
+abbrev at-size : tie.After-is-segment-size → Terms
+at-size c = at-set (c .before .before .before)
+
+abbrev at-room : tie.After-is-log-room → Terms
+at-room c = at-size (c .before .before)
+
 -- the wanted stack passes, and the tests of the set, S and C decide
 rest : (c : tie.After-is-group-set)
-    → let terms = c .before .before .before .before .args .terms in
+    → let terms = at-set c in
     unless (c .is-group-set .result) 21 (sizes terms) ≡ beginRefusal terms
 unfolding beginRefusal indexRefusal
 rest c =
-    let terms = c .before .before .before .before .args .terms in
+    let terms = at-set c in
     let f = c .before .before .index-refusal in
     ap (λ (t : Bool). unless t 21 (sizes terms)) (c .is-group-set .ensures)
     ∙ row-goes-on (stack-row (terms .kind) (terms .n) (terms .wanted)) _ (f .result) (f .ensures) (c .before .if1 .left)
 
 returns-2 : tie.Need-returns-2
 returns-2 c =
-    let terms = c .before .before .before .before .before .args .terms in
+    let terms = at-set (c .before) in
     ap (λ (t : Bool). unless t 21 (sizes terms)) (sym (not-true (c .before .is-group-set .result) (c .if2 .taken)))
     ∙ rest (c .before)
 
@@ -59,11 +69,11 @@ is-segment-size-requires c κs = search needs
 
 -- the set passes too, and the tests of S and C decide
 sized : (c : tie.After-is-segment-size)
-    → let terms = c .before .before .before .before .before .before .before .args .terms in
+    → let terms = at-size c in
     unless (c .is-segment-size .result) 5 (unless (isLogRoom (terms .room)) 6 0) ≡ beginRefusal terms
 sized c =
     let e = c .before .before in
-    let terms = e .before .before .before .before .before .args .terms in
+    let terms = at-set (e .before) in
     ap (λ (t : Bool). unless t 5 (unless (isLogRoom (terms .room)) 6 0))
     (c .is-segment-size .ensures ∙ ap (λ (m : ℕ). isSegmentSize m (terms .size)) (c .before .stack-count .ensures))
     ∙ ap (λ (t : Bool). unless t 21 (sizes terms)) (sym (not-false (e .before .is-group-set .result) (e .if2 .left)))
@@ -71,7 +81,7 @@ sized c =
 
 returns-3 : tie.Need-returns-3
 returns-3 c =
-    let terms = c .before .before .before .before .before .before .before .before .args .terms in
+    let terms = at-size (c .before) in
     ap (λ (t : Bool). unless t 5 (unless (isLogRoom (terms .room)) 6 0)) (sym (not-true (c .before .is-segment-size .result) (c .if3 .taken)))
     ∙ sized (c .before)
 
@@ -80,10 +90,10 @@ is-log-room-requires c κs = search needs
 
 -- S passes too
 last : (c : tie.After-is-log-room)
-    → let terms = c .before .before .before .before .before .before .before .before .before .args .terms in
+    → let terms = at-room c in
     unless (c .is-log-room .result) 6 0 ≡ beginRefusal terms
 last c =
-    let terms = c .before .before .before .before .before .before .before .before .before .args .terms in
+    let terms = at-room c in
     ap (λ (t : Bool). unless t 6 0) (c .is-log-room .ensures)
     ∙ ap (λ (t : Bool). unless t 5 (unless (isLogRoom (terms .room)) 6 0))
     (sym (not-false (c .before .before .is-segment-size .result) (c .before .if3 .left)))

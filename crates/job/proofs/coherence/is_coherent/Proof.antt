@@ -67,19 +67,38 @@ returns c = (λ job has. no-begin has (λ h. c .if1 .taken (c .before .begin-ref
 phase-fits-requires : tie.Need-phase-fits-requires
 phase-fits-requires c κs = search needs
 
+-- the start, seen from each test
+abbrev at-begin : tie.Else1 → tie.Start
+at-begin c = c .before .before
+
+abbrev at-phase : tie.Else2 → tie.Start
+at-phase c = at-begin (c .before .before)
+
+abbrev at-segments : tie.Else3 → tie.Start
+at-segments c = at-phase (c .before .before)
+
+abbrev at-counts : tie.Else4 → tie.Start
+at-counts c = at-segments (c .before)
+
+abbrev at-loaded : tie.After-loaded-fits → tie.Start
+at-loaded c = at-counts (c .before .before)
+
+abbrev at-swept : tie.After-sweeps-fit → tie.Start
+at-swept c = at-loaded (c .before .before)
+
 -- what each test has shown where the code goes on
-begins : (c : tie.Else1) → beginRefusal (c .before .before .args .terms) ≡ 0
+begins : (c : tie.Else1) → beginRefusal (at-begin c .args .terms) ≡ 0
 begins c = sym (c .before .begin-refusal .ensures) ∙ c .if1 .left
 
-in-phase : (c : tie.Else2) → phaseFits (c .before .before .before .before .args .phase) ≡ true
+in-phase : (c : tie.Else2) → phaseFits (at-phase c .args .phase) ≡ true
 in-phase c = sym (c .before .phase-fits .ensures) ∙ not-false (c .before .phase-fits .result) (c .if2 .left)
 
-segments : (c : tie.Else3) → let a = c .before .before .before .before .before .before .args in
+segments : (c : tie.Else3) → let a = at-segments c .args in
     all (numbersFit (a .terms) (a .passed .now) (a .waiting .now)) (from 0 segmentLimit) ≡ true
 segments c = sym (c .before .segments-fit .ensures) ∙ not-false (c .before .segments-fit .result) (c .if3 .left)
 
-counts : (c : tie.Else4) → c .before .before .before .before .before .before .before .args .fits ≡ true
-counts c = not-false (c .before .before .before .before .before .before .before .args .fits) (c .if4 .left)
+counts : (c : tie.Else4) → at-counts c .args .fits ≡ true
+counts c = not-false (at-counts c .args .fits) (c .if4 .left)
 
 returns-2 : tie.Need-returns-2
 returns-2 c =
@@ -110,16 +129,16 @@ loaded-fits-requires : tie.Need-loaded-fits-requires
 loaded-fits-requires c κs = search needs
 
 -- what loaded_fits and sweeps_fit have answered
-loads : (c : tie.After-loaded-fits) → let a = c .before .before .before .before .before .before .before .before .before .args in
+loads : (c : tie.After-loaded-fits) → let a = at-loaded c .args in
     c .loaded-fits .result ≡ loadFits (G (a .terms)) (a .loaded)
 loads c =
-    let a = c .before .before .before .before .before .before .before .before .before .args in
+    let a = at-loaded c .args in
     c .loaded-fits .ensures ∙ ap (λ (count : ℕ). loadFits count (a .loaded)) (c .before .segment-count-of .ensures .0)
 
-sweeps : (c : tie.After-sweeps-fit) → let a = c .before .before .before .before .before .before .before .before .before .before .before .args in
+sweeps : (c : tie.After-sweeps-fit) → let a = at-swept c .args in
     c .sweeps-fit .result ≡ rowsFit (G (a .terms)) (a .swept .now)
 sweeps c =
-    let a = c .before .before .before .before .before .before .before .before .before .before .before .args in
+    let a = at-swept c .args in
     c .sweeps-fit .ensures ∙ ap (λ (count : ℕ). rowsFit count (a .swept .now)) (c .before .before .before .segment-count-of .ensures .0)
 
 returns-5 : tie.Need-returns-5

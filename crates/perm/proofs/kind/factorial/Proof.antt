@@ -1,6 +1,6 @@
 -- `perm::kind::factorial` meets its contract: each arm computes, and the last is 12.
 use mathlib.Core.Path.{_≡_, sym, ap}
-use Prim.Native.Nat.{ℕ, suc, _≤_, zero-le}
+use Prim.Native.Nat.{ℕ, zero, suc, _≤_, zero-le}
 use native.Mathlib.Nat.{le-antisymm}
 use lib.Arith.{lt-of-le-ne}
 use Rattle.base.specs.Words.{fact}
@@ -55,16 +55,18 @@ returns-12 : tie.Need-returns-12
 unfolding fact
 returns-12 c = ap fact (sym (c .match .keys12))
 
--- a number that is at least k and is not k
-above : (k n : ℕ) → k ≤ n → (n ≡ k → ⊥) → suc k ≤ n
-above k n h d = lt-of-le-ne h (λ e. d (sym e))
+-- n is no number below m, as the last arm has it
+abbrev NoneBelow : ℕ → ℕ → Type 0
+NoneBelow n zero = Unit
+NoneBelow n (suc m) = NoneBelow n m × (n ≡ m → ⊥)
+
+none-below : (n m : ℕ) → NoneBelow n m → m ≤ n
+none-below n zero h = zero-le
+none-below n (suc m) h = lt-of-le-ne (none-below n m (h .0)) (λ e. h .1 (sym e))
 
 returns-13 : tie.Need-returns-13
 unfolding fact
-returns-13 c =
-    let n = c .before .args .n in
-    let h : 12 ≤ n = (above 11 n (above 10 n (above 9 n (above 8 n (above 7 n (above 6 n (above 5 n (above 4 n (above 3 n (above 2 n (above 1 n (above 0 n zero-le (c .match .rest .0 .0 .0 .0 .0 .0 .0 .0 .0 .0 .0 .1)) (c .match .rest .0 .0 .0 .0 .0 .0 .0 .0 .0 .0 .1)) (c .match .rest .0 .0 .0 .0 .0 .0 .0 .0 .0 .1)) (c .match .rest .0 .0 .0 .0 .0 .0 .0 .0 .1)) (c .match .rest .0 .0 .0 .0 .0 .0 .0 .1)) (c .match .rest .0 .0 .0 .0 .0 .0 .1)) (c .match .rest .0 .0 .0 .0 .0 .1)) (c .match .rest .0 .0 .0 .0 .1)) (c .match .rest .0 .0 .0 .1)) (c .match .rest .0 .0 .1)) (c .match .rest .0 .1)) (c .match .rest .1)) in
-    ap fact (le-antisymm h (c .before .pre))
+returns-13 c = ap fact (le-antisymm (none-below (c .before .args .n) 12 (c .match .rest)) (c .before .pre))
 
 pub factorial-spec : {M : Type 1} → statement M
 factorial-spec =

@@ -13,7 +13,9 @@ use Rattle.plan.proofs.plan.copy_turns.Statement.{statement}
 use Rattle.plan.proofs.plan.copy_turns.Tie as tie
 
 abbrev Inv-loop : tie.InvT-loop
-Inv-loop list₀ taken turns i₀ list i = (i ≤ taken) × (taken ≤ planLimit) × (length turns ≡ planLimit) × (taken ≤ length list₀) × (length list ≡ length list₀) × (list ≡ take i turns ++ drop i list₀)
+Inv-loop list₀ taken turns i₀ list i =
+    (i ≤ taken) × (taken ≤ planLimit) × (length turns ≡ planLimit) × (taken ≤ length list₀) × (length list ≡ length list₀)
+    × (list ≡ take i turns ++ drop i list₀)
 
 abbrev μ-loop : tie.MeasureT-loop
 μ-loop list₀ taken turns i₀ list i = taken - i

@@ -153,9 +153,11 @@ returns-5 c =
     let r = at-given g in
     let e = at-row r in
     let a = at-start e .args in
-    draft-accepted (a .kind) (a .n) (a .wanted) (a .given) (a .groups) (a .table .now) (a .slots) (facts e) (r .entry-of .result) (r .entry-of .ensures) (g .before .before .if2 .left)
+    draft-accepted (a .kind) (a .n) (a .wanted) (a .given) (a .groups) (a .table .now) (a .slots) (facts e) (r .entry-of .result) (r .entry-of .ensures)
+    (g .before .before .if2 .left)
     (a-plan (a .kind) (a .n) (a .table .now) (a .wanted) (turnsIn (a .kind) (a .n) (a .groups)) (a .given) (g .entry-of2 .result) (g .entry-of2 .ensures)
-    (w .route-from .result .stack) (stack-is w) (k .before .before .rank .result) (k .rank2 .result) (k .before .before .rank .ensures) (k .rank2 .ensures) (w .before .before .if3 .left) (c .if4 .left))
+    (w .route-from .result .stack) (stack-is w) (k .before .before .rank .result) (k .rank2 .result) (k .before .before .rank .ensures) (k .rank2 .ensures)
+    (w .before .before .if3 .left) (c .if4 .left))
     (w .route-from .result .stack) (w .route-from .result .turns) (w .route-from .result .taken) (w .route-from .ensures .0) (w .route-from .ensures .1) (few w)
 
 pub draft-plan-spec : {M : Type 1} → statement M

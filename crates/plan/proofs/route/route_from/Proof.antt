@@ -28,7 +28,9 @@ rank-requires-2 c κs = (c .before .before .pre .0 .0, c .before .before .pre .0
 loop-holds : tie.Need-loop-holds Inv-loop μ-loop
 loop-holds c =
     let s = c .before .before .before in
-    travelled-start (s .args .kind) (s .args .n) (turnsIn (s .args .kind) (s .args .n) (s .args .groups)) (s .args .table .now) (c .before .rank .result) (s .args .given) (c .rank2 .result) (replicate planLimit 0) (s .pre .0 .2) (c .rank2 .ensures) refl
+    let a = s .args in
+    travelled-start (a .kind) (a .n) (turnsIn (a .kind) (a .n) (a .groups)) (a .table .now) (c .before .rank .result) (a .given) (c .rank2 .result)
+    (replicate planLimit 0) (s .pre .0 .2) (c .rank2 .ensures) refl
 
 get-entry-requires : tie.Need-get-entry-requires Inv-loop μ-loop
 get-entry-requires c κs =
@@ -59,13 +61,17 @@ turn-to-requires c κs =
     let s = a .before .before .before .before in
     ((s .pre .0 .0, a .loop .inv .is-stack, a .loop .inv .at, s .pre .0 .3), s .pre .1)
 
--- what is found is the turn that leads one nearer
+-- where the loop stands, seen from the turn that is found
+abbrev at-loop : tie.After-turn-to Inv-loop μ-loop → tie.At-loop Inv-loop μ-loop
+at-loop c = c .before .before .before .before .before .before
+
+-- that is the turn that leads one nearer
 found : (c : tie.After-turn-to Inv-loop μ-loop)
-    → let a = c .before .before .before .before .before .before in
+    → let a = at-loop c in
     let s = a .before .before .before .before .args in
     c .turn-to .result .k ≡ turnTo (s .kind) (s .n) (s .table .now) (a .loop .stack) (nearerEntry (s .kind) (s .n) (s .table .now) (a .loop .stack)) (turnsIn (s .kind) (s .n) (s .groups))
 found c =
-    let a = c .before .before .before .before .before .before in
+    let a = at-loop c in
     let s = a .before .before .before .before .args in
     let v = c .before .before .before .before .get-entry in
     found-nearer (s .kind) (s .n) (s .table .now) (a .loop .stack) (turnsIn (s .kind) (s .n) (s .groups)) (a .loop .index)
@@ -74,7 +80,7 @@ found c =
 
 returns-2 : tie.Need-returns-2 Inv-loop μ-loop
 returns-2 c =
-    let a = c .before .before .before .before .before .before .before in
+    let a = at-loop (c .before) in
     let s = a .before .before .before .before in (
       travelled-stuck (s .args .kind) (s .args .n) (a .loop .inv) (set-turns (s .args .kind) (s .args .n) (s .pre .0 .0) (s .args .groups))
           (c .before .turn-to .result .k) (c .before .before .before .before .if1 .left) (found (c .before)) (c .if2 .taken) (s .args .wanted) (a .before .before .rank .ensures),
@@ -83,7 +89,7 @@ returns-2 c =
 
 turned-requires : tie.Need-turned-requires Inv-loop μ-loop
 turned-requires c κs =
-    let a = c .before .before .before .before .before .before .before in
+    let a = at-loop (c .before) in
     let s = a .before .before .before .before in (
       s .pre .0 .0,
       a .loop .inv .is-stack,
@@ -102,7 +108,7 @@ loop-less c = omega arith
 
 loop-again : tie.Need-loop-again Inv-loop μ-loop
 loop-again c =
-    let a = c .before .before .before .before .before .before .before .before in
+    let a = at-loop (c .before .before) in
     let s = a .before .before .before .before in
     let step = c .before .before .turn-to in
     travelled-step (s .args .kind) (s .args .n) (a .loop .inv) (set-turns (s .args .kind) (s .args .n) (s .pre .0 .0) (s .args .groups))

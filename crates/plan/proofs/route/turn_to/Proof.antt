@@ -51,14 +51,16 @@ get-entry-requires c κs =
 
 returns : tie.Need-returns Inv-loop μ-loop
 returns c =
-    let l = c .before .before .before .before .before .before .before in
+    let read = c .before in
+    let tried = read .before .before .before in
+    let l = tried .before .before .before in
     let s = l .before .before .before .before .args in
-    let child = c .before .before .rank-turned in
-    let entry = c .before .get-entry in
-    let named = c .before .before .before .before .before .lifts in (
+    let child = read .before .rank-turned in
+    let entry = read .get-entry in
+    let named = tried .before .lifts in (
       tried-hit (s .kind) (s .n) (s .groups) (s .table .now) (s .t4) (s .v) _ (l .loop .inv .1)
           (turn-between (s .kind) (s .n) (l .loop .k) (omega (arith, l .before .before .first-turn .ensures)) (l .loop .inv .0))
-          (sym (named .ensures) ∙ c .before .before .before .before .if1 .taken)
+          (sym (named .ensures) ∙ tried .if1 .taken)
           (read-leads (s .kind) (s .n) (s .groups) (s .table .now) (s .t4) (s .v) _ (child .result) (entry .result) (child .ensures) (entry .ensures) (c .if2 .taken)),
       child .ensures,
     )

@@ -26,8 +26,9 @@ slice-relend-prefix-build-table c = search needs
 
 slice-aggregate-build-table : tie.Need-slice-aggregate-build-table
 slice-aggregate-build-table c =
-    let l = c .before .before .before .table-bytes in
-    sym (length-take-le (l .result) (c .before .before .before .before .before .before .args .table .now) (omega (arith, l .ensures .1)))
+    let p = c .before .before .before in
+    let l = p .table-bytes in
+    sym (length-take-le (l .result) (p .before .before .before .args .table .now) (omega (arith, l .ensures .1)))
 
 array-borrow-prefix-log : tie.Need-array-borrow-prefix-log
 array-borrow-prefix-log c = search needs
@@ -53,8 +54,9 @@ same-length c = search needs
 
 returns : tie.Need-returns
 returns c =
-    let f = c .before .before .before .before .before .build-table in
-    let i = c .before .before .before .before .before .before .before .before .before in
+    let p = c .before .before .before .before .before in
+    let f = p .build-table in
+    let i = p .before .before .before .before in
     let w = i .before in
     let l = w .before in
     let g = l .before .report-groups in

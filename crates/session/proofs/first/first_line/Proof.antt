@@ -35,13 +35,14 @@ same-length c = search needs
 
 returns-2 : tie.Need-returns-2
 returns-2 c =
-    let f = c .before .before .before .before .before .before .before .before .before .before in
+    let p = c .before .before .before .before .before in
+    let e = p .before .before .before in
+    let f = e .before .before in
     let a = f .before .before .args in
-    let b = c .before .before .before .before .before .build-in in
+    let b = p .build-in in
     let h = c .before .head-text in
-    let accepted = c .before .before .before .before .before .before .before .before .if1 .left in
     shows-accepted (a .line) (a .table .now) (f .first-frame .result) (f .first-frame .ensures) (c .after-first2 .result) (a .out .now)
-    (h .last .1 .0) (h .result) accepted (c .after-first2 .ensures) (b .last .1 .1 .1 .1 .0) (b .result) (b .ensures) (h .ensures)
+    (h .last .1 .0) (h .result) (e .if1 .left) (c .after-first2 .ensures) (b .last .1 .1 .1 .1 .0) (b .result) (b .ensures) (h .ensures)
 
 pub first-line-spec : {M : Type 1} → statement M
 first-line-spec =

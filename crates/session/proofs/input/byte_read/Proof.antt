@@ -15,8 +15,9 @@ same-length c = search needs
 
 returns : tie.Need-returns
 returns c =
-    let a = c .before .before .before .before .before .before .before .args in
-    shown-as (byte-end (a .reader) (a .table .now) (a .byte) (search needs)) (c .before .before .line-read .ensures)
+    let l = c .before .before in
+    let a = l .before .before .before .before .before .args in
+    shown-as (byte-end (a .reader) (a .table .now) (a .byte) (search needs)) (l .line-read .ensures)
 
 push-requires : tie.Need-push-requires
 push-requires c κs = search needs

@@ -18,8 +18,8 @@ same-length c = search needs
 
 returns : tie.Need-returns
 returns c =
-    let a = c .before .before .before .before .before .before .before .before .args in
     let t = c .before .before .before .before .before in
+    let a = t .before .before .before .args in
     shown-as (end-missing (a .reader) (a .table .now) (sym (t .before .is-start .ensures) ∙ t .if1 .taken)) (c .before .before .line-read .ensures)
 
 new-line-requires : tie.Need-new-line-requires
@@ -30,8 +30,8 @@ with-line-requires c κs = search needs
 
 returns-2 : tie.Need-returns-2
 returns-2 c =
-    let a = c .before .before .before .before .before .before .before .before .args in
     let e = c .before .before .before .before .before in
+    let a = e .before .before .before .args in
     shown-as (end-quiet (a .reader) (a .table .now) (sym (e .before .is-start .ensures) ∙ e .if1 .left) (search needs))
     (shows-quiet (a .reader) (c .with-line .result) newLine (a .table .now) (a .out .now)
     (c .with-line .ensures ∙ ap (withLine (a .reader)) (c .before .new-line .ensures)))
@@ -44,8 +44,9 @@ same-length-2 c = search needs
 
 returns-3 : tie.Need-returns-3
 returns-3 c =
-    let a = c .before .before .before .before .before .before .before .before .before .before .before .args in
-    let e = c .before .before .before .before .before .before .before .before in
+    let l = c .before .before .before .before .before in
+    let e = l .before .before .before in
+    let a = e .before .before .before .args in
     shown-as (end-last (a .reader) (a .table .now) (sym (e .before .is-start .ensures) ∙ e .if1 .left) (search needs))
     (c .before .before .line-read2 .ensures)
 

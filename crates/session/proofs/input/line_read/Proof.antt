@@ -33,21 +33,24 @@ same-length c = search needs
 
 returns : tie.Need-returns
 returns c =
-    let a = c .before .before .before .before .before .before .before .before .before .args in
-    shown-as (line-first (a .reader) (a .table .now) (c .before .before .before .before .before .enum-told .given .1)) (c .before .before .first-line .ensures)
+    let t = c .before .before .before .before .before in
+    let a = t .before .before .before .before .args in
+    shown-as (line-first (a .reader) (a .table .now) (t .enum-told .given .1)) (c .before .before .first-line .ensures)
 
 same-length-2 : tie.Need-same-length-2
 same-length-2 c = search needs
 
 returns-2 : tie.Need-returns-2
 returns-2 c =
-    let a = c .before .before .before .before .before .before .before .before .before .args in
-    shown-as (line-later (a .reader) (a .table .now) (c .before .before .before .before .before .enum-told2 .given .1)) (c .before .before .later-line .ensures)
+    let t = c .before .before .before .before .before in
+    let a = t .before .before .before .before .args in
+    shown-as (line-later (a .reader) (a .table .now) (t .enum-told2 .given .1)) (c .before .before .later-line .ensures)
 
 returns-3 : tie.Need-returns-3
 returns-3 c =
-    let a = c .before .before .before .before .before .before .args in
-    shown-as (line-over (a .reader) (a .table .now) (c .before .before .enum-told3 .given .1))
+    let t = c .before .before in
+    let a = t .before .before .before .before .args in
+    shown-as (line-over (a .reader) (a .table .now) (t .enum-told3 .given .1))
     (shows-quiet (a .reader) (c .with-line .result) newLine (a .table .now) (a .out .now)
     (c .with-line .ensures ∙ ap (withLine (a .reader)) (c .before .new-line .ensures)))
 

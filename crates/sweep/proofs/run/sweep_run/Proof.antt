@@ -36,7 +36,10 @@ is-reached-requires c κs =
     (reach-fits (t .before .loop .inv) (t .loop-test .taken), t .before .before .before .table .ensures)
 
 mark-stack-requires : tie.Need-mark-stack-requires Inv-loop μ-loop
-mark-stack-requires c κs = let t = c .before .before .before .before .before .before .before in mark-fits (t .before .loop .inv) (t .loop-test .taken)
+mark-stack-requires c κs =
+    let unseen = c .before .before .before .before in
+    let t = unseen .before .before .before in
+    mark-fits (t .before .loop .inv) (t .loop-test .taken)
 
 add-at : tie.Need-add-at Inv-loop μ-loop
 add-at c = omega arith

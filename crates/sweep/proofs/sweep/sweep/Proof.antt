@@ -87,23 +87,32 @@ element-copy-out-count c = search needs
 
 sweep-run-requires : tie.Need-sweep-run-requires
 sweep-run-requires c κs =
-    let v = c .before .before .before .before .before in
+    let w = c .before .before in
+    let k = w .before in
+    let v = k .before .before in
     let e = v .before in
     let a = start (e .before .before) .args in
     let stood = e .before .before in
     let s = stood .standing-of in
-    run-fits (a .job) (a .j) (a .segment .now) (a .list .now) (accepted e) (s .result .loaded) (v .level-of .result) (c .before .before .before .next-entry .result) (c .before .before .stack-count-at .result)
-    (loaded-is (s .result) (a .j) (a .job) (stands stood)) (v .level-of .ensures) (c .before .before .before .next-entry .ensures) (c .before .before .stack-count-at .ensures)
+    run-fits (a .job) (a .j) (a .segment .now) (a .list .now) (accepted e) (s .result .loaded) (v .level-of .result) (k .next-entry .result)
+    (w .stack-count-at .result) (loaded-is (s .result) (a .j) (a .job) (stands stood)) (v .level-of .ensures) (k .next-entry .ensures) (w .stack-count-at .ensures)
+
+-- where nothing was refused, seen from the run
+abbrev counted : tie.After-sweep-run → tie.After-stack-count-at
+counted m = m .before .before .before
+
+abbrev passed : tie.After-sweep-run → tie.Else1
+passed m = counted m .before .before .before .before
 
 shl-next : tie.Need-shl-next
 shl-next c =
-    let e = c .before .before .before .before .before .before .before .before .before in
+    let e = passed (c .before .before) in
     let a = start (e .before .before) .args in
     sweep-below (a .job) (a .j) (a .segment .now) (a .list .now) (accepted e)
 
 add-next : tie.Need-add-next
 add-next c =
-    let e = c .before .before .before .before .before .before .before .before .before .before in
+    let e = passed (c .before .before .before) in
     let a = start (e .before .before) .args in
     let stood = e .before .before in
     let s = stood .standing-of in
@@ -117,7 +126,7 @@ mul-next c = search needs
 
 element-write-next : tie.Need-element-write-next
 element-write-next c =
-    let e = c .before .before .before .before .before .before .before .before .before .before in
+    let e = passed (c .before .before .before) in
     let a = start (e .before .before) .args in
     let stood = e .before .before in
     let s = stood .standing-of in
@@ -139,7 +148,7 @@ returns-2 : tie.Need-returns-2
 unfolding directed progressed
 returns-2 c =
     let m = c .before .before .before in
-    let w = m .before .before .before in
+    let w = counted m in
     let k = w .before in
     let v = k .before .before in
     let e = v .before in

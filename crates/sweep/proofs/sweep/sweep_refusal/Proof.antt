@@ -99,8 +99,15 @@ lengths-fit-requires c κs =
     let s = ok .before .before .before in
     stands-begins (s .args .standing) (s .args .j) (s .pre) (facts ok .coherent)
 
+-- where the row above has gone on, and the start, seen from the lengths
+abbrev at-row : tie.After-lengths-fit → tie.Else1
+at-row f = f .before .before .before .before .before
+
+abbrev at-start : tie.After-lengths-fit → tie.Start
+at-start f = at-row f .before .before .before
+
 -- a segment is loaded, and the lengths decide
-decides : (c : tie.After-lengths-fit) (job : Job) → let a = c .before .before .before .before .before .before .before .before .args in
+decides : (c : tie.After-lengths-fit) (job : Job) → let a = at-start c .args in
     a .standing ≡ standingOf job (a .j)
     → unless (c .lengths-fit .result) 10 (unless (not (isSwept job (job .loaded) (a .j))) 11 0) ≡ sweepRefusal job (a .j) (a .bytes) (a .listed)
 decides c job e =
@@ -116,13 +123,13 @@ decides c job e =
 returns-3 : tie.Need-returns-3
 returns-3 c job e =
     let f = c .before in
-    let a = f .before .before .before .before .before .before .before .before .args in
+    let a = at-start f .args in
     ap (λ (t : Bool). unless t 10 (unless (not (isSwept job (job .loaded) (a .j))) 11 0)) (sym (not-true (f .lengths-fit .result) (c .if3 .taken)))
     ∙ decides f job e
 
 shr-if4 : tie.Need-shr-if4
 shr-if4 c =
-    let ok = c .before .before .before .before .before .before .before in
+    let ok = at-row (c .before .before) in
     let s = ok .before .before .before in
     segment-below (s .pre .job) (facts ok .coherent) (s .args .j) (facts ok .inside)
 
@@ -130,7 +137,7 @@ returns-4 : tie.Need-returns-4
 returns-4 c job e =
     let fit = c .before .before in
     let f = fit .before in
-    let a = f .before .before .before .before .before .before .before .before .args in
+    let a = at-start f .args in
     let row = a .standing .swept in
     ap (λ (t : Bool). unless (not t) 11 0) (sym (eq-eqb (row / 2 ^ a .j % 2) 1 (c .if4 .taken)) ∙ swept-says job (a .j) row (swept-is (a .standing) (a .j) job e))
     ∙ ap (λ (t : Bool). unless t 10 (unless (not (isSwept job (job .loaded) (a .j))) 11 0)) (sym (not-false (f .lengths-fit .result) (fit .if3 .left)))
@@ -140,7 +147,7 @@ returns-5 : tie.Need-returns-5
 returns-5 c job e =
     let fit = c .before .before in
     let f = fit .before in
-    let a = f .before .before .before .before .before .before .before .before .args in
+    let a = at-start f .args in
     let row = a .standing .swept in
     ap (λ (t : Bool). unless (not t) 11 0) (sym (ne-eqb (row / 2 ^ a .j % 2) 1 (c .if4 .left)) ∙ swept-says job (a .j) row (swept-is (a .standing) (a .j) job e))
     ∙ ap (λ (t : Bool). unless t 10 (unless (not (isSwept job (job .loaded) (a .j))) 11 0)) (sym (not-false (f .lengths-fit .result) (fit .if3 .left)))
