@@ -8,10 +8,12 @@ use lib.ListN.{length, getD}
 use Rattle.stacks.specs.Index.{rankOf}
 use Rattle.search.specs.Changed.{listBytes}
 use Rattle.search.specs.Entries.{bytesFor, blank, setEntry}
+use Rattle.search.specs.JobState.{countLimit}
 use Rattle.search.specs.Segments.{mostSize}
 use Rattle.search.specs.Terms.{m, beginRefusal}
 use Rattle.search.specs.declared.Terms.{Terms}
-use Rattle.twobit.specs.declared.marking.Found.{Found}
+use Rattle.search.specs.declared.Found.{Found}
+use Rattle.twobit.specs.Mark.{AtMost}
 
 -- blanked of a job with these terms
 abbrev pub blankedBy : Terms → ℕ → List ℕ
@@ -24,14 +26,15 @@ pub record BlankFits (terms : Terms) (j : ℕ) (segment : List ℕ) : Type 0 whe
   pub long : length segment ≡ bytesFor (m terms j)
 
 -- what marking at the offsets of a list asks for: a label, stacks of segment j whose indexes fit 32 bits and whose entries stand in the
--- segment, and a count that stays within 64 bits
+-- segment, so few that the counts stay within 64 bits
 pub record OffsetsFit (S j label : ℕ) (offsets : List ℕ) (found : Found) (segment : List ℕ) : Type 0 where
   pub below : label < 3
   pub starts : j * S < 2 ^ 32
   pub small : (k : ℕ) → k < length offsets → j * S + getD offsets k 0 < 2 ^ 32
   pub own : (k : ℕ) → k < length offsets → getD offsets k 0 < S
   pub inside : (k : ℕ) → k < length offsets → getD offsets k 0 / 4 < length segment
-  pub few : found .count + length offsets < 2 ^ 64
+  pub short : length offsets < 2 ^ 32
+  pub few : AtMost found countLimit
 
 -- what filling the changed list of m stacks asks for: the right lengths, and so few that every place fits 32 bits
 pub record ListFits (m : ℕ) (segment list : List ℕ) : Type 0 where

@@ -16,10 +16,11 @@ use job::refusals;
 use job::standing;
 use job::standing::Standing;
 use search::Answer;
+use search::Found;
 use search::Job;
+use search::Terms;
 use twobit::entry;
 use twobit::marking;
-use twobit::marking::Found;
 
 fn offsets_fit(offsets: &[u32], stacks: u32) -> bool
     ensures { λ r. ⌜ r ≡ all (λ i. ltb i stacks) (now (offsets .entry)) ⌝ }
@@ -56,16 +57,16 @@ fn settle_refusal(standing: Standing, j: u32, bytes: usize, log: &[u32]) -> u8
 // Each unseen stack of segment j at one of the offsets, in order, gets the label and is counted.
 fn mark_all(
     segment: &mut [u8],
-    size: u32,
+    terms: Terms,
     j: u32,
     offsets: &[u32],
     label: u8,
     from_found: Found,
 ) -> Found
-    requires { ⌜ OffsetsFit size j label (now offsets) «from_found» (now segment) ⌝ }
-    ensures { λ r. ⌜ marksOf (now (segment .exit)) r ≡ markAll size label (indexesOf size j (now (offsets .entry))) (marksOf (now (segment .entry)) «from_found») ⌝ }
+    requires { ⌜ OffsetsFit (terms .size) j label (now offsets) «from_found» (now segment) ⌝ }
+    ensures { λ r. ⌜ marksOf (now (segment .exit)) r ≡ markAll terms label (indexesOf (terms .size) j (now (offsets .entry))) (marksOf (now (segment .entry)) «from_found») ⌝ }
 {
-    let base = j * size;
+    let base = j * terms.size;
     let mut found = from_found;
     let mut i: usize = 0;
     while i < offsets.len() {
@@ -103,11 +104,10 @@ pub fn settle(job: Job, j: u32, segment: &mut [u8], log: &[u32]) -> Answer
     let level = phase::level_of(phase);
     let label = entry::next_entry((level - 1) % 3);
     let offsets = look::waiting_part(terms.room, j, standing.waiting, log);
-    let count = next.counts[level as usize];
-    let found = Found { count };
-    let marked = mark_all(segment, terms.size, j, offsets, label, found);
+    let found = marking::found_at(&next.counts, level);
+    let marked = mark_all(segment, terms, j, offsets, label, found);
     next.waiting[j as usize] = 0;
-    next.counts[level as usize] = marked.count;
+    marking::put_found(&mut next.counts, level, marked);
     Answer {
         refusal: 0,
         job: next,

@@ -181,7 +181,7 @@ fn next_counts(phase: Phase, counts: &mut [u64; COUNT_PLACES])
 
 // The job in another phase, searched this way, with nothing passed, loaded or swept.
 fn with_phase(job: Job, phase: Phase, way: Way) -> Job
-    ensures { λ r. ⌜ r ≡ directed (progressed job phase (replicate segmentLimit 0) (job .waiting) (job .counts)) way noSegment (replicate segmentLimit 0) ⌝ }
+    ensures { λ r. ⌜ r ≡ directed (progressed job phase (replicate segmentLimit 0) (job .waiting)) way noSegment (replicate segmentLimit 0) ⌝ }
 {
     let terms = job.terms;
     let waiting = job.waiting;

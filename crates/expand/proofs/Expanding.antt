@@ -15,7 +15,8 @@ use Rattle.base.proofs.Tests.{lt-or-ge}
 use Rattle.stacks.specs.Turn.{turnsIn}
 use Rattle.search.specs.Entries.{entryAt, nextEntry}
 use Rattle.search.specs.Expand.{Expansion, isParent, expandRefusal, childrenOf, placeChild, placeAll, passOne, waitFor, expandStack, expandNext, expandRun, expansion, expandedJob, expandOf}
-use Rattle.search.specs.JobState.{isCoherent, levelOf, stackCountOf, segmentCountOf, stackCountAt, logLength, movesOf, passedOf, waitingOf, countOf}
+use Rattle.search.specs.JobState.{isCoherent, levelOf, stackCountOf, segmentCountOf, stackCountAt, logLength, movesOf, passedOf, waitingOf}
+use Rattle.search.specs.Marks.{foundOne, markOne, foundAt}
 use Rattle.search.specs.Refusals.{levelRefusal}
 use Rattle.search.specs.Segments.{segmentLimit}
 use Rattle.search.specs.Logs.{lacksRoom}
@@ -26,7 +27,8 @@ use Rattle.search.specs.declared.Terms.{Terms}
 use Rattle.search.proofs.Accepted.{LevelFacts, expand-facts, expand-accepted, level-row}
 use Rattle.search.proofs.Coherence.{begin-given, coherent-facts}
 use Rattle.search.proofs.EntryLaws.{next-level}
-use Rattle.twobit.specs.declared.marking.Found.{Found}
+use Rattle.search.specs.declared.Found.{Found}
+use Rattle.job.proofs.Bounds.{coherent-found}
 use Rattle.expand.specs.Scan.{ScanFits, RunFits, Runs, running, reachedWith, scanJob, scanFor, scanOf}
 use Rattle.expand.specs.declared.run.Reached.{Reached}
 use Rattle.expand.specs.declared.scan.Scan.{Scan}
@@ -74,15 +76,11 @@ pub scan-is : (terms : Terms) (level j : ℕ) {segments turns mark : ℕ} → se
 unfolding scanFor
 scan-is terms level j a b some e = rw (a, b, e ∙ next-level level some)
 
--- what a level of the job has found
-abbrev foundAt : Job → ℕ → Found
-foundAt job level = record { count = getD (job .counts) level 0 }
-
 -- ---- a run over a scan is a run over its job
 
 module _ (job : Job) (j : ℕ) where
   place-same : (children : List ℕ) (e : Expansion) → placeAll (scanJob (scanOf job j)) j children e ≡ placeAll job j children e
-  unfolding placeAll placeChild scanJob scanFor levelOf
+  unfolding placeAll placeChild markOne foundOne scanJob scanFor levelOf
   place-same [] e = refl
   place-same (c ∷ children) e = place-same children (placeChild job j c e)
 
@@ -143,32 +141,32 @@ module _ (job : Job) (j : ℕ) where
     pub call-facts : LevelFacts job j (length segment) (length log)
     call-facts = expand-facts job j (length segment) (length log) accepted .0
 
-    -- the level, the scan, m and the stacks passed as the code has them
-    module _ {scan : Scan} {level stacks at : ℕ} (on-level : level ≡ levelOf (job .phase))
+    -- the level, what it has found, the scan, m and the stacks passed as the code has them
+    module _ {scan : Scan} {found : Found} {level stacks at : ℕ} (on-level : level ≡ levelOf (job .phase)) (so-far : found ≡ foundAt job level)
         (is : scan ≡ scanFor (job .terms) level j)
         (all : stacks ≡ m (job .terms) j) (passed : at ≡ passedOf job j) where
       -- what a run over the segment asks
-      pub run-given : length (job .waiting) ≡ segmentLimit → RunFits scan at stacks (foundAt job level) segment log (job .waiting)
-      unfolding scanJob scanFor stackCountAt stackCountOf segmentCountOf logLength levelOf passedOf countOf
+      pub run-given : length (job .waiting) ≡ segmentLimit → RunFits scan at stacks found segment log (job .waiting)
+      unfolding scanJob scanFor stackCountAt stackCountOf segmentCountOf logLength levelOf passedOf
       run-given long =
           let f = call-facts in
-          rw (is, all, on-level, passed)
+          rw (so-far, is, all, on-level, passed)
           (record {
             fit = scan-fits (f .called .coherent) (f .called .inside);
             lent = record { bytes = f .long; places = f .wide; logs = long; most = waiting-most (f .called .coherent) long };
             all = refl;
             within = le-of-lt (expand-facts job j (length segment) (length log) accepted .1);
-            few = coherent-facts job (f .called .coherent) .counts-fit (levelOf (job .phase));
+            few = coherent-found job (f .called .coherent) (levelOf (job .phase));
           })
 
       -- the call as the run begins
       abbrev before : ℕ → Expansion
-      before = running segment (foundAt job level) log (job .waiting)
+      before = running segment found log (job .waiting)
 
       run-is : expandRun (scanJob scan) (scan .j) (stacks - at) (before at) ≡ expansion job j segment log
-      unfolding scanFor expansion stackCountAt stackCountOf passedOf countOf
+      unfolding scanFor expansion stackCountAt stackCountOf passedOf
       run-is =
-          rw (is, all, on-level, passed)
+          rw (so-far, is, all, on-level, passed)
           (run-same (stackCountAt job j - passedOf job j)
           (running segment (foundAt job (levelOf (job .phase))) log (job .waiting) (passedOf job j)))
 

@@ -3,7 +3,7 @@ use mathlib.Core.Path.{_≡_, refl, sym, ap, _∙_, subst}
 use mathlib.Core.Logic.{_⊎_, inl, inr}
 use mathlib.Core.Bool.{false}
 use mathlib.Core.List.{List, [], _∷_}
-use Prim.Native.Nat.{ℕ, _+_, _-_, _*_, _/_, _%_, _<_, _≤_}
+use Prim.Native.Nat.{ℕ, _+_, _-_, _*_, _/_, _%_, _^_, _<_, _≤_}
 use native.Mathlib.Nat.{suc-mul, mul-le-mul-right, mul-le-mul}
 use native.Mathlib.Numerals.{add-one}
 use native.Mathlib.Omega.{arith}
@@ -20,9 +20,9 @@ use Rattle.search.proofs.EntryLaws.{byte-inside}
 use Rattle.search.proofs.ExpandCases.{falling-here, falling-elsewhere, falling-le, place-here, place-elsewhere}
 use Rattle.search.proofs.MarkLaws.{mark-length}
 use Rattle.search.proofs.SegmentLaws.{stack-segment, stack-offset}
-use Rattle.twobit.specs.Mark.{marksOf, MarkFits}
-use Rattle.twobit.specs.declared.marking.Found.{Found}
-use Rattle.twobit.proofs.LeafMarks.{count-le, mark-level}
+use Rattle.twobit.specs.Mark.{marksOf, AtMost, MarkFits}
+use Rattle.search.specs.declared.Found.{Found}
+use Rattle.twobit.proofs.LeafMarks.{at-most, mark-at-most, mark-level}
 use Rattle.perm.specs.Moves.{mostMoves}
 use Rattle.expand.specs.Scan.{LentFits, HasRoom, ChildFits, ChildrenFit, PlacesChild, PlacesAll, running, scanJob}
 use Rattle.expand.specs.declared.scan.Scan.{Scan}
@@ -56,7 +56,7 @@ module _ {scan : Scan} {child : ℕ} {found : Found} {segment log waiting : List
       record {
         below = omega (arith, g .fit .mark-is);
         inside = child-byte e;
-        few = omega (arith, g .few);
+        few = g .few;
       }
 
   pub log-place : (child / scan .size ≡ scan .j → ⊥) → LogPlace scan child log waiting
@@ -76,12 +76,12 @@ module _ {scan : Scan} {child : ℕ} {found : Found} {segment log waiting : List
 
   -- the leaf that marks and counts
   pub placed-here : {after : List ℕ} {next : Found} → child / scan .size ≡ scan .j
-      → marksOf after next ≡ markOne (scan .size) (scan .mark) child (marksOf segment found)
+      → marksOf after next ≡ markOne (scanJob scan .terms) (scan .mark) child (marksOf segment found)
       → PlacesChild scan child (running segment found log waiting) (running after next log waiting)
   unfolding scanJob levelOf
   placed-here e m at =
       ap (λ (marks : Marks). record { at = at; waits = false; on = 0; marks = marks; logs = record { log = log; waiting = waiting } })
-      (m ∙ rw (g .fit .mark-is) (mark-level (scan .size) (scan .level) child (marksOf segment found)))
+      (m ∙ rw (g .fit .mark-is) (mark-level (scanJob scan .terms) (scan .level) child (marksOf segment found)))
       ∙ sym (place-here (scanJob scan) (scan .j) child (running segment found log waiting at) e)
 
   -- a place of the log's own stretch, and one more waits
@@ -151,7 +151,7 @@ module _ (scan : Scan) (child : ℕ) (rest : List ℕ) (e : Expansion) (lent : F
       go (inl here) =
           subst Leaves (sym (place-here (scanJob scan) (scan .j) child e here)) (
             record {
-              bytes = mark-length (scan .size) (scan .level) child (e .marks) ∙ lent .bytes;
+              bytes = mark-length (scanJob scan .terms) (scan .level) child (e .marks) ∙ lent .bytes;
               places = lent .places;
               logs = lent .logs;
               most = lent .most;
@@ -170,14 +170,15 @@ module _ (scan : Scan) (child : ℕ) (rest : List ℕ) (e : Expansion) (lent : F
           )
 
 -- at most one more is counted
-pub place-count : (scan : Scan) (child : ℕ) (e : Expansion) → placeChild (scanJob scan) (scan .j) child e .marks .count ≤ e .marks .count + 1
+pub place-most : (scan : Scan) (child : ℕ) (e : Expansion) {most : ℕ} → AtMost (e .marks .found) most
+    → AtMost (placeChild (scanJob scan) (scan .j) child e .marks .found) (most + 1)
 unfolding scanJob levelOf
-place-count scan child e = go (eq-or-ne (child / scan .size) (scan .j))
+place-most scan child e {most} few = go (eq-or-ne (child / scan .size) (scan .j))
   where
     go : (child / scan .size ≡ scan .j) ⊎ (child / scan .size ≡ scan .j → ⊥)
-        → placeChild (scanJob scan) (scan .j) child e .marks .count ≤ e .marks .count + 1
-    go (inl h) = rw (place-here (scanJob scan) (scan .j) child e h) (count-le (scan .size) (scan .level) child (e .marks))
-    go (inr h) = rw (place-elsewhere (scanJob scan) (scan .j) child e h) (omega arith)
+        → AtMost (placeChild (scanJob scan) (scan .j) child e .marks .found) (most + 1)
+    go (inl h) = rw (place-here (scanJob scan) (scan .j) child e h) (mark-at-most (scanJob scan .terms) (scan .level) child (e .marks) few)
+    go (inr h) = rw (place-elsewhere (scanJob scan) (scan .j) child e h) (at-most few (omega arith))
 
 module _ (scan : Scan) where
   pub all-fits : (children : List ℕ) (e : Expansion) → Fits scan e → HasRoom scan (e .logs .waiting) children
@@ -188,11 +189,12 @@ module _ (scan : Scan) where
       let next = place-fits scan c children e lent room in
       all-fits children (placeChild (scanJob scan) (scan .j) c e) (next .0) (next .1)
 
-  pub all-count : (children : List ℕ) (e : Expansion) → placeAll (scanJob scan) (scan .j) children e .marks .count ≤ e .marks .count + length children
+  pub all-most : (children : List ℕ) (e : Expansion) {most : ℕ} → AtMost (e .marks .found) most
+      → AtMost (placeAll (scanJob scan) (scan .j) children e .marks .found) (most + length children)
   unfolding placeAll
-  all-count [] e = omega arith
-  all-count (c ∷ children) e =
-      omega (arith, all-count children (placeChild (scanJob scan) (scan .j) c e), place-count scan c e)
+  all-most [] e few = at-most few (omega arith)
+  all-most (c ∷ children) e few =
+      at-most (all-most children (placeChild (scanJob scan) (scan .j) c e) (place-most scan c e few)) (omega arith)
 
 -- ---- a stack's children, one after the other
 
@@ -208,7 +210,7 @@ pub record PlacedTo (scan : Scan) (array : List ℕ) (segment₀ : List ℕ) (fo
   pub within : i ≤ scan .turns
   pub fits : LentFits scan segment log waiting
   pub room : HasRoom scan waiting (drop i (childrenIn scan array))
-  pub counted : found .count ≤ found₀ .count + i
+  pub few : AtMost found (2 ^ 61 + i)
   pub placed : (at : ℕ) → placeAll (scanJob scan) (scan .j) (childrenIn scan array) (running segment₀ found₀ log₀ waiting₀ at)
       ≡ placeAll (scanJob scan) (scan .j) (drop i (childrenIn scan array)) (running segment found log waiting at)
 
@@ -222,7 +224,7 @@ module _ {scan : Scan} {array : List ℕ} {segment₀ : List ℕ} {found₀ : Fo
         within = omega arith;
         fits = given .lent;
         room = given .room;
-        counted = omega arith;
+        few = at-most (given .few) (omega arith);
         placed = λ at. refl;
       }
 
@@ -270,7 +272,7 @@ module _ {scan : Scan} {array : List ℕ} {segment₀ : List ℕ} {found₀ : Fo
             lent = p .fits;
             below = p .given .below i;
             room = room-next;
-            few = omega (arith, p .counted, p .given .few, scan-facts scan (p .given .fit));
+            few = at-most (p .few) (omega (arith, scan-facts scan (p .given .fit)));
           }
 
       pub placed-more : {segment′ : List ℕ} {found′ : Found} {log′ waiting′ : List ℕ}
@@ -287,12 +289,7 @@ module _ {scan : Scan} {array : List ℕ} {segment₀ : List ℕ} {found₀ : Fo
             within = omega arith;
             fits = subst (Fits scan) (sym (step 0)) (next .0);
             room = subst (λ (e : Expansion). HasRoom scan (e .logs .waiting) rest) (sym (step 0)) (next .1);
-            counted = omega (
-              arith,
-              p .counted,
-              place-count scan (getD array i 0) before,
-              ap (λ (e : Expansion). e .marks .count) (step 0),
-            );
+            few = at-most (subst (λ (e : Expansion). AtMost (e .marks .found) (2 ^ 61 + i + 1)) (sym (step 0)) (place-most scan (getD array i 0) before (p .few))) (omega arith);
             placed = λ at. p .placed at
                 ∙ ap (λ (xs : List ℕ). placeAll (scanJob scan) (scan .j) xs (running segment found log waiting at)) left
                 ∙ ap (placeAll (scanJob scan) (scan .j) rest) (sym (step at));

@@ -25,13 +25,15 @@ use Rattle.search.proofs.ExpandCases.{first-before, room-enough}
 use Rattle.search.proofs.SegmentLaws.{segment-stack, segment-starts, stack-segment, stackCountIn-le}
 use Rattle.search.proofs.Turning.{set-turns}
 use Rattle.perm.specs.Moves.{mostMoves}
-use Rattle.twobit.specs.declared.marking.Found.{Found}
+use Rattle.search.specs.declared.Found.{Found}
+use Rattle.twobit.specs.Mark.{AtMost}
+use Rattle.twobit.proofs.LeafMarks.{at-most}
 use Rattle.expand.specs.Scan.{ScanFits, LentFits, HasRoom, WaitingFits, ChildrenFit, RunFits, PlacesAll, Runs, running, reachedWith, scanJob}
 use Rattle.expand.specs.declared.run.Reached.{Reached}
 use Rattle.expand.specs.declared.scan.Scan.{Scan}
 use Rattle.expand.proofs.Fitting.{ScanFacts, scan-facts}
 use Rattle.expand.proofs.Lowest.{falling-place}
-use Rattle.expand.proofs.Placing.{Fits, all-fits, all-count}
+use Rattle.expand.proofs.Placing.{Fits, all-fits, all-most}
 
 -- the moves of a scan, the children that they make of the stack at an index, and of the stack at place `at` of this segment
 abbrev movesOf : Scan → List ℕ
@@ -169,14 +171,14 @@ pub record RunTo (scan : Scan) (first stacks : ℕ) (segment₀ : List ℕ) (fou
   pub given : RunFits scan first stacks found₀ segment₀ log₀ waiting₀
   pub within : at ≤ stacks
   pub fits : LentFits scan segment log waiting
-  pub counted : found .count ≤ countLimit + mostMoves * at
+  pub counted : AtMost found (countLimit + mostMoves * at)
   pub run : expandRun (scanJob scan) (scan .j) (stacks - first) (running segment₀ found₀ log₀ waiting₀ first)
       ≡ expandRun (scanJob scan) (scan .j) (stacks - at) (running segment found log waiting at)
 
 module _ {scan : Scan} {first stacks : ℕ} {segment₀ : List ℕ} {found₀ : Found} {log₀ waiting₀ : List ℕ} where
   pub run-none : RunFits scan first stacks found₀ segment₀ log₀ waiting₀
       → RunTo scan first stacks segment₀ found₀ log₀ waiting₀ segment₀ found₀ log₀ waiting₀ first
-  run-none given = record { given = given; within = given .within; fits = given .lent; counted = omega (arith, given .few); run = refl }
+  run-none given = record { given = given; within = given .within; fits = given .lent; counted = at-most (given .few) (omega arith); run = refl }
 
   module _ {segment : List ℕ} {found : Found} {log waiting : List ℕ} {at : ℕ}
       (r : RunTo scan first stacks segment₀ found₀ log₀ waiting₀ segment found log waiting at) where
@@ -189,11 +191,11 @@ module _ {scan : Scan} {first stacks : ℕ} {segment₀ : List ℕ} {found₀ : 
         (let e : stacks - at ≡ 0 = omega arith in e))
 
     -- there are few enough stacks that the count stays far below its type's end
-    few : found .count ≤ 2 ^ 61
+    few : AtMost found (2 ^ 61)
     unfolding countLimit stackCountAt scanJob
     few =
         let facts : ScanFacts scan = scan-facts scan (r .given .fit) in
-        omega (arith, r .counted, r .within, r .given .all, stackCountIn-le (stackCountOf (scanJob scan)) (scan .size) (facts .some) (scan .j))
+        at-most (r .counted) (omega (arith, r .within, r .given .all, stackCountIn-le (stackCountOf (scanJob scan)) (scan .size) (facts .some) (scan .j)))
 
     -- the same values by other names
     pub run-same : {segment′ : List ℕ} {found′ : Found} {log′ waiting′ : List ℕ} → segment′ ≡ segment → log′ ≡ log → waiting′ ≡ waiting
@@ -219,7 +221,8 @@ module _ {scan : Scan} {first stacks : ℕ} {segment₀ : List ℕ} {found₀ : 
           ∙ ap (λ (n : ℕ). expandRun (scanJob scan) (scan .j) n (running segment found log waiting at))
           (let e : stacks - at ≡ suc (stacks - suc at) = omega arith in e)
 
-      run-more : {segment′ : List ℕ} {found′ : Found} {log′ waiting′ : List ℕ} → LentFits scan segment′ log′ waiting′ → found′ .count ≤ found .count + mostMoves
+      run-more : {segment′ : List ℕ} {found′ : Found} {log′ waiting′ : List ℕ} → LentFits scan segment′ log′ waiting′
+          → AtMost found′ (countLimit + mostMoves * at + mostMoves)
           → expandNext (scanJob scan) (scan .j) (running segment found log waiting at) ≡ running segment′ found′ log′ waiting′ (suc at)
           → RunTo scan first stacks segment₀ found₀ log₀ waiting₀ segment′ found′ log′ waiting′ (at + 1)
       run-more fits counted step =
@@ -227,7 +230,7 @@ module _ {scan : Scan} {first stacks : ℕ} {segment₀ : List ℕ} {found₀ : 
             given = r .given;
             within = omega arith;
             fits = fits;
-            counted = omega (arith, r .counted);
+            counted = at-most counted (omega arith);
             run = rw (add-one at) (run-next ∙ ap (expandRun (scanJob scan) (scan .j) (stacks - suc at)) step);
           }
 
@@ -283,17 +286,12 @@ module _ {scan : Scan} {first stacks : ℕ} {segment₀ : List ℕ} {found₀ : 
               let before = running segment found log waiting at in
               run-more
               (subst (Fits scan) (sym (step at)) (all-fits scan (take (scan .turns) array) before (r .fits) room))
-              (omega (
-                arith,
-                ap (λ (e : Expansion). e .marks .count) (step at),
-                all-count scan (take (scan .turns) array) before,
-                length-take (scan .turns) array,
-                scan-facts scan (r .given .fit),
-              ))
+              (subst (λ (e : Expansion). AtMost (e .marks .found) (countLimit + mostMoves * at + mostMoves)) (sym (step at))
+              (at-most (all-most scan (take (scan .turns) array) before (r .counted)) (omega (arith, length-take (scan .turns) array, scan-facts scan (r .given .fit)))))
               (next-places scan (r .given .fit) at segment found log waiting due full lowest-children segment′ found′ log′ waiting′ enough
               (step at ∙ ap (λ (cs : List ℕ). placeAll (scanJob scan) (scan .j) cs before) children))
 
       pub run-skipped : (entryAt segment at ≡ scan .from → ⊥)
           → RunTo scan first stacks segment₀ found₀ log₀ waiting₀ segment found log waiting (at + 1)
       run-skipped ne =
-          run-more (r .fits) (omega arith) (next-skips scan (r .given .fit) at segment found log waiting ne)
+          run-more (r .fits) (at-most (r .counted) (omega arith)) (next-skips scan (r .given .fit) at segment found log waiting ne)

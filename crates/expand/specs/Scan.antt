@@ -25,8 +25,8 @@ use Rattle.search.specs.declared.Job.{Job}
 use Rattle.search.specs.declared.Phase.the-variants.{Level}
 use Rattle.search.specs.declared.Terms.{Terms}
 use Rattle.search.specs.declared.Way.the-variants.{Forward}
-use Rattle.twobit.specs.Mark.{marksOf}
-use Rattle.twobit.specs.declared.marking.Found.{Found}
+use Rattle.twobit.specs.Mark.{marksOf, AtMost}
+use Rattle.search.specs.declared.Found.{Found}
 use Rattle.expand.specs.declared.run.Reached.{Reached}
 use Rattle.expand.specs.declared.scan.Scan.{Scan}
 
@@ -106,7 +106,7 @@ pub record ChildFits (scan : Scan) (child : ℕ) (found : Found) (segment log wa
   pub lent : LentFits scan segment log waiting
   pub below : child < stackCountOf (scanJob scan)
   pub room : HasRoom scan waiting (child ∷ [])
-  pub few : found .count ≤ 2 ^ 62
+  pub few : AtMost found (2 ^ 62)
 
 -- the children are the first of an array
 pub record ChildrenFit (scan : Scan) (array : List ℕ) (found : Found) (segment log waiting : List ℕ) : Type 0 where
@@ -114,14 +114,14 @@ pub record ChildrenFit (scan : Scan) (array : List ℕ) (found : Found) (segment
   pub lent : LentFits scan segment log waiting
   pub below : (i : ℕ) → getD array i 0 < stackCountOf (scanJob scan)
   pub room : HasRoom scan waiting (take (scan .turns) array)
-  pub few : found .count ≤ 2 ^ 61
+  pub few : AtMost found (2 ^ 61)
 
 pub record RunFits (scan : Scan) (first stacks : ℕ) (found : Found) (segment log waiting : List ℕ) : Type 0 where
   pub fit : ScanFits scan
   pub lent : LentFits scan segment log waiting
   pub all : stacks ≡ stackCountAt (scanJob scan) (scan .j)
   pub within : first ≤ stacks
-  pub few : found .count ≤ countLimit
+  pub few : AtMost found countLimit
 
 abbrev pub reachedWith : Reached → List ℕ → List ℕ → List ℕ → Expansion
 reachedWith reached segment log waiting =

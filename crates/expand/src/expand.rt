@@ -19,7 +19,7 @@ use search::Expanded;
 use search::Job;
 use search::Terms;
 use twobit::entry;
-use twobit::marking::Found;
+use twobit::marking;
 
 fn expand_refusal(standing: Standing, j: u32, bytes: usize, words: usize) -> u8
     requires { ⌜ Stands standing j ⌝ }
@@ -89,8 +89,7 @@ pub fn expand(job: Job, j: u32, segment: &mut [u8], log: &mut [u32]) -> Expanded
     let level = phase::level_of(phase);
     let scan = scan_of(terms, level, j);
     let stacks = geometry::stack_count_at(terms, j);
-    let count = next.counts[level as usize];
-    let found = Found { count };
+    let found = marking::found_at(&next.counts, level);
     let reached = run::expand_run(
         scan,
         standing.passed,
@@ -101,7 +100,7 @@ pub fn expand(job: Job, j: u32, segment: &mut [u8], log: &mut [u32]) -> Expanded
         &mut next.waiting,
     );
     next.passed[j as usize] = reached.at;
-    next.counts[level as usize] = reached.found.count;
+    marking::put_found(&mut next.counts, level, reached.found);
     Expanded {
         refusal: 0,
         waits: reached.waits,

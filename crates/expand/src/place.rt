@@ -3,9 +3,9 @@ ghost use Rattle.expand.specs.Scan.{ChildFits, ChildrenFit, PlacesChild,
 use crate::logs;
 use crate::scan::Scan;
 use perm::groups::MOST_MOVES;
+use search::Found;
 use search::SEGMENT_LIMIT;
 use twobit::marking;
-use twobit::marking::Found;
 
 // A child of this segment is marked and counted if it is unseen; a child elsewhere is appended to its segment's log, seen or not.
 fn place_child(

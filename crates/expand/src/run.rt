@@ -4,9 +4,9 @@ use crate::children;
 use crate::logs;
 use crate::place;
 use crate::scan::Scan;
+use search::Found;
 use search::SEGMENT_LIMIT;
 use twobit::entry;
-use twobit::marking::Found;
 
 // How far a call came: the first stack not passed, whether it waits before it and for which segment, and what the level has found.
 pub(crate) struct Reached {

@@ -52,10 +52,10 @@ pub(crate) fn write_levels(
 ) -> usize
     ensures { λ r. ⌜ Wrote (levelLines deepest counts) (now (out .entry)) (now (out .exit)) r ⌝ }
 {
-    let last = deepest as usize;
+    let levels = deepest as usize + 1;
     let mut at: usize = 0;
     let mut level: usize = 0;
-    while level <= last && level < COUNT_PLACES {
+    while level < levels {
         at = put_number(out, at, level as u8, counts[level]);
         level += 1;
     }

@@ -5,3 +5,4 @@ pub mod Depths
 pub mod Levels
 pub mod Tally
 pub mod Counts
+pub mod LevelCounts

@@ -8,7 +8,8 @@ use borrow.Author.Tests.{lt-ltb, leb-true}
 use lib.Dec.{leb}
 use Rattle.base.proofs.Tests.{and-left, never}
 use Rattle.stacks.specs.Stack.{isPaneCount, isStack}
-use Rattle.search.specs.JobState.{lastLevel, isLevel, isReverse, inForward, inReverse, levelOf, phaseFits, stackCountOf, segmentCountOf, logLength, waitingOf, isCoherent}
+use Rattle.search.specs.JobState.{lastLevel, countLimit, isLevel, isReverse, inForward, inReverse, levelOf, phaseFits, stackCountOf, segmentCountOf, logLength, waitingOf, isCoherent}
+use Rattle.search.specs.Marks.{foundAt}
 use Rattle.search.specs.Segments.{segmentLimit, mostSize, mostRoom, isSegmentSize, isLogRoom}
 use Rattle.search.specs.Terms.{N, beginRefusal}
 use Rattle.search.specs.declared.Job.{Job}
@@ -16,6 +17,7 @@ use Rattle.search.specs.declared.Phase.{Phase}
 use Rattle.search.specs.declared.Phase.the-variants.{Blanking, Level, Finished}
 use Rattle.search.proofs.Coherence.{begin-given, coherent-facts}
 use Rattle.search.proofs.SegmentLaws.{segment-size-facts, log-room-facts}
+use Rattle.twobit.specs.Mark.{AtMost}
 
 pub record Bounds (job : Job) : Type 0 where
   pub is-pane-count : isPaneCount (job .terms .kind) (job .terms .n) ≡ true
@@ -50,6 +52,10 @@ module _ (job : Job) where
   -- what the geometry asks for
   pub coherent-begins : isCoherent job ≡ true → beginRefusal (job .terms) ≡ 0
   coherent-begins h = coherent-facts job h .begins
+
+-- what a level has found is within the counts' limit
+pub coherent-found : (job : Job) → isCoherent job ≡ true → (d : ℕ) → AtMost (foundAt job d) countLimit
+coherent-found job h d = record { count = coherent-facts job h .counts-fit d }
 
 -- ---- the level
 

@@ -10,7 +10,7 @@ use lib.IntN.{ℤ}
 use lib.ListN.{length, getD, set, take, replicate}
 use Rattle.base.specs.Words.{all, tally, filter, from}
 use Rattle.graph.specs.Walks.{isMove}
-use Rattle.stacks.specs.Counts.{TellsBy, CountsBy, CountsAt}
+use Rattle.stacks.specs.Counts.{TellsWhere, CountsWhere, CountsBy, CountsAt}
 use Rattle.stacks.specs.Index.{stackAt, allStacks, coat}
 use Rattle.stacks.specs.Order.{lexLess, precedes}
 use Rattle.stacks.specs.Stack.{isStack, orderOf, stackCount}
@@ -90,23 +90,28 @@ module _ {kind : ℕ} {isMove : ℕ → Bool} {s w : List ℤ} where
         → FewestBy kind isMove s w d
     fewest-from ks leads long least = record { road = ks; leads = leads; long = long; least = least }
 
--- a test tells the stacks at d turns where it passes exactly these
-module _ {kind n : ℕ} {isMove : ℕ → Bool} {w : List ℤ} {d : ℕ} where
+-- a test tells the stacks with a property where it passes exactly these
+module _ {kind n : ℕ} {property : List ℤ → Type 0} where
   module _ {test : List ℤ → Bool} where
-    tells-is : TellsBy kind n isMove w d test
-        → ((s : List ℤ) → isStack kind n s ≡ true → test s ≡ true → FewestBy kind isMove s w d)
-        × ((s : List ℤ) → isStack kind n s ≡ true → FewestBy kind isMove s w d → test s ≡ true)
+    tells-is : TellsWhere kind n property test
+        → ((s : List ℤ) → isStack kind n s ≡ true → test s ≡ true → property s)
+        × ((s : List ℤ) → isStack kind n s ≡ true → property s → test s ≡ true)
     tells-is tells = (tells .only, tells .every)
 
-    tells-from : ((s : List ℤ) → isStack kind n s ≡ true → test s ≡ true → FewestBy kind isMove s w d)
-        → ((s : List ℤ) → isStack kind n s ≡ true → FewestBy kind isMove s w d → test s ≡ true) → TellsBy kind n isMove w d test
+    tells-from : ((s : List ℤ) → isStack kind n s ≡ true → test s ≡ true → property s)
+        → ((s : List ℤ) → isStack kind n s ≡ true → property s → test s ≡ true) → TellsWhere kind n property test
     tells-from only every = record { only = only; every = every }
 
   -- some test tells them, and by whichever does as many of all stacks pass
-  counts-is : {count : ℕ} → CountsBy kind n isMove w d count
-      → ((test : List ℤ → Bool) × TellsBy kind n isMove w d test)
-      × ((test : List ℤ → Bool) → TellsBy kind n isMove w d test → count ≡ tally test (allStacks kind n))
-  counts-is counts = ((counts .test, counts .tells), counts .tallied)
+  where-is : {count : ℕ} → CountsWhere kind n property count
+      → ((test : List ℤ → Bool) × TellsWhere kind n property test)
+      × ((test : List ℤ → Bool) → TellsWhere kind n property test → count ≡ tally test (allStacks kind n))
+  where-is counts = ((counts .test, counts .tells), counts .tallied)
+
+-- what is counted by some moves is the stacks whose fewest moves are d
+counts-is : {kind n : ℕ} {isMove : ℕ → Bool} {w : List ℤ} {d count : ℕ} → CountsBy kind n isMove w d count
+    → CountsWhere kind n (λ s. FewestBy kind isMove s w d) count
+counts-is counts = counts
 
 -- by all turns of a kind and n, and by the turns of a set
 module _ (kind n groups : ℕ) {s w : List ℤ} where

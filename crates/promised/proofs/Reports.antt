@@ -1,5 +1,5 @@
 -- What we promise of the report, clause by clause: the theorems of `text`, and the definitions by which they say it.
-use mathlib.Core.Path.{_≡_, refl, sym}
+use mathlib.Core.Path.{_≡_, refl, sym, ap, _∙_}
 use mathlib.Core.Bool.{Bool, true, false, not, _&&_}
 use mathlib.Core.List.{List, [], _∷_, _++_, map}
 use Prim.Native.Nat.{ℕ, suc, _+_, _-_, _*_, _/_, _%_, _≤_, _<_}
@@ -21,13 +21,14 @@ use Rattle.search.specs.Terms.{termsOf}
 use Rattle.text.specs.Frame.{isFrame, paneOf, placesOf, kindIn, panesIn, wantedIn, sizeIn, fieldsRefusal, bytesRefusal, firstRefusal, firstOf, laterRefusal}
 use Rattle.text.specs.Hex.{isDigit, digitOf, digitChar, isByte, isPairs, bytesOf, hexOf, lineOf, numberFrom, numberOf, fourBytes}
 use Rattle.text.specs.Lines.{inFirst, linesOf}
-use Rattle.text.specs.Output.{levelLine, levelsFrom, deepestLine, totalLine, planLine, refusalLine}
+use Rattle.text.specs.Output.{levelLine, lineAt, levelLines, deepestLine, totalLine, planLine, refusalLine}
 use Rattle.text.specs.Promise.{Answers, Reports}
 use Rattle.text.specs.Reader.{newReader, byteRead, endRead, printedAll}
 use Rattle.text.specs.Report.{reportGroups, tableBytes, logWords, changedBytes, builtIn, laterText, laterTexts, reportOf}
 use Rattle.text.specs.declared.Reader.{Reader}
 use Rattle.text.proofs.Meaning
 use Rattle.text.proofs.Reading
+use Rattle.text.proofs.Writing
 
 -- ---- the text of an accepted first frame and of the lines after it, whatever the table held
 
@@ -76,7 +77,7 @@ module _ (table cs : List ℕ) (lines : List (List ℕ)) (long : length table �
 
   -- a line for each level, ff and the deepest, fe and the total, and the later frames' answers
   text : reportOf table (cs ∷ lines)
-      ≡ levelsFrom 0 counts ++ lineOf (255 ∷ deepest ∷ []) ++ lineOf (254 ∷ fourBytes sum) ++ laterTexts kind n wanted built lines
+      ≡ levelLines deepest counts ++ lineOf (255 ∷ deepest ∷ []) ++ lineOf (254 ∷ fourBytes sum) ++ laterTexts kind n wanted built lines
   unfolding deepestLine totalLine
   text = reports .text-is
 
@@ -260,14 +261,14 @@ build-in kind n wanted S table = refl
 
 -- ---- lines of output
 
--- the levels, each its number and its count in four bytes, high byte first
-levels-none : (d : ℕ) → levelsFrom d [] ≡ []
-unfolding levelsFrom
-levels-none d = refl
+-- the levels from 0 to the deepest, one after the other, each its number and its count in four bytes, high byte first
+levels-first : (counts : List ℕ) → levelLines 0 counts ≡ lineOf (0 ∷ fourBytes (getD counts 0 0))
+unfolding levelLines levelLine
+levels-first counts = Writing.levels-more (lineAt counts) 0 ∙ ap (λ (l : List ℕ). l ++ lineAt counts 0) (Writing.levels-none (lineAt counts))
 
-levels-more : (d count : ℕ) (counts : List ℕ) → levelsFrom d (count ∷ counts) ≡ lineOf (d ∷ fourBytes count) ++ levelsFrom (suc d) counts
-unfolding levelsFrom levelLine
-levels-more d count counts = refl
+levels-more : (d : ℕ) (counts : List ℕ) → levelLines (suc d) counts ≡ levelLines d counts ++ lineOf (suc d ∷ fourBytes (getD counts (suc d) 0))
+unfolding levelLines levelLine
+levels-more d counts = Writing.levels-more (lineAt counts) (suc d)
 
 four-bytes : (x : ℕ) → fourBytes x ≡ x / 16777216 % 256 ∷ x / 65536 % 256 ∷ x / 256 % 256 ∷ x % 256 ∷ []
 unfolding fourBytes

@@ -14,7 +14,7 @@ use Rattle.search.specs.Blank.{blankRefusal, blanked, blankOf}
 use Rattle.search.specs.Close.{isReady, isPastLast, closeRefusal, nextPhase, closed, closeOf}
 use Rattle.search.specs.Entries.{bytesFor}
 use Rattle.search.specs.Expand.{expandRefusal, expansion, expandedJob, expandOf}
-use Rattle.search.specs.JobState.{lastLevel, isCoherent, isBlanking, isLevel, isReverse, inForward, inReverse, isFinished, levelOf, segmentCountOf, stackCountAt, logLength, passedOf, countOf, isLoaded, isSwept, progressed, directed}
+use Rattle.search.specs.JobState.{lastLevel, isCoherent, isBlanking, isLevel, isReverse, inForward, inReverse, isFinished, levelOf, segmentCountOf, stackCountAt, logLength, passedOf, countOf, isLoaded, isSwept, progressed, recounted, directed}
 use Rattle.search.specs.Look.{lookRefusal}
 use Rattle.search.specs.Changed.{listBytes}
 use Rattle.search.specs.Load.{loadRefusal, changedOf, loadOf}
@@ -235,7 +235,7 @@ module _ (job : Job) (j : ℕ) (segment : List ℕ) where
     blanked job j,
     record {
       refusal = 0;
-      job = progressed job (job .phase) (set (job .passed) j (stackCountAt job j)) (job .waiting) (job .counts);
+      job = progressed job (job .phase) (set (job .passed) j (stackCountAt job j)) (job .waiting);
     },
   )
   unfolding blankOf
@@ -251,7 +251,7 @@ module _ (job : Job) (j : ℕ) (segment : List ℕ) where
   blank-refusal = names-refusal (λ o. o .1 .refusal) (blankRefusal job j (length segment)) blank-accepted blank-refused refl refl
 
   pub blank-phase : blankOf job j segment .1 .job .phase ≡ job .phase
-  unfolding progressed
+  unfolding progressed recounted
   blank-phase =
       whether-refused (λ o. o .1 .job .phase) (job .phase) (blankRefusal job j (length segment)) blank-accepted blank-refused (λ e. refl) refl
 
@@ -279,12 +279,12 @@ module _ (job : Job) (j : ℕ) (segment : List ℕ) where
         names-refusal (λ o. o .2 .refusal) (expandRefusal job j (length segment) (length log)) expand-accepted expand-refused refl refl
 
     pub expand-phase : expandOf job j segment log .2 .job .phase ≡ job .phase
-    unfolding expandedJob progressed
+    unfolding expandedJob progressed recounted
     expand-phase =
         whether-refused (λ o. o .2 .job .phase) (job .phase) (expandRefusal job j (length segment) (length log)) expand-accepted expand-refused (λ e. refl) refl
 
     pub settle-accepted : settleRefusal job j (length segment) log ≡ 0
-        → (let marks = markAll (job .terms .size) (levelOf (job .phase)) (indexesOf (job .terms .size) j (pending job j log)) (marksFrom job segment) in
+        → (let marks = markAll (job .terms) (levelOf (job .phase)) (indexesOf (job .terms .size) j (pending job j log)) (marksFrom job segment) in
         settleOf job j segment log ≡ (
           marks .segment,
           record { refusal = 0; job = markedJob job (job .passed) (set (job .waiting) j 0) marks },
@@ -301,7 +301,7 @@ module _ (job : Job) (j : ℕ) (segment : List ℕ) where
     settle-refusal = names-refusal (λ o. o .1 .refusal) (settleRefusal job j (length segment) log) settle-accepted settle-refused refl refl
 
     pub settle-phase : settleOf job j segment log .1 .job .phase ≡ job .phase
-    unfolding progressed
+    unfolding progressed recounted
     settle-phase =
         whether-refused (λ o. o .1 .job .phase) (job .phase) (settleRefusal job j (length segment) log) settle-accepted settle-refused (λ e. refl) refl
 
@@ -326,7 +326,7 @@ module _ (job : Job) (b : ℕ) (segment list : List ℕ) where
 
 module _ (job : Job) (j : ℕ) (segment list : List ℕ) where
   pub sweep-accepted : sweepRefusal job j (length segment) (length list) ≡ 0
-      → (let marks = markAll (job .terms .size) (levelOf (job .phase)) (indexesOf (job .terms .size) j (reachedIn job j list)) (marksFrom job segment) in
+      → (let marks = markAll (job .terms) (levelOf (job .phase)) (indexesOf (job .terms .size) j (reachedIn job j list)) (marksFrom job segment) in
       sweepOf job j segment list ≡ (
         marks .segment,
         record {
@@ -346,7 +346,7 @@ module _ (job : Job) (j : ℕ) (segment list : List ℕ) where
   sweep-refusal = names-refusal (λ o. o .1 .refusal) (sweepRefusal job j (length segment) (length list)) sweep-accepted sweep-refused refl refl
 
   pub sweep-phase : sweepOf job j segment list .1 .job .phase ≡ job .phase
-  unfolding directed progressed
+  unfolding directed progressed recounted
   sweep-phase =
       whether-refused (λ o. o .1 .job .phase) (job .phase) (sweepRefusal job j (length segment) (length list)) sweep-accepted sweep-refused (λ e. refl) refl
 
@@ -360,7 +360,7 @@ module _ (job : Job) (way : Way) where
   close-refused h = rw (ne-eqb (closeRefusal job) 0 h)
 
   pub close-phase : closeOf job way .job .phase ≡ cond (eqb (closeRefusal job) 0) (nextPhase (job .counts) (job .phase)) (job .phase)
-  unfolding closeOf closed directed progressed
+  unfolding closeOf closed directed progressed recounted
   close-phase = go (eqb (closeRefusal job) 0)
     where
       go : (t : Bool) → cond t (closed job way) job .phase ≡ cond t (nextPhase (job .counts) (job .phase)) (job .phase)

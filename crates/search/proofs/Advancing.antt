@@ -21,7 +21,7 @@ use Rattle.search.specs.Close.{isDone, isSweptWhole, isReady, isPastLast
 use Rattle.search.specs.Drive.{hasEnded}
 use Rattle.search.specs.Entries.{bytesFor}
 use Rattle.search.specs.Expand.{childrenOf, expandRefusal, expansion, expandedJob, expandOf}
-use Rattle.search.specs.JobState.{isCoherent, isBlanking, isLevel, isFinished, isReverse, inReverse, levelOf, lastLevel, noSegment, stackCountOf, segmentCountOf, stackCountAt, movesOf, passedOf, waitingOf, countOf, isLoaded, isSwept, sweptOf, progressed, directed}
+use Rattle.search.specs.JobState.{isCoherent, isBlanking, isLevel, isFinished, isReverse, inReverse, levelOf, lastLevel, noSegment, stackCountOf, segmentCountOf, stackCountAt, movesOf, passedOf, waitingOf, countOf, isLoaded, isSwept, sweptOf, progressed, recounted, directed}
 use Rattle.search.specs.Promise.{Continues, rightLengths}
 use Rattle.search.specs.Settle.{settleRefusal, settleOf}
 use Rattle.search.specs.Changed.{listBytes}
@@ -146,7 +146,7 @@ module _ {terms : Terms} (given : Given terms) {w : World} (invariant : Invarian
 
   module _ (way : Way) (ready : isReady (w .job) ≡ true) (on : hasEnded (w .job) ≡ false) (low : levelOf (w .job .phase) ≤ lastLevel) where
     pub close-nearer : levelsLeft (closedWorld w way .job .phase) < levelsLeft (w .job .phase)
-    unfolding closedWorld closed progressed directed
+    unfolding closedWorld closed progressed recounted directed
     close-nearer = next-nearer (w .job .counts) (w .job .phase) (on-unfinished (w .job) on) low
 
     pub close-accepts : closeRefusal (w .job) ≡ 0
@@ -298,22 +298,22 @@ module _ {terms : Terms} (given : Given terms) {w : World} (invariant : Invarian
       settled = settleOf (w .job) j (getD (w .segments) j []) (w .log) .1 .job
 
       pub settled-phase : settled .phase ≡ w .job .phase
-      unfolding progressed
+      unfolding progressed recounted
       settled-phase = ap (λ (o : List ℕ × Answer). o .1 .job .phase) (settle-accepted (w .job) j (getD (w .segments) j []) (w .log) settle-accepts)
 
       pub settled-forward : inReverse settled ≡ false
-      unfolding progressed inReverse
+      unfolding progressed recounted inReverse
       settled-forward =
           ap (λ (o : List ℕ × Answer). inReverse (o .1 .job)) (settle-accepted (w .job) j (getD (w .segments) j []) (w .log) settle-accepts)
           ∙ search-forward
 
       pub settled-passed : (i : ℕ) → passedOf settled i ≡ passedOf (w .job) i
-      unfolding progressed passedOf
+      unfolding progressed recounted passedOf
       settled-passed i =
           ap (λ (o : List ℕ × Answer). passedOf (o .1 .job) i) (settle-accepted (w .job) j (getD (w .segments) j []) (w .log) settle-accepts)
 
       settled-waiting : (i : ℕ) → waitingOf settled i ≡ getD (set (w .job .waiting) j 0) i 0
-      unfolding progressed waitingOf
+      unfolding progressed recounted waitingOf
       settled-waiting i =
           ap (λ (o : List ℕ × Answer). waitingOf (o .1 .job) i) (settle-accepted (w .job) j (getD (w .segments) j []) (w .log) settle-accepts)
 
@@ -345,18 +345,18 @@ module _ {terms : Terms} (given : Given terms) {w : World} (invariant : Invarian
         grown = expandOf (w .job) j (getD (w .segments) j []) (w .log) .2 .job
 
         pub grown-phase : grown .phase ≡ w .job .phase
-        unfolding expandedJob progressed
+        unfolding expandedJob progressed recounted
         grown-phase =
             ap (λ (o : List ℕ × List ℕ × Expanded). o .2 .job .phase) (expand-accepted (w .job) j (getD (w .segments) j []) (w .log) expand-accepts)
 
         pub grown-forward : inReverse grown ≡ false
-        unfolding expandedJob progressed inReverse
+        unfolding expandedJob progressed recounted inReverse
         grown-forward =
             ap (λ (o : List ℕ × List ℕ × Expanded). inReverse (o .2 .job)) (expand-accepted (w .job) j (getD (w .segments) j []) (w .log) expand-accepts)
             ∙ search-forward
 
         pub grown-others : (i : ℕ) → (i ≡ j → ⊥) → passedOf grown i ≡ passedOf (w .job) i
-        unfolding expandedJob progressed passedOf
+        unfolding expandedJob progressed recounted passedOf
         grown-others i ne =
             ap (λ (o : List ℕ × List ℕ × Expanded). passedOf (o .2 .job) i) (expand-accepted (w .job) j (getD (w .segments) j []) (w .log) expand-accepts)
             ∙ getD-set-other (w .job .passed) j i (expansion (w .job) j (getD (w .segments) j []) (w .log) .at) 0 ne
@@ -492,7 +492,7 @@ module _ {terms : Terms} (given : Given terms) {w : World} (invariant : Invarian
       abbrev pub swept : Job
       swept = sweepOf (w .job) j (getD (w .segments) j []) (w .changed) .1 .job
 
-      pub swept-is : {A : Type 0} (f : Job → A) → (let marks = markAll (w .job .terms .size) (levelOf (w .job .phase)) (indexesOf (w .job .terms .size) j (reachedIn (w .job) j (w .changed))) (marksFrom (w .job) (getD (w .segments) j [])) in
+      pub swept-is : {A : Type 0} (f : Job → A) → (let marks = markAll (w .job .terms) (levelOf (w .job .phase)) (indexesOf (w .job .terms .size) j (reachedIn (w .job) j (w .changed))) (marksFrom (w .job) (getD (w .segments) j [])) in
           f swept ≡ f (directed (markedJob (w .job) (w .job .passed) (w .job .waiting) marks) (w .job .way) (w .job .loaded) (withPair (w .job) j)))
       swept-is f = ap (λ (o : List ℕ × Answer). f (o .1 .job)) (sweep-accepted (w .job) j (getD (w .segments) j []) (w .changed) sweep-accepts)
 
@@ -504,7 +504,7 @@ module _ {terms : Terms} (given : Given terms) {w : World} (invariant : Invarian
       swept-pairs = swept-is (λ job. job .swept)
 
       unfoldable pub sweep-advances : Advances
-      unfolding outcome isLentOwn isOwn refusalOf lent kept lentList progressed directed inReverse
+      unfolding outcome isLentOwn isOwn refusalOf lent kept lentList progressed recounted directed inReverse
       sweep-advances =
           let call : Call (rightLengths terms) = doSweep j own ownList in
           let new = pair-new (w .job) j listed-loaded left swept swept-pairs in

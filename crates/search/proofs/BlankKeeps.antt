@@ -65,7 +65,7 @@ blanked-length job j = go (eqb (goalOf job / job .terms .size) j)
 -- the world after segment j is blanked
 unfoldable pub blankedWorld : World → ℕ → World
 blankedWorld w j =
-    withJob (progressed (w .job) (w .job .phase) (set (w .job .passed) j (stackCountAt (w .job) j)) (w .job .waiting) (w .job .counts))
+    withJob (progressed (w .job) (w .job .phase) (set (w .job .passed) j (stackCountAt (w .job) j)) (w .job .waiting))
     (withSegment j (blanked (w .job) j) w)
 
 pub blank-world : (w : World) (j : ℕ) → blankRefusal (w .job) j (length (getD (w .segments) j [])) ≡ 0

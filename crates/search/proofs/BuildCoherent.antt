@@ -5,12 +5,11 @@ use mathlib.Core.Bool.{true, not, cond}
 use mathlib.Core.List.{[]}
 use Prim.Native.Nat.{ℕ, _≤_, _<_}
 use native.Mathlib.Omega.{arith}
-use lib.Dec.{leb, ltb, eqb}
+use lib.Dec.{leb, ltb}
 use lib.ListN.{getD}
 use borrow.Author.Tests.{lt-ltb, le-ltb, le-leb, eq-eqb}
-use Rattle.base.proofs.Tests.{and-both, or-right, lt-or-ge, eq-or-ne}
-use Rattle.graph.proofs.Counts.{found}
-use Rattle.graph.proofs.Tally.{tally-le}
+use Rattle.base.proofs.Tests.{and-both, or-right, lt-or-ge}
+use Rattle.graph.proofs.LevelCounts.{counting-le, counted-le}
 use Rattle.stacks.proofs.KindLaws.{count-fits}
 use Rattle.search.specs.Blank.{blanked}
 use Rattle.search.specs.Build.{World}
@@ -18,9 +17,9 @@ use Rattle.search.specs.JobState.{lastLevel, noSegment, countLimit, segm
 use Rattle.search.specs.Terms.{N, G, m}
 use Rattle.search.specs.declared.Terms.{Terms}
 use Rattle.search.proofs.Coherence.{facts-coherent}
-use Rattle.search.proofs.Invariant.{Shaped, Blanks, Searches, Ended, InPhase, blanking, searching, ended, Invariant, entryIn}
+use Rattle.search.proofs.Invariant.{Shaped, Blanks, Searches, Ended, InPhase, blanking, searching, ended, Invariant}
 use Rattle.search.proofs.Shapes.{room-is, segments-is, stacks-is, begins-is}
-use Rattle.search.proofs.Given.{Given, beyond, D}
+use Rattle.search.proofs.Given.{Given}
 
 -- a log that is within bounds by what it may hold there
 within : (x j g C : ℕ) → (j < g → x ≤ C) → (g ≤ j → x ≡ 0) → x ≤ cond (ltb j g) C 0
@@ -86,20 +85,9 @@ module _ {terms : Terms} (given : Given terms) {w : World} (shaped : Shaped term
       (s .passed-fits)
       (s .waiting-fits)
       (s .waiting-beyond)
-      (λ i. count i (lt-or-ge i d) (eq-or-ne i d))
+      (counting-le (s .counts))
       (ap phaseFits (s .phase-is)
       ∙ and-both (leb 1 d) (leb d lastLevel) (le-leb 1 d (s .level .positive)) (le-leb d lastLevel (s .last)))
-    where
-      count : (i : ℕ) → (i < d) ⊎ (d ≤ i) → (i ≡ d) ⊎ (i ≡ d → ⊥) → countOf (w .job) i ≤ N terms
-      count i (inl h) e = omega (arith, s .counts-below i h, tally-le (λ v. eqb (D terms v) i) (N terms))
-      count i (inr h) (inl e) =
-          omega (
-            arith,
-            ap (countOf (w .job)) e,
-            s .counts-here,
-            tally-le (found (λ v. true) (D terms) d (entryIn (terms .size) (w .segments))) (N terms),
-          )
-      count i (inr h) (inr ne) = omega (arith, s .counts-above i (omega arith))
 
   ended-coherent : {d : ℕ} → Ended terms w d → isCoherent (w .job) ≡ true
   unfolding phaseFits
@@ -108,12 +96,8 @@ module _ {terms : Terms} (given : Given terms) {w : World} (shaped : Shaped term
       (λ j. omega (arith, s .none-passed j))
       (λ j. omega (arith, s .none-waits j))
       (λ j h. s .none-waits j)
-      (λ i. count i (lt-or-ge i beyond))
+      (counted-le (s .counts) (omega (arith, s .last)))
       (ap phaseFits (s .phase-is) ∙ lt-ltb d lastLevel (s .last))
-    where
-      count : (i : ℕ) → (i < beyond) ⊎ (beyond ≤ i) → countOf (w .job) i ≤ N terms
-      count i (inl h) = omega (arith, s .counts i h, tally-le (λ v. eqb (D terms v) i) (N terms))
-      count i (inr h) = omega (arith, s .counts-past i (omega (arith, s .last)))
 
 pub invariant-coherent : {terms : Terms} {w : World} → Given terms → Invariant terms w
     → isCoherent (w .job) ≡ true

@@ -19,15 +19,16 @@ use Rattle.search.specs.Begin.{begun, beginOf}
 use Rattle.search.specs.Blank.{blankRefusal, blankOf}
 use Rattle.search.specs.Close.{isPastLast, closeRefusal, nextPhase, nextCounts, closed, closeOf}
 use Rattle.search.specs.Entries.{entryAt, bytesFor}
-use Rattle.search.specs.JobState.{lastLevel, countPlaces, countLimit, levelOf, segmentCountOf, stackCountAt, stackCountOf, passedOf, waitingOf, countOf, phaseFits, isLoaded, sweptOf, loadedFits, isCoherent, progressed, directed}
+use Rattle.search.specs.JobState.{lastLevel, countPlaces, countLimit, levelOf, segmentCountOf, stackCountAt, stackCountOf, passedOf, waitingOf, countOf, phaseFits, isLoaded, sweptOf, loadedFits, isCoherent, progressed, recounted, directed}
 use Rattle.search.specs.Load.{loadRefusal, loadOf}
 use Rattle.search.specs.Segments.{segmentLimit, stackCountIn}
 use Rattle.search.specs.Settle.{settleRefusal, settleOf}
 use Rattle.search.specs.Sweep.{sweepRefusal, isReached, reachedIn, withPair, sweepOf}
-use Rattle.search.specs.Marks.{Marks, markOne, markAll, marksFrom, markedJob}
+use Rattle.search.specs.Marks.{everyStack, foundOne, Marks, markOne, markAll, foundAt, withFound, marksFrom, markedJob}
 use Rattle.search.specs.Logs.{indexesOf, pending}
 use Rattle.search.specs.Terms.{beginRefusal}
 use Rattle.search.specs.declared.Answer.{Answer}
+use Rattle.search.specs.declared.Found.{Found}
 use Rattle.search.specs.declared.Job.{Job}
 use Rattle.search.specs.declared.Phase.{Phase}
 use Rattle.search.specs.declared.Phase.the-variants.{Blanking, Level, Finished}
@@ -37,7 +38,7 @@ use Rattle.search.proofs.Accepted.{SweepFacts, past-facts, close-facts,
 use Rattle.search.proofs.Coherence.{Coherent, coherent-facts, facts-coherent, begin-given}
 use Rattle.search.proofs.Given as Given
 use Rattle.search.proofs.PairLaws.{loaded-below, none-swept, pair-fits}
-use Rattle.search.proofs.MarkLaws.{mark-unseen, mark-seen, mark-length, mark-other, mark-new}
+use Rattle.search.proofs.MarkLaws.{counted-le, mark-unseen, mark-seen, mark-length, mark-other, mark-new}
 
 -- a number that is set stays within a bound that both it and the old one meet
 pub set-fits : (xs : List ℕ) (j v i b : ℕ) → (i ≡ j → v ≤ b) → getD xs i 0 ≤ b → getD (set xs j v) i 0 ≤ b
@@ -55,43 +56,56 @@ one-fits = omega arith
 -- ---- marks
 
 -- how many of the first m entries are unseen
-abbrev pub unseenIn : ℕ → List ℕ → ℕ
+abbrev unseenIn : ℕ → List ℕ → ℕ
 unseenIn m segment = tally (λ i. eqb (entryAt segment i) 3) (from 0 m)
 
--- a mark adds one to the count just where it takes an unseen entry away
-pub mark-budget : (S d v m : ℕ) (marks : Marks) → v % S < m → length (marks .segment) ≡ bytesFor m
-    → markOne S d v marks .count + unseenIn m (markOne S d v marks .segment) ≡ marks .count + unseenIn m (marks .segment)
-mark-budget S d v m marks h long = go (eq-or-ne (entryAt (marks .segment) (v % S)) 3)
-  where
-    go : (entryAt (marks .segment) (v % S) ≡ 3) ⊎ (entryAt (marks .segment) (v % S) ≡ 3 → ⊥)
-        → markOne S d v marks .count + unseenIn m (markOne S d v marks .segment) ≡ marks .count + unseenIn m (marks .segment)
-    go (inl e) =
-        omega (
-          arith,
-          ap (λ (x : Marks). x .count) (mark-unseen S d v marks e),
-          tally-one-more
-              (λ u. eqb (entryAt (markOne S d v marks .segment) u) 3)
-              (λ u. eqb (entryAt (marks .segment) u) 3)
-              m
-              (v % S)
-              h
-              (ne-eqb (entryAt (markOne S d v marks .segment) (v % S)) 3 (λ q. omega (arith, mark-new S d v m marks h long e)))
-              (eq-eqb (entryAt (marks .segment) (v % S)) 3 e)
-              (λ u l ne. ap (λ (x : ℕ). eqb x 3) (sym (mark-other S d v marks u ne))),
-        )
-    go (inr ne) = rw (mark-seen S d v marks ne)
+-- what a level has found fits, with all that is still unseen
+pub record Budget (m most : ℕ) (marks : Marks) : Type 0 where
+  pub count : marks .found .count + unseenIn m (marks .segment) ≤ most
 
-all-budget : (S d j m : ℕ) (offsets : List ℕ) (marks : Marks) → m ≤ S → all (λ i. ltb i m) offsets ≡ true → length (marks .segment) ≡ bytesFor m
-    → (let marked = markAll S d (indexesOf S j offsets) marks in
-    marked .count + unseenIn m (marked .segment) ≡ marks .count + unseenIn m (marks .segment))
+-- a mark adds at most one to a count, and only where it takes an unseen entry away
+pub mark-budget : (terms : Terms) (d v m : ℕ) {most : ℕ} (marks : Marks) → v % terms .size < m → length (marks .segment) ≡ bytesFor m
+    → Budget m most marks → Budget m most (markOne terms d v marks)
+unfolding foundOne
+mark-budget terms d v m {most} marks h long budget = go (eq-or-ne (entryAt (marks .segment) (v % terms .size)) 3)
+  where
+    go : (entryAt (marks .segment) (v % terms .size) ≡ 3) ⊎ (entryAt (marks .segment) (v % terms .size) ≡ 3 → ⊥) → Budget m most (markOne terms d v marks)
+    go (inl e) =
+        let fewer =
+        tally-one-more
+        (λ u. eqb (entryAt (markOne terms d v marks .segment) u) 3)
+        (λ u. eqb (entryAt (marks .segment) u) 3)
+        m
+        (v % terms .size)
+        h
+        (ne-eqb (entryAt (markOne terms d v marks .segment) (v % terms .size)) 3 (λ q. omega (arith, mark-new terms d v m marks h long e)))
+        (eq-eqb (entryAt (marks .segment) (v % terms .size)) 3 e)
+        (λ u l ne. ap (λ (x : ℕ). eqb x 3) (sym (mark-other terms d v marks u ne))) in
+        let now : markOne terms d v marks .found ≡ foundOne terms v (marks .found) = ap (λ (x : Marks). x .found) (mark-unseen terms d v marks e) in
+        record { count = omega (arith, ap (λ (x : Found). x .count) now, counted-le (everyStack terms) v (marks .found .count), fewer, budget .count) }
+    go (inr ne) = rw (mark-seen terms d v marks ne) budget
+
+all-budget : (terms : Terms) (d j m : ℕ) {most : ℕ} (offsets : List ℕ) (marks : Marks) → m ≤ terms .size → all (λ i. ltb i m) offsets ≡ true
+    → length (marks .segment) ≡ bytesFor m → Budget m most marks → Budget m most (markAll terms d (indexesOf (terms .size) j offsets) marks)
 unfolding markAll indexesOf all
-all-budget S d j m [] marks l h long = refl
-all-budget S d j m (i ∷ offsets) marks l h long =
-    let v : ℕ = j * S + i in
+all-budget terms d j m [] marks l h long budget = budget
+all-budget terms d j m (i ∷ offsets) marks l h long budget =
+    let v : ℕ = j * terms .size + i in
     let fits : i < m = ltb-true i m (and-left (ltb i m) (all (λ i. ltb i m) offsets) h) in
-    let place : v % S ≡ i = digits-mod j (let small : i < S = omega arith in small) in
-    all-budget S d j m offsets (markOne S d v marks) l (and-right (ltb i m) (all (λ i. ltb i m) offsets) h) (mark-length S d v marks ∙ long)
-    ∙ mark-budget S d v m marks (rw place fits) long
+    let place : v % terms .size ≡ i = digits-mod j (let small : i < terms .size = omega arith in small) in
+    all-budget terms d j m offsets (markOne terms d v marks) l (and-right (ltb i m) (all (λ i. ltb i m) offsets) h) (mark-length terms d v marks ∙ long)
+    (mark-budget terms d v m marks (rw place fits) long budget)
+
+-- what a level has found fits in the job's counts
+module _ (job : Job) (d m : ℕ) where
+  -- with room for m stacks more, there is for those of a segment that are unseen
+  pub start-budget : countOf job d + m ≤ countLimit → (segment : List ℕ) → Budget m countLimit (record { segment = segment; found = foundAt job d })
+  start-budget room segment = record { count = omega (arith, tally-le (λ i. eqb (entryAt segment i) 3) m) }
+
+  pub found-fits : ((i : ℕ) → countOf job i ≤ countLimit) → {marks : Marks} → Budget m countLimit marks
+      → (i : ℕ) → countOf (withFound job d (marks .found)) i ≤ countLimit
+  unfolding countOf recounted
+  found-fits fit {marks} budget i = set-fits (job .counts) d (marks .found .count) i countLimit (λ e. omega (arith, budget .count)) (fit i)
 
 -- ---- Begin
 
@@ -121,10 +135,10 @@ module _ (job : Job) (coherent : isCoherent job ≡ true) where
 
   -- ---- Blank
 
-  blanked-coherent : (j : ℕ) → isCoherent (progressed job (job .phase) (set (job .passed) j (stackCountAt job j)) (job .waiting) (job .counts)) ≡ true
+  blanked-coherent : (j : ℕ) → isCoherent (progressed job (job .phase) (set (job .passed) j (stackCountAt job j)) (job .waiting)) ≡ true
   unfolding progressed passedOf waitingOf sweptOf countOf stackCountAt stackCountOf segmentCountOf loadedFits isLoaded
   blanked-coherent j =
-      facts-coherent (progressed job (job .phase) (set (job .passed) j (stackCountAt job j)) (job .waiting) (job .counts))
+      facts-coherent (progressed job (job .phase) (set (job .passed) j (stackCountAt job j)) (job .waiting))
       (record {
         begins = facts .begins;
         phase-fits = facts .phase-fits;
@@ -167,7 +181,7 @@ module _ (job : Job) (coherent : isCoherent job ≡ true) where
   next-counts (Finished l) d = facts .counts-fit d
 
   closed-coherent : (way : Way) → isPastLast job ≡ false → isCoherent (closed job way) ≡ true
-  unfolding closed progressed directed passedOf waitingOf sweptOf countOf segmentCountOf stackCountOf loadedFits isLoaded
+  unfolding closed progressed recounted directed passedOf waitingOf sweptOf countOf segmentCountOf stackCountOf loadedFits isLoaded
   closed-coherent way unpast =
       facts-coherent (closed job way)
       (record {
@@ -217,22 +231,19 @@ module _ (job : Job) (coherent : isCoherent job ≡ true) where
 
   module _ (j : ℕ) (segment log : List ℕ) (room : countOf job (levelOf (job .phase)) + stackCountAt job j ≤ countLimit) where
     abbrev marked : Marks
-    marked = markAll (job .terms .size) (levelOf (job .phase)) (indexesOf (job .terms .size) j (pending job j log)) (marksFrom job segment)
+    marked = markAll (job .terms) (levelOf (job .phase)) (indexesOf (job .terms .size) j (pending job j log)) (marksFrom job segment)
 
-    settled-count : settleRefusal job j (length segment) log ≡ 0 → marked .count ≤ countLimit
+    settled-budget : settleRefusal job j (length segment) log ≡ 0 → Budget (stackCountAt job j) countLimit marked
     unfolding stackCountAt stackCountIn
-    settled-count h =
+    settled-budget h =
         let f = settle-facts job j (length segment) log h in
-        omega (
-          arith,
-          all-budget (job .terms .size) (levelOf (job .phase)) j (stackCountAt job j) (pending job j log) (marksFrom job segment)
-              (let l : stackCountAt job j ≤ job .terms .size = omega arith in l) (f .1) (f .0 .long),
-          tally-le (λ i. eqb (entryAt segment i) 3) (stackCountAt job j),
-        )
+        all-budget (job .terms) (levelOf (job .phase)) j (stackCountAt job j) (pending job j log) (marksFrom job segment)
+        (let l : stackCountAt job j ≤ job .terms .size = omega arith in l) (f .1) (f .0 .long)
+        (start-budget job (levelOf (job .phase)) (stackCountAt job j) room segment)
 
     settled-coherent : settleRefusal job j (length segment) log ≡ 0
         → isCoherent (markedJob job (job .passed) (set (job .waiting) j 0) marked) ≡ true
-    unfolding progressed passedOf waitingOf sweptOf countOf stackCountAt stackCountOf segmentCountOf loadedFits isLoaded
+    unfolding progressed recounted passedOf waitingOf sweptOf countOf stackCountAt stackCountOf segmentCountOf loadedFits isLoaded
     settled-coherent h =
         facts-coherent (markedJob job (job .passed) (set (job .waiting) j 0) marked)
         (record {
@@ -240,7 +251,7 @@ module _ (job : Job) (coherent : isCoherent job ≡ true) where
           phase-fits = facts .phase-fits;
           passed-fits = facts .passed-fits;
           waiting-fits = λ i l. set-fits (job .waiting) j 0 i (cond (ltb i (segmentCountOf job)) (job .terms .room) 0) (λ e. omega arith) (facts .waiting-fits i l);
-          counts-fit = λ d. set-fits (job .counts) (levelOf (job .phase)) (marked .count) d countLimit (λ e. settled-count h) (facts .counts-fit d);
+          counts-fit = found-fits job (levelOf (job .phase)) (stackCountAt job j) (facts .counts-fit) (settled-budget h);
           loaded-fits = facts .loaded-fits;
           swept-fits = facts .swept-fits;
         })
@@ -257,7 +268,7 @@ module _ (job : Job) (coherent : isCoherent job ≡ true) where
 
   module _ (j : ℕ) (segment list : List ℕ) (room : countOf job (levelOf (job .phase)) + stackCountAt job j ≤ countLimit) where
     abbrev found : Marks
-    found = markAll (job .terms .size) (levelOf (job .phase)) (indexesOf (job .terms .size) j (reachedIn job j list)) (marksFrom job segment)
+    found = markAll (job .terms) (levelOf (job .phase)) (indexesOf (job .terms .size) j (reachedIn job j list)) (marksFrom job segment)
 
     -- what is reached is an offset of the segment
     reached-below : all (λ i. ltb i (stackCountAt job j)) (reachedIn job j list) ≡ true
@@ -269,21 +280,18 @@ module _ (job : Job) (coherent : isCoherent job ≡ true) where
         lt-ltb (getD (reachedIn job j list) k 0) (stackCountAt job j)
         (omega (arith, r .1, r .3, from-length 0 (stackCountAt job j), getD-from 0 (stackCountAt job j) (r .0) 0 (omega (arith, r .1, from-length 0 (stackCountAt job j))))))
 
-    found-count : length segment ≡ bytesFor (stackCountAt job j) → found .count ≤ countLimit
+    found-budget : length segment ≡ bytesFor (stackCountAt job j) → Budget (stackCountAt job j) countLimit found
     unfolding stackCountAt stackCountIn
-    found-count long =
-        omega (
-          arith,
-          all-budget (job .terms .size) (levelOf (job .phase)) j (stackCountAt job j) (reachedIn job j list) (marksFrom job segment)
-              (let l : stackCountAt job j ≤ job .terms .size = omega arith in l) reached-below long,
-          tally-le (λ i. eqb (entryAt segment i) 3) (stackCountAt job j),
-        )
+    found-budget long =
+        all-budget (job .terms) (levelOf (job .phase)) j (stackCountAt job j) (reachedIn job j list) (marksFrom job segment)
+        (let l : stackCountAt job j ≤ job .terms .size = omega arith in l) reached-below long
+        (start-budget job (levelOf (job .phase)) (stackCountAt job j) room segment)
 
     abbrev after : Job
     after = directed (markedJob job (job .passed) (job .waiting) found) (job .way) (job .loaded) (withPair job j)
 
     swept-coherent : SweepFacts job j (length segment) (length list) → isCoherent after ≡ true
-    unfolding progressed directed passedOf waitingOf sweptOf countOf stackCountAt stackCountOf segmentCountOf loadedFits isLoaded
+    unfolding progressed recounted directed passedOf waitingOf sweptOf countOf stackCountAt stackCountOf segmentCountOf loadedFits isLoaded
     swept-coherent f =
         facts-coherent after
         (record {
@@ -291,7 +299,7 @@ module _ (job : Job) (coherent : isCoherent job ≡ true) where
           phase-fits = facts .phase-fits;
           passed-fits = facts .passed-fits;
           waiting-fits = facts .waiting-fits;
-          counts-fit = λ d. set-fits (job .counts) (levelOf (job .phase)) (found .count) d countLimit (λ e. found-count (f .long)) (facts .counts-fit d);
+          counts-fit = found-fits job (levelOf (job .phase)) (stackCountAt job j) (facts .counts-fit) (found-budget (f .long));
           loaded-fits = facts .loaded-fits;
           swept-fits = λ b l. pair-fits job j (f .left) after refl (segmentCountOf job) low (f .called .inside)
               (facts .swept-fits (job .loaded) (omega (arith, low, few)))

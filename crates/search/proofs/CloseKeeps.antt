@@ -4,7 +4,7 @@ use mathlib.Core.Logic.{_⊎_, inl, inr}
 use mathlib.Core.Bool.{Bool, true, false, not, cond}
 use mathlib.Core.List.{List, []}
 use Prim.Native.Nat.{ℕ, suc, _+_, _-_, _/_, _%_, _^_, _≤_, _<_}
-use native.Mathlib.Nat.{div-add-mod', le-refl}
+use native.Mathlib.Nat.{div-add-mod'}
 use native.Mathlib.Numerals.{add-one}
 use native.Mathlib.Omega.{arith}
 use lib.Dec.{eqb}
@@ -17,14 +17,15 @@ use Rattle.base.proofs.Counting.{all-below}
 use Rattle.base.proofs.Lists.{replicate-zero}
 use Rattle.base.proofs.Tests.{and-left, and-right, test-cases, not-is-false, never, lt-or-ge, eq-or-ne}
 use Rattle.graph.specs.Walks.{isMove}
-use Rattle.graph.proofs.Counts.{found-goal, found-start, found-next, found-all}
+use Rattle.graph.proofs.LevelCounts.{counting-start, counting-whole, counting-next, counting-end}
 use Rattle.graph.proofs.Levels as Levels
-use Rattle.graph.proofs.Tally.{tally-none, tally-zero, tally-some}
+use Rattle.graph.proofs.Tally.{tally-zero, tally-some}
 use Rattle.search.specs.Blank.{goalOf, blanked}
 use Rattle.search.specs.Build.{World, withJob}
 use Rattle.search.specs.Close.{isDone, isSweptWhole, isReady, isPastLast, closeRefusal, nextPhase, nextCounts, closed, closeOf}
 use Rattle.search.specs.Entries.{entryAt, bytesFor, blank, setEntry}
-use Rattle.search.specs.JobState.{isCoherent, isLevel, isFinished, isReverse, inReverse, levelOf, lastLevel, noSegment, segmentCountOf, stackCountAt, passedOf, waitingOf, sweptOf, isSwept, countOf, progressed, directed}
+use Rattle.search.specs.JobState.{isCoherent, isLevel, isFinished, isReverse, inReverse, levelOf, lastLevel, noSegment, segmentCountOf, stackCountAt, passedOf, waitingOf, sweptOf, isSwept, countOf, progressed, recounted, directed}
+use Rattle.search.specs.Marks.{everyStack}
 use Rattle.search.specs.Segments.{segmentLimit}
 use Rattle.search.specs.Terms.{N, G, m}
 use Rattle.search.specs.declared.Answer.{Answer}
@@ -92,15 +93,15 @@ close-world w way h = ap (λ (o : Answer). withJob (o .job) w) (close-accepted (
 
 module _ (w : World) (way : Way) where
   closed-passed : (j : ℕ) → passedOf (closedWorld w way .job) j ≡ 0
-  unfolding closedWorld closed progressed directed passedOf
+  unfolding closedWorld closed progressed recounted directed passedOf
   closed-passed j = replicate-zero segmentLimit j
 
   closed-waiting : (j : ℕ) → waitingOf (closedWorld w way .job) j ≡ waitingOf (w .job) j
-  unfolding closedWorld closed progressed directed waitingOf
+  unfolding closedWorld closed progressed recounted directed waitingOf
   closed-waiting j = refl
 
   closed-swept : (b : ℕ) → sweptOf (closedWorld w way .job) b ≡ 0
-  unfolding closedWorld closed progressed directed sweptOf
+  unfolding closedWorld closed progressed recounted directed sweptOf
   closed-swept b = replicate-zero segmentLimit b
 
   closed-pair : (b j : ℕ) → isSwept (closedWorld w way .job) b j ≡ false
@@ -224,7 +225,7 @@ module _ {terms : Terms} (given : Given terms) where
           }
 
       counts-then : (i : ℕ) → countOf (closedWorld w way .job) i ≡ getD (set (w .job .counts) 0 1) i 0
-      unfolding closedWorld closed progressed directed countOf nextCounts
+      unfolding closedWorld closed progressed recounted directed countOf nextCounts
       counts-then i = ap (λ (p : Phase). getD (nextCounts (w .job .counts) p) i 0) (blanks .phase-is)
 
       counts-later : (i : ℕ) → 0 < i → countOf (closedWorld w way .job) i ≡ 0
@@ -235,7 +236,7 @@ module _ {terms : Terms} (given : Given terms) where
       counts-first = counts-then 0 ∙ getD-set-same (w .job .counts) 0 1 0 (omega (arith, shaped .counts-length))
 
       closed-blanks : Searches terms (closedWorld w way) 1
-      unfolding closedWorld closed progressed directed nextPhase countOf
+      unfolding closedWorld closed progressed recounted directed nextPhase countOf
       closed-blanks =
           let none : (j : ℕ) → waitingOf (closedWorld w way .job) j ≡ 0 = λ j. closed-waiting w way j ∙ blanks .none-waits j in
           record {
@@ -248,11 +249,7 @@ module _ {terms : Terms} (given : Given terms) where
             offsets = λ t i h l. absurd (omega (arith, none t));
             level = Levels.level-start (depths given) blank-start blank-away (λ u v g h l. no-look terms w way u v l) (no-log-after terms w way (blanks .none-waits));
             spares = blank-spares;
-            counts-below = λ i h. subst (λ (x : ℕ). countOf (closedWorld w way .job) x ≡ levelCount terms x)
-                (let e : 0 ≡ i = omega arith in e)
-                (counts-first ∙ sym (found-goal (λ v. true) (depths given) (goal-here given)));
-            counts-here = counts-later 1 (omega arith) ∙ sym (found-start (λ v. true) (depths given) blank-away);
-            counts-above = λ i h. counts-later i (omega arith);
+            counts = counting-start (everyStack terms) (depths given) (goal-here given) blank-away (countOf (closedWorld w way .job)) counts-first counts-later;
             idle = λ r. none;
             listed = λ r l. absurd (omega (arith, few given, closed-loaded w way));
           }
@@ -306,7 +303,7 @@ module _ {terms : Terms} (given : Given terms) where
   module _ {w : World} {d : ℕ} (search : Searches terms w d) (complete : Complete terms w d) where
     -- the level's count is complete
     pub count-whole : countOf (w .job) d ≡ levelCount terms d
-    count-whole = search .counts-here ∙ found-all (λ v. true) (search .level) (no-log terms w (complete .none-waits)) (complete .reached)
+    count-whole = counting-whole (search .counts) (search .level) (no-log terms w (complete .none-waits)) (complete .reached)
 
     -- where the level's count is not 0 some stack is at that depth
     level-some : (countOf (w .job) d ≡ 0 → ⊥) → (v : ℕ) × (v < N terms) × (D terms v ≡ d)
@@ -349,25 +346,17 @@ module _ {terms : Terms} (given : Given terms) where
 
     -- with the way that Close is told
     module _ (way : Way) where
-      -- a level's Close leaves the counts of the levels up to it, and 0 above
-      closed-counts : (i : ℕ) → i ≤ d → countOf (closedWorld w way .job) i ≡ levelCount terms i
-      unfolding closedWorld closed progressed directed countOf nextCounts
-      closed-counts i l = ap (λ (p : Phase). getD (nextCounts (w .job .counts) p) i 0) (search .phase-is) ∙ go (eq-or-ne i d)
-        where
-          go : (i ≡ d) ⊎ (i ≡ d → ⊥) → countOf (w .job) i ≡ levelCount terms i
-          go (inl e) = subst (λ (x : ℕ). countOf (w .job) x ≡ levelCount terms x) (sym e) count-whole
-          go (inr ne) = search .counts-below i (omega arith)
-
-      closed-above : (i : ℕ) → d < i → countOf (closedWorld w way .job) i ≡ 0
-      unfolding closedWorld closed progressed directed countOf nextCounts
-      closed-above i l = ap (λ (p : Phase). getD (nextCounts (w .job .counts) p) i 0) (search .phase-is) ∙ search .counts-above i l
+      -- a level's Close leaves the counts
+      closed-counts : (i : ℕ) → countOf (closedWorld w way .job) i ≡ countOf (w .job) i
+      unfolding closedWorld closed progressed recounted directed countOf nextCounts
+      closed-counts i = ap (λ (p : Phase). getD (nextCounts (w .job .counts) p) i 0) (search .phase-is)
 
       level-spares : Spares terms (closedWorld w way)
       unfolding closedWorld
       level-spares = record { byte = search .spares .byte; spare = search .spares .spare }
 
       closed-next : isPastLast (w .job) ≡ false → (countOf (w .job) d ≡ 0 → ⊥) → Searches terms (closedWorld w way) (suc d)
-      unfolding closedWorld closed progressed directed nextPhase countOf
+      unfolding closedWorld closed progressed recounted directed nextPhase countOf
       closed-next unpast ne =
           let v = level-some ne in
           let none : (j : ℕ) → waitingOf (closedWorld w way .job) j ≡ 0 = λ j. closed-waiting w way j ∙ complete .none-waits j in
@@ -381,16 +370,14 @@ module _ {terms : Terms} (given : Given terms) where
             offsets = λ t i h l. absurd (omega (arith, none t));
             level = Levels.level-close (search .level) (no-log terms w (complete .none-waits)) (complete .reached) (λ u v g h l. no-look terms w way u v l) (no-log-after terms w way (complete .none-waits));
             spares = level-spares;
-            counts-below = λ i h. closed-counts i (omega arith);
-            counts-here = closed-above (suc d) (omega arith) ∙ sym (found-next (λ v. true) (search .level));
-            counts-above = λ i h. closed-above i (omega arith);
+            counts = counting-next (search .counts) (search .level) (no-log terms w (complete .none-waits)) (complete .reached) closed-counts;
             idle = λ r. none;
             listed = λ r l. absurd (omega (arith, few given, closed-loaded w way));
           }
 
       module _ (empty : countOf (w .job) d ≡ 0) where
         closed-last : Ended terms (closedWorld w way) (d - 1)
-        unfolding closedWorld closed progressed directed nextPhase countOf
+        unfolding closedWorld closed progressed recounted directed nextPhase countOf
         closed-last =
             let v = search .before in
             record {
@@ -403,23 +390,10 @@ module _ {terms : Terms} (given : Given terms) where
               unreached = all-beyond empty;
               greatest = λ v h near. omega (arith, all-above empty v h near .0);
               spares = level-spares;
-              counts = λ i near. go i near (lt-or-ge d i);
-              counts-past = λ i l. past i (lt-or-ge d i) l;
+              counts = counting-end (search .counts) (search .level) (no-log terms w (complete .none-waits)) (complete .reached) closed-counts
+                  (omega (arith, search .last)) (λ v h near. all-above empty v h near .0);
               deepest = (v .0, v .1, omega (arith, v .2));
             }
-          where
-            go : (i : ℕ) → i < beyond → (d < i) ⊎ (i ≤ d) → countOf (closedWorld w way .job) i ≡ levelCount terms i
-            go i near (inl h) =
-                closed-above i h
-                ∙ sym (tally-none (λ v. eqb (D terms v) i) (N terms) (λ v l. ne-eqb (D terms v) i (λ q. omega (arith, all-above empty v l (omega arith) .0))))
-            go i near (inr h) = closed-counts i h
-
-            -- the level that closed is empty, and so is each above it
-            past : (i : ℕ) → (d < i) ⊎ (i ≤ d) → d - 1 < i → countOf (closedWorld w way .job) i ≡ 0
-            past i (inl h) l = closed-above i h
-            past i (inr h) l =
-                let e : i ≡ d = omega (arith, search .level .positive) in
-                subst (λ (x : ℕ). countOf (closedWorld w way .job) x ≡ 0) (sym e) (closed-counts d (le-refl d) ∙ sym count-whole ∙ empty)
 
 -- ---- whatever the phase
 
@@ -430,7 +404,7 @@ next-counts-length counts (Level d) = refl
 next-counts-length counts (Finished d) = refl
 
 closed-shaped : {terms : Terms} {w : World} (way : Way) → Shaped terms w → Shaped terms (closedWorld w way)
-unfolding closedWorld closed progressed directed
+unfolding closedWorld closed progressed recounted directed
 closed-shaped {terms} {w} way shaped =
     record {
       terms-is = shaped .terms-is;

@@ -386,7 +386,6 @@ rechanged {terms} {w} invariant changed same = record { shaped = shaped; phase =
           greatest = s .greatest;
           spares = record { byte = s .spares .byte; spare = s .spares .spare };
           counts = s .counts;
-          counts-past = s .counts-past;
           deepest = s .deepest;
         })
 

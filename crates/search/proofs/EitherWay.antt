@@ -13,12 +13,13 @@ use borrow.Author.Tests.{le-leb, lt-leb}
 use Rattle.base.specs.Words.{unless}
 use Rattle.base.proofs.Counting.{below-all}
 use Rattle.base.proofs.Tests.{test-cases, never, lt-or-ge, eq-or-ne}
+use Rattle.graph.proofs.LevelCounts.{counting-is}
 use Rattle.graph.proofs.Levels.{level-found}
 use Rattle.search.specs.Build.{World, Lengths, Call, outcome, after, doClose}
 use Rattle.search.specs.Close.{isReady, isPastLast, isSweptWhole, nextPhase, nextCounts, closed, closeRefusal, closeOf}
 use Rattle.search.specs.EitherWay.{SearchedWhole, SameLevel, EitherWay, JustClosed, EitherWayClosed}
 use Rattle.search.specs.Entries.{entryAt, bytesFor}
-use Rattle.search.specs.JobState.{lastLevel, segmentCountOf, countOf, isSwept, isReverse, isLevel, isFinished, levelOf, progressed, directed}
+use Rattle.search.specs.JobState.{lastLevel, segmentCountOf, countOf, isSwept, isReverse, isLevel, isFinished, levelOf, progressed, recounted, directed}
 use Rattle.search.specs.Promise.{rightLengths}
 use Rattle.search.specs.PromiseBy.{AtEnd}
 use Rattle.search.specs.Terms.{N, G, m}
@@ -30,7 +31,7 @@ use Rattle.search.proofs.Accepted.{close-facts, close-phase}
 use Rattle.search.proofs.Advancing.{all-ready, search-forward, swept-ready}
 use Rattle.search.proofs.BlankKeeps.{begun-invariant}
 use Rattle.search.proofs.BuildCoherent.{invariant-coherent}
-use Rattle.search.proofs.CloseKeeps.{closedWorld, close-world, Complete, ready-forward, ready-reverse, all-settled, ready-complete, count-whole, no-log}
+use Rattle.search.proofs.CloseKeeps.{closedWorld, close-world, Complete, ready-forward, ready-reverse, all-settled, ready-complete, no-log}
 use Rattle.search.proofs.Coherence.{begin-given}
 use Rattle.search.proofs.EntryLaws.{entries-same}
 use Rattle.search.proofs.Invariant.{Invariant, InPhase, Searches, blanking, searching, ended, entryIn}
@@ -91,7 +92,11 @@ module _ {terms : Terms} (given : Given terms) where
       complete = ready-complete given (invariant .shaped) ready search
 
       levelled : Levelled terms d w
-      levelled = record { entries = entry; counts = λ i. count i (lt-or-ge i d) (eq-or-ne i d) }
+      levelled =
+          record {
+            entries = entry;
+            counts = counting-is (search .counts) (search .level) (no-log terms w (complete .none-waits)) (complete .reached);
+          }
         where
           found : (v : ℕ) → v < N terms → D terms v ≡ d → entryIn (terms .size) (w .segments) v ≡ d % 3
           found = level-found (search .level) (no-log terms w (complete .none-waits)) (complete .reached)
@@ -109,12 +114,6 @@ module _ {terms : Terms} (given : Given terms) where
               go (inl l) e = rw (le-leb (D terms v) d (omega arith)) (search .level .below v h l)
               go (inr l) (inl e) = rw (le-leb (D terms v) d (omega arith)) (found v h e ∙ sym (ap (λ (x : ℕ). x % 3) e))
               go (inr l) (inr ne) = rw (lt-leb (D terms v) d (omega arith)) (deep v (omega arith) (search .level .above v h l))
-
-          count : (i : ℕ) → (i < d) ⊎ (d ≤ i) → (i ≡ d) ⊎ (i ≡ d → ⊥) → countOf (w .job) i ≡ cond (leb i d) (levelCount terms i) 0
-          count i (inl l) e = rw (le-leb i d (omega arith)) (search .counts-below i l)
-          count i (inr l) (inl e) =
-              rw (le-leb i d (omega arith)) (subst (λ (x : ℕ). countOf (w .job) x ≡ levelCount terms x) (sym e) (count-whole given search complete))
-          count i (inr l) (inr ne) = rw (lt-leb i d (omega arith)) (search .counts-above i (omega arith))
 
       -- Close has nothing to say but 14
       close-says : closeRefusal (w .job) ≡ unless (not (isPastLast (w .job))) 14 0
@@ -220,7 +219,7 @@ module _ {terms : Terms} (given : Given terms) {start : World} (begins : Invaria
   leads-segments = ap (λ (w : World). w .segments) leads
 
   leads-counts : after start calls .job .counts ≡ last .job .counts
-  unfolding outcome closedWorld closed directed progressed nextCounts
+  unfolding outcome closedWorld closed directed progressed recounted nextCounts
   leads-counts =
       ap (λ (w : World). w .job .counts) (leads ∙ close-world last (close .way) accepts)
       ∙ ap (nextCounts (last .job .counts)) (close .level)

@@ -73,7 +73,7 @@ module _ (S t : ℕ) where
 
 module _ (job : Job) (j : ℕ) where
   pub place-here : (c : ℕ) (e : Expansion) → c / job .terms .size ≡ j
-      → placeChild job j c e ≡ record { at = e .at; waits = e .waits; on = e .on; marks = markOne (job .terms .size) (levelOf (job .phase)) c (e .marks); logs = e .logs }
+      → placeChild job j c e ≡ record { at = e .at; waits = e .waits; on = e .on; marks = markOne (job .terms) (levelOf (job .phase)) c (e .marks); logs = e .logs }
   unfolding placeChild
   place-here c e h = rw (eq-eqb (c / job .terms .size) j h)
 

@@ -7,22 +7,21 @@ use mathlib.Core.List.{List, [], _∷_}
 use Prim.Native.Nat.{ℕ, zero, suc, _+_, _-_, _*_, _/_, _%_, _≤_, _<_}
 use native.Mathlib.Nat.{le-refl}
 use native.Mathlib.Omega.{arith}
-use lib.Dec.{ltb, eqb}
+use lib.Dec.{ltb}
 use lib.ListN.{length, getD, set, length-set}
 use lib.Seq.{getD-set-same, getD-set-other, set-out}
 use borrow.Author.Tests.{lt-ltb}
 use Rattle.base.proofs.Tests.{lt-or-ge, eq-or-ne}
-use Rattle.graph.proofs.Tally.{tally-le}
-use Rattle.search.specs.Entries.{entryAt, bytesFor}
+use Rattle.search.specs.Entries.{bytesFor}
 use Rattle.search.specs.Expand.{Expansion, placeChild, placeAll, passOne, waitFor, expandNext, expandRun, expansion, expandedJob, expandRefusal, expandOf}
-use Rattle.search.specs.JobState.{countLimit, levelOf, segmentCountOf, stackCountAt, stackCountOf, movesOf, passedOf, waitingOf, countOf, isCoherent, progressed, sweptOf, isLoaded, loadedFits}
+use Rattle.search.specs.JobState.{countLimit, levelOf, segmentCountOf, stackCountAt, stackCountOf, movesOf, passedOf, waitingOf, countOf, isCoherent, progressed, recounted, sweptOf, isLoaded, loadedFits}
 use Rattle.search.specs.Segments.{segmentLimit}
 use Rattle.search.specs.Logs.{Logs, logOne, fallingIn, lacksRoom}
-use Rattle.search.specs.Marks.{marksFrom}
+use Rattle.search.specs.Marks.{Marks, marksFrom}
 use Rattle.search.specs.declared.Expanded.{Expanded}
 use Rattle.search.specs.declared.Job.{Job}
 use Rattle.search.proofs.Accepted.{expand-facts, expand-accepted, expand-refused}
-use Rattle.search.proofs.CallsCoherent.{set-fits, unseenIn, mark-budget}
+use Rattle.search.proofs.CallsCoherent.{set-fits, Budget, mark-budget, start-budget, found-fits}
 use Rattle.search.proofs.Children.{children-inside}
 use Rattle.search.proofs.Coherence.{Coherent, coherent-facts, facts-coherent, begin-given}
 use Rattle.search.proofs.ExpandCases.{NextCase, stopped, skipped, blocked, expanded, next-case, next-at, nextChildren, nextWait, first-before, room-enough, falling-here, falling-elsewhere, place-here, place-elsewhere, place-at}
@@ -70,10 +69,10 @@ module _ (job : Job) (coherent : isCoherent job ≡ true) (j : ℕ) (inside : j 
     more : (t : ℕ) → waitingOf job t ≤ getD (logs .waiting) t 0
     kept : segmentLimit ≤ length (job .waiting) → (p : ℕ) → Untouched job (logs .waiting) p → getD (logs .log) p 0 ≡ getD log p 0
 
-  -- how far a call may have come: total is what was counted and what was unseen when it began
-  record Fitting (total : ℕ) (e : Expansion) : Type 0 where
+  -- how far a call may have come: what has room for the stacks that were unseen when it began still has
+  record Fitting (start : Marks) (e : Expansion) : Type 0 where
     bytes : length (e .marks .segment) ≡ bytesFor (stackCountAt job j)
-    budget : e .marks .count + unseenIn (stackCountAt job j) (e .marks .segment) ≡ total
+    budget : (most : ℕ) → Budget (stackCountAt job j) most start → Budget (stackCountAt job j) most (e .marks)
     at-fits : e .at ≤ stackCountAt job j
     waiting : (t : ℕ) → t < segmentLimit → getD (e .logs .waiting) t 0 ≤ logBound t
     appending : Appending (e .logs)
@@ -86,7 +85,7 @@ module _ (job : Job) (coherent : isCoherent job ≡ true) (j : ℕ) (inside : j 
   unfolding segmentCountOf
   few t h = omega (arith, sizes .few)
 
-  module _ (total c : ℕ) (children : List ℕ) (e : Expansion) (low : c < stackCountOf job) (fitting : Fitting total e) (room : Room (c ∷ children) e) where
+  module _ (start : Marks) (c : ℕ) (children : List ℕ) (e : Expansion) (low : c < stackCountOf job) (fitting : Fitting start e) (room : Room (c ∷ children) e) where
     home : c / job .terms .size < segmentCountOf job
     unfolding segmentCountOf
     home = stack-segment (stackCountOf job) (job .terms .size) some c low
@@ -95,15 +94,15 @@ module _ (job : Job) (coherent : isCoherent job ≡ true) (j : ℕ) (inside : j 
     unfolding stackCountAt
     offset = stack-offset (stackCountOf job) (job .terms .size) some c low
 
-    placed-here : c / job .terms .size ≡ j → Fitting total (placeChild job j c e) × Room children (placeChild job j c e)
+    placed-here : c / job .terms .size ≡ j → Fitting start (placeChild job j c e) × Room children (placeChild job j c e)
     placed-here h =
         let S = job .terms .size in
         let d = levelOf (job .phase) in
         let fits : c % S < stackCountAt job j = subst (λ (t : ℕ). c % S < stackCountAt job t) h offset in
         rw (place-here job j c e h) (
           record {
-            bytes = mark-length S d c (e .marks) ∙ fitting .bytes;
-            budget = mark-budget S d c (stackCountAt job j) (e .marks) fits (fitting .bytes) ∙ fitting .budget;
+            bytes = mark-length (job .terms) d c (e .marks) ∙ fitting .bytes;
+            budget = λ most b. mark-budget (job .terms) d c (stackCountAt job j) (e .marks) fits (fitting .bytes) (fitting .budget most b);
             at-fits = fitting .at-fits;
             waiting = fitting .waiting;
             appending = fitting .appending;
@@ -111,7 +110,7 @@ module _ (job : Job) (coherent : isCoherent job ≡ true) (j : ℕ) (inside : j 
           record { free = λ t l ne. omega (arith, room .free t l ne, falling-elsewhere (job .terms .size) t c children (λ q. ne (sym q ∙ h))) },
         )
 
-    placed-elsewhere : (c / job .terms .size ≡ j → ⊥) → Fitting total (placeChild job j c e) × Room children (placeChild job j c e)
+    placed-elsewhere : (c / job .terms .size ≡ j → ⊥) → Fitting start (placeChild job j c e) × Room children (placeChild job j c e)
     unfolding logOne
     placed-elsewhere ne =
         let u = c / job .terms .size in
@@ -168,24 +167,24 @@ module _ (job : Job) (coherent : isCoherent job ≡ true) (j : ℕ) (inside : j 
               getD-set-other old u t (getD old u 0 + 1) 0 other,
             )
 
-    placed : Fitting total (placeChild job j c e) × Room children (placeChild job j c e)
+    placed : Fitting start (placeChild job j c e) × Room children (placeChild job j c e)
     placed = go (eq-or-ne (c / job .terms .size) j)
       where
-        go : (c / job .terms .size ≡ j) ⊎ (c / job .terms .size ≡ j → ⊥) → Fitting total (placeChild job j c e) × Room children (placeChild job j c e)
+        go : (c / job .terms .size ≡ j) ⊎ (c / job .terms .size ≡ j → ⊥) → Fitting start (placeChild job j c e) × Room children (placeChild job j c e)
         go (inl h) = placed-here h
         go (inr ne) = placed-elsewhere ne
 
-  placed-all : (total : ℕ) (children : List ℕ) (e : Expansion) → ((i : ℕ) → i < length children → getD children i 0 < stackCountOf job)
-      → Fitting total e → Room children e → Fitting total (placeAll job j children e)
+  placed-all : (start : Marks) (children : List ℕ) (e : Expansion) → ((i : ℕ) → i < length children → getD children i 0 < stackCountOf job)
+      → Fitting start e → Room children e → Fitting start (placeAll job j children e)
   unfolding placeAll
-  placed-all total [] e low fitting room = fitting
-  placed-all total (c ∷ children) e low fitting room =
-      let p = placed total c children e (low 0 (omega arith)) fitting room in
-      placed-all total children (placeChild job j c e) (λ i l. low (suc i) (omega arith)) (p .0) (p .1)
+  placed-all start [] e low fitting room = fitting
+  placed-all start (c ∷ children) e low fitting room =
+      let p = placed start c children e (low 0 (omega arith)) fitting room in
+      placed-all start children (placeChild job j c e) (λ i l. low (suc i) (omega arith)) (p .0) (p .1)
 
   -- where no other segment lacks room, there is room
-  roomy : (total : ℕ) (e : Expansion) → Fitting total e → segmentCountOf job ≤ nextWait job j e → Room (nextChildren job j e) e
-  roomy total e fitting l =
+  roomy : (start : Marks) (e : Expansion) → Fitting start e → segmentCountOf job ≤ nextWait job j e → Room (nextChildren job j e) e
+  roomy start e fitting l =
       record {
         free = λ t h ne. omega (
           arith,
@@ -199,9 +198,9 @@ module _ (job : Job) (coherent : isCoherent job ≡ true) (j : ℕ) (inside : j 
       bound : (t : ℕ) → t < segmentCountOf job → getD (e .logs .waiting) t 0 ≤ job .terms .room
       bound t h = rw (lt-ltb t (segmentCountOf job) h) at (fitting .waiting t (few t h))
 
-  passed-fits : (total : ℕ) (e : Expansion) → e .at < stackCountAt job j → Fitting total e → Fitting total (passOne job j e)
+  passed-fits : (start : Marks) (e : Expansion) → e .at < stackCountAt job j → Fitting start e → Fitting start (passOne job j e)
   unfolding passOne
-  passed-fits total e h fitting =
+  passed-fits start e h fitting =
       record {
         bytes = fitting .bytes;
         budget = fitting .budget;
@@ -210,9 +209,9 @@ module _ (job : Job) (coherent : isCoherent job ≡ true) (j : ℕ) (inside : j 
         appending = fitting .appending;
       }
 
-  waited-fits : (total t : ℕ) (e : Expansion) → Fitting total e → Fitting total (waitFor job j t e)
+  waited-fits : (start : Marks) (t : ℕ) (e : Expansion) → Fitting start e → Fitting start (waitFor job j t e)
   unfolding waitFor
-  waited-fits total t e fitting =
+  waited-fits start t e fitting =
       record {
         bytes = fitting .bytes;
         budget = fitting .budget;
@@ -221,9 +220,9 @@ module _ (job : Job) (coherent : isCoherent job ≡ true) (j : ℕ) (inside : j 
         appending = fitting .appending;
       }
 
-  next-fitting : (total : ℕ) (e : Expansion) → e .at < stackCountAt job j → Fitting total e → Fitting total (expandNext job j e)
+  next-fitting : (start : Marks) (e : Expansion) → e .at < stackCountAt job j → Fitting start e → Fitting start (expandNext job j e)
   unfolding stackCountAt stackCountOf
-  next-fitting total e h fitting = go (next-case job j e)
+  next-fitting start e h fitting = go (next-case job j e)
     where
       after : Expansion
       after = placeAll job j (nextChildren job j e) e
@@ -233,32 +232,32 @@ module _ (job : Job) (coherent : isCoherent job ≡ true) (j : ℕ) (inside : j 
           children-inside (job .terms .kind) (job .terms .n) (movesOf job) (j * job .terms .size + e .at) (given .in-range) (laws given)
           (segment-stack (stackCountOf job) (job .terms .size) some j (e .at) h)
 
-      go : NextCase job j e → Fitting total (expandNext job j e)
+      go : NextCase job j e → Fitting start (expandNext job j e)
       go (stopped s i) = rw i fitting
-      go (skipped s due i) = rw i (passed-fits total e h fitting)
-      go (blocked s due l i) = rw i (waited-fits total (nextWait job j e) e fitting)
+      go (skipped s due i) = rw i (passed-fits start e h fitting)
+      go (blocked s due l i) = rw i (waited-fits start (nextWait job j e) e fitting)
       go (expanded s due l i) =
           rw i
-          (passed-fits total after (rw (place-at job j (nextChildren job j e) e) h)
-          (placed-all total (nextChildren job j e) e low fitting (roomy total e fitting l)))
+          (passed-fits start after (rw (place-at job j (nextChildren job j e) e) h)
+          (placed-all start (nextChildren job j e) e low fitting (roomy start e fitting l)))
 
-  run-fitting : (total left : ℕ) (e : Expansion) → e .at + left ≤ stackCountAt job j → Fitting total e → Fitting total (expandRun job j left e)
+  run-fitting : (start : Marks) (left : ℕ) (e : Expansion) → e .at + left ≤ stackCountAt job j → Fitting start e → Fitting start (expandRun job j left e)
   unfolding expandRun
-  run-fitting total zero e h fitting = fitting
-  run-fitting total (suc left) e h fitting =
-      run-fitting total left (expandNext job j e) (fits (next-at job j e)) (next-fitting total e (omega arith) fitting)
+  run-fitting start zero e h fitting = fitting
+  run-fitting start (suc left) e h fitting =
+      run-fitting start left (expandNext job j e) (fits (next-at job j e)) (next-fitting start e (omega arith) fitting)
     where
       fits : (expandNext job j e .at ≡ e .at) ⊎ (expandNext job j e .at ≡ suc (e .at)) → expandNext job j e .at + left ≤ stackCountAt job j
       fits (inl i) = omega arith
       fits (inr i) = omega arith
 
   module _ (segment : List ℕ) (long : length segment ≡ bytesFor (stackCountAt job j)) where
-    end-fitting : Fitting (countOf job (levelOf (job .phase)) + unseenIn (stackCountAt job j) segment) (expansion job j segment log)
+    end-fitting : Fitting (marksFrom job segment) (expansion job j segment log)
     unfolding expansion waitingOf
     end-fitting =
         let passed = facts .passed-fits j (few j inside) in
         run-fitting
-        (countOf job (levelOf (job .phase)) + unseenIn (stackCountAt job j) segment)
+        (marksFrom job segment)
         (stackCountAt job j - passedOf job j)
         (record {
           at = passedOf job j;
@@ -270,7 +269,7 @@ module _ (job : Job) (coherent : isCoherent job ≡ true) (j : ℕ) (inside : j 
         (omega arith)
         (record {
           bytes = long;
-          budget = refl;
+          budget = λ most b. b;
           at-fits = passed;
           waiting = facts .waiting-fits;
           appending = record { log-long = refl; places = refl; more = λ t. le-refl (getD (job .waiting) t 0); kept = λ wide p free. refl };
@@ -278,9 +277,10 @@ module _ (job : Job) (coherent : isCoherent job ≡ true) (j : ℕ) (inside : j 
 
     expanded-coherent : countOf job (levelOf (job .phase)) + stackCountAt job j ≤ countLimit
         → isCoherent (expandedJob job j (expansion job j segment log)) ≡ true
-    unfolding expandedJob progressed passedOf waitingOf sweptOf countOf stackCountAt stackCountOf segmentCountOf loadedFits isLoaded
+    unfolding expandedJob progressed recounted passedOf waitingOf sweptOf countOf stackCountAt stackCountOf segmentCountOf loadedFits isLoaded
     expanded-coherent room =
         let e = expansion job j segment log in
+        let d = levelOf (job .phase) in
         let f = end-fitting in
         facts-coherent (expandedJob job j e)
         (record {
@@ -288,9 +288,7 @@ module _ (job : Job) (coherent : isCoherent job ≡ true) (j : ℕ) (inside : j 
           phase-fits = facts .phase-fits;
           passed-fits = λ i l. set-fits (job .passed) j (e .at) i (stackCountAt job i) (λ q. omega (arith, f .at-fits, ap (stackCountAt job) q)) (facts .passed-fits i l);
           waiting-fits = f .waiting;
-          counts-fit = λ d. set-fits (job .counts) (levelOf (job .phase)) (e .marks .count) d countLimit
-              (λ q. omega (arith, f .budget, tally-le (λ i. eqb (entryAt segment i) 3) (stackCountAt job j)))
-              (facts .counts-fit d);
+          counts-fit = found-fits job d (stackCountAt job j) (facts .counts-fit) (f .budget countLimit (start-budget job d (stackCountAt job j) room segment));
           loaded-fits = facts .loaded-fits;
           swept-fits = facts .swept-fits;
         })
@@ -313,7 +311,7 @@ pub record Written (job : Job) (log : List ℕ) (out : List ℕ × List ℕ × E
   pub kept : segmentLimit ≤ length (job .waiting) → (p : ℕ) → Untouched job (out .2 .job .waiting) p → getD (out .1) p 0 ≡ getD log p 0
 
 pub expand-writes : (job : Job) (j : ℕ) (segment log : List ℕ) → Written job log (expandOf job j segment log)
-unfolding expandedJob progressed
+unfolding expandedJob progressed recounted
 expand-writes job j segment log = go (eq-or-ne (expandRefusal job j (length segment) (length log)) 0)
   where
     go : (expandRefusal job j (length segment) (length log) ≡ 0) ⊎ (expandRefusal job j (length segment) (length log) ≡ 0 → ⊥)

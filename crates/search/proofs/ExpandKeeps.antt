@@ -14,7 +14,8 @@ use Rattle.graph.proofs.Levels.{expanded-all, child-near}
 use Rattle.search.specs.Build.{World, withJob, withSegment, withLog, Lengths, own, doExpand, outcome, lent, kept}
 use Rattle.search.specs.Entries.{entryAt}
 use Rattle.search.specs.Expand.{Expansion, isParent, childrenOf, placeChild, placeAll, passOne, waitFor, expandNext, expandRun, expansion, expandedJob, expandRefusal}
-use Rattle.search.specs.JobState.{stackCountOf, segmentCountOf, stackCountAt, levelOf, passedOf, countOf}
+use Rattle.search.specs.Marks.{foundAt}
+use Rattle.search.specs.JobState.{stackCountOf, segmentCountOf, stackCountAt, levelOf, passedOf}
 use Rattle.search.specs.Logs.{logOne, fallingIn, lacksRoom}
 use Rattle.search.specs.Terms.{N, G, m}
 use Rattle.search.specs.declared.Expanded.{Expanded}
@@ -215,7 +216,7 @@ module _ (w : World) (given : Given (w .job .terms)) (search : Searching (w .job
         at = passedOf (w .job) j;
         waits = false;
         on = 0;
-        marks = record { segment = getD (w .segments) j []; count = countOf (w .job) d };
+        marks = record { segment = getD (w .segments) j []; found = foundAt (w .job) d };
         logs = record { log = w .log; waiting = w .job .waiting };
       })
       (stage-start given search j inside)

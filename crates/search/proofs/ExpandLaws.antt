@@ -12,7 +12,7 @@ use lib.Seq.{getD-set-same}
 use Rattle.base.proofs.Tests.{never, lt-or-ge}
 use Rattle.search.specs.Entries.{entryAt}
 use Rattle.search.specs.Expand.{Expansion, isParent, childrenOf, passOne, waitFor, expandNext, expandRun, expansion, expandedJob, expandOf, expandRefusal}
-use Rattle.search.specs.JobState.{levelOf, segmentCountOf, stackCountAt, movesOf, passedOf, progressed}
+use Rattle.search.specs.JobState.{levelOf, segmentCountOf, stackCountAt, movesOf, passedOf, progressed, recounted}
 use Rattle.search.specs.Marks.{marksFrom}
 use Rattle.search.specs.Logs.{lacksRoom}
 use Rattle.search.specs.declared.Expanded.{Expanded}
@@ -171,7 +171,7 @@ module _ (job : Job) (j : ℕ) (segment log : List ℕ) (accepted : expandRefusa
 
   module _ (listed : j < length (job .passed)) where
     end-at : passedOf (expandedJob job j end) j ≡ end .at
-    unfolding expandedJob progressed passedOf
+    unfolding expandedJob progressed recounted passedOf
     end-at = getD-set-same (job .passed) j (end .at) 0 listed
 
     -- it passes stacks, or waits before the first

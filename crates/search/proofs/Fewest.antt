@@ -1,6 +1,5 @@
--- The fewest moves from a stack to the wanted one, as a depth in the graph of indexes, of stacks that have a road; counting them by any
--- test.
-use mathlib.Core.Path.{_≡_, sym, ap, _∙_, subst}
+-- The fewest moves from a stack to the wanted one, as a depth in the graph of indexes, of stacks that have a road; counting them by it.
+use mathlib.Core.Path.{_≡_, subst}
 use mathlib.Core.Bool.{Bool, true}
 use mathlib.Core.List.{List}
 use Prim.Native.Nat.{ℕ, _<_, _≤_}
@@ -10,17 +9,15 @@ use lib.IntN.{ℤ}
 use lib.ListN.{length}
 use borrow.Author.Tests.{eqb-true, eq-eqb}
 use Rattle.base.specs.Words.{tally, from}
-use Rattle.base.proofs.Tests.{same-test}
-use Rattle.base.proofs.Counting.{tally-map}
 use Rattle.graph.specs.Walks.{isMove, dist}
 use Rattle.graph.proofs.Distance.{walk-dist, dist-walk}
 use Rattle.graph.proofs.Depths.{Depths, dist-depths}
-use Rattle.graph.proofs.Tally.{tally-same}
-use Rattle.stacks.specs.Counts.{TellsBy, CountsBy}
+use Rattle.stacks.specs.Counts.{TellsWhere, CountsBy}
 use Rattle.stacks.specs.Stack.{isPaneCount, isStack, stackCount}
-use Rattle.stacks.specs.Index.{rankOf, stackAt, allStacks}
+use Rattle.stacks.specs.Index.{rankOf}
 use Rattle.stacks.specs.Turn.{RoadBy, FewestBy}
-use Rattle.stacks.proofs.Numbering.{rank-lt, unrank-stack, rank-unrank}
+use Rattle.stacks.proofs.Numbering.{rank-lt}
+use Rattle.search.proofs.AllStacks.{told-counts}
 use Rattle.search.proofs.Turning.{childAt, Moves, move-graph, road-walk, walk-road}
 
 -- the fewest moves from the stack at index v to w, cut at b
@@ -56,32 +53,12 @@ module _ (kind n : ℕ) (w : List ℤ) (b : ℕ) (in-range : isPaneCount kind n 
     pub fewest-depth : {d : ℕ} → FewestBy kind (isMove moves) s w d → d < b → depth kind n moves w b (rankOf kind n s) ≡ d
     fewest-depth f near = fewest-unique (depth-fewest (omega (arith, depth-road (f .road) (f .leads), f .long))) f
 
-  -- any test that tells the stacks at d moves counts those at depth d
+  -- the depth tells the stacks at d moves, so it counts them
   module _ (d : ℕ) (near : d < b) where
     depth-is : (s : List ℤ) → isStack kind n s ≡ true → depth kind n moves w b (rankOf kind n s) ≡ d → FewestBy kind (isMove moves) s w d
     depth-is s h e = subst (FewestBy kind (isMove moves) s w) e (depth-fewest s h (omega (arith, e)))
 
-    tally-told : (test : List ℤ → Bool) → TellsBy kind n (isMove moves) w d test
-        → tally (λ v. eqb (depth kind n moves w b v) d) (from 0 (stackCount kind n)) ≡ tally test (allStacks kind n)
-    unfolding allStacks
-    tally-told test tells =
-        sym (
-        tally-map test (stackAt kind n) (from 0 (stackCount kind n))
-        ∙ tally-same (λ v. test (stackAt kind n v)) (λ v. eqb (depth kind n moves w b v) d) (stackCount kind n) same
-        )
-      where
-        same : (v : ℕ) → v < stackCount kind n → test (stackAt kind n v) ≡ eqb (depth kind n moves w b v) d
-        same v h =
-            let s : List ℤ = stackAt kind n v in
-            let stack : isStack kind n s ≡ true = unrank-stack kind n v in-range h in
-            let here : depth kind n moves w b (rankOf kind n s) ≡ depth kind n moves w b v =
-            ap (depth kind n moves w b) (rank-unrank kind n v in-range h) in
-            same-test (test s) (eqb (depth kind n moves w b v) d)
-            (λ t. eq-eqb (depth kind n moves w b v) d (sym here ∙ fewest-depth s stack (tells .only s stack t) near))
-            (λ t. tells .every s stack (depth-is s stack (here ∙ eqb-true (depth kind n moves w b v) d t)))
-
-    -- the stacks at depth d are told by their depth
-    depth-tells : TellsBy kind n (isMove moves) w d (λ s. eqb (depth kind n moves w b (rankOf kind n s)) d)
+    pub depth-tells : TellsWhere kind n (λ s. FewestBy kind (isMove moves) s w d) (λ s. eqb (depth kind n moves w b (rankOf kind n s)) d)
     depth-tells =
         record {
           only = λ s h t. depth-is s h (eqb-true (depth kind n moves w b (rankOf kind n s)) d t);
@@ -90,9 +67,4 @@ module _ (kind n : ℕ) (w : List ℤ) (b : ℕ) (in-range : isPaneCount kind n 
 
     pub counts-by : (count : ℕ) → count ≡ tally (λ v. eqb (depth kind n moves w b v) d) (from 0 (stackCount kind n))
         → CountsBy kind n (isMove moves) w d count
-    counts-by count e =
-        record {
-          test = λ s. eqb (depth kind n moves w b (rankOf kind n s)) d;
-          tells = depth-tells;
-          tallied = λ other tells. e ∙ tally-told other tells;
-        }
+    counts-by = told-counts kind n in-range (λ v. eqb (depth kind n moves w b v) d) depth-tells

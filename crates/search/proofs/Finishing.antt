@@ -243,7 +243,7 @@ module _ {terms : Terms} (begun : Given terms) where
     unfolding seenIn countOf entryIn unseen
     added-is =
         total-from (w .job .counts) (levelCount terms) 0
-        (λ i l. ended .counts i (omega (arith, shaped .counts-length)) ∙ ap (levelCount terms) (sym (zero-add i)))
+        (λ i l. ended .counts .each i (omega (arith, shaped .counts-length)) ∙ ap (levelCount terms) (sym (zero-add i)))
         ∙ ap (λ (m : ℕ). total (map (levelCount terms) (from 0 m))) (shaped .counts-length)
         ∙ tally-values (D terms) (N terms) countPlaces
         ∙ tally-same (λ v. ltb (D terms v) countPlaces) (λ v. not (eqb (entryAt (joined (w .segments)) v) unseen)) (N terms) (λ v l. same v l (near-or-far v))
@@ -266,8 +266,8 @@ module _ {terms : Terms} (begun : Given terms) where
           entries = entry-is;
           spare = spare-is;
           counts = λ i l. counts-by (terms .kind) (terms .n) (terms .wanted) beyond (begun .in-range) (begun .stack) (laws begun) i (omega arith) (countOf (w .job) i)
-              (ended .counts i (omega arith));
-          past = λ i h. ended .counts-past i (omega (arith, level-is));
+              (ended .counts .each i (omega arith));
+          past = λ i h. ended .counts .past i (omega (arith, level-is));
           added = added-is;
           deepest = subst (Needs terms) (sym level-is) (depth-needs d (ended .deepest) (omega (arith, ended .last)));
           greatest = greatest-is;

@@ -10,13 +10,13 @@ use mathlib.Core.Bool.{true}
 use mathlib.Core.List.{List}
 use Prim.Native.Nat.{ℕ, suc, _<_, _≤_}
 use native.Mathlib.Omega.{arith}
-use lib.Dec.{eqb}
-use Rattle.base.specs.Words.{tally, from}
 use Rattle.graph.proofs.Depths.{Depths}
+use Rattle.graph.proofs.LevelCounts.{depthCount}
 use Rattle.stacks.specs.Index.{rankOf}
 use Rattle.stacks.specs.Stack.{isKind, isPaneCount, isStack}
 use Rattle.stacks.specs.Turn.{isGroupSet, turnsIn}
 use Rattle.search.specs.JobState.{lastLevel}
+use Rattle.search.specs.Marks.{everyStack}
 use Rattle.search.specs.Segments.{segmentLimit, isSegmentSize, isLogRoom}
 use Rattle.search.specs.Terms.{N, G}
 use Rattle.search.specs.declared.Terms.{Terms}
@@ -41,7 +41,7 @@ abbrev pub D : Terms → ℕ → ℕ
 D terms = depth (terms .kind) (terms .n) (moves terms) (terms .wanted) beyond
 
 abbrev pub levelCount : Terms → ℕ → ℕ
-levelCount terms d = tally (λ v. eqb (D terms v) d) (from 0 (N terms))
+levelCount terms = depthCount (everyStack terms) (N terms) (D terms)
 
 pub record Given (terms : Terms) : Type 0 where
   pub is-kind : isKind (terms .kind) ≡ true

@@ -11,21 +11,21 @@ use mathlib.Core.List.{List, []}
 use Prim.Native.Nat.{ℕ, suc, _+_, _-_, _*_, _/_, _%_, _^_, _≤_, _<_}
 use lib.Dec.{ltb, eqb}
 use lib.ListN.{length, getD}
-use Rattle.base.specs.Words.{tally, from}
 use Rattle.graph.specs.Walks.{isMove}
+use Rattle.graph.proofs.LevelCounts.{Counting, Counted}
 use Rattle.graph.proofs.Levels as Levels
-use Rattle.graph.proofs.Counts.{found}
 use Rattle.search.specs.Blank.{blanked}
 use Rattle.search.specs.Build.{World}
 use Rattle.search.specs.Changed.{listBytes, bitAt}
 use Rattle.search.specs.Entries.{entryAt, bytesFor}
 use Rattle.search.specs.JobState.{passedOf, waitingOf, countOf, sweptOf, isSwept, isReverse, lastLevel, noSegment, countPlaces}
+use Rattle.search.specs.Marks.{everyStack}
 use Rattle.search.specs.Segments.{segmentLimit}
 use Rattle.search.specs.Terms.{N, G, m}
 use Rattle.search.specs.declared.Job.{Job}
 use Rattle.search.specs.declared.Phase.the-variants.{Blanking, Level, Finished}
 use Rattle.search.specs.declared.Terms.{Terms}
-use Rattle.search.proofs.Given.{moves, step, beyond, D, levelCount}
+use Rattle.search.proofs.Given.{moves, step, beyond, D}
 
 -- the entry of the stack at index v, in its own segment
 unfoldable pub entryIn : ℕ → List (List ℕ) → ℕ → ℕ
@@ -90,9 +90,7 @@ module _ (terms : Terms) where
     pub offsets : (t i : ℕ) → t < G terms → i < waitingOf (w .job) t → getD (w .log) (t * terms .room + i) 0 < m terms t
     pub level : Levels.Level (N terms) (D terms) d (entryIn (terms .size) (w .segments)) (Looked terms (w .job)) (Logged terms w)
     pub spares : Spares w
-    pub counts-below : (i : ℕ) → i < d → countOf (w .job) i ≡ levelCount terms i
-    pub counts-here : countOf (w .job) d ≡ tally (found (λ v. true) (D terms) d (entryIn (terms .size) (w .segments))) (from 0 (N terms))
-    pub counts-above : (i : ℕ) → d < i → countOf (w .job) i ≡ 0
+    pub counts : Counting (everyStack terms) (N terms) (D terms) (countOf (w .job)) (entryIn (terms .size) (w .segments)) d
     -- in a reverse level nothing waits, and what is loaded is listed
     pub idle : isReverse (w .job .way) ≡ true → (j : ℕ) → waitingOf (w .job) j ≡ 0
     pub listed : isReverse (w .job .way) ≡ true → w .job .loaded < G terms → Listing w d
@@ -107,8 +105,7 @@ module _ (terms : Terms) where
     pub unreached : (v : ℕ) → v < N terms → D terms v ≡ beyond → entryIn (terms .size) (w .segments) v ≡ 3
     pub greatest : (v : ℕ) → v < N terms → D terms v < beyond → D terms v ≤ d
     pub spares : Spares w
-    pub counts : (i : ℕ) → i < beyond → countOf (w .job) i ≡ levelCount terms i
-    pub counts-past : (i : ℕ) → d < i → countOf (w .job) i ≡ 0
+    pub counts : Counted (everyStack terms) (N terms) (D terms) (countOf (w .job)) beyond d
     pub deepest : (v : ℕ) × (v < N terms) × (D terms v ≡ d)
 
   -- the phase that a build is in, with what holds there

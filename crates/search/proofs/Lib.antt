@@ -5,8 +5,8 @@ pub mod ChangedLaws
 pub mod SegmentLaws
 pub mod CutLaws
 pub mod Turning
-pub mod Fewest
 pub mod AllStacks
+pub mod Fewest
 pub mod Children
 pub mod Given
 -- jobs and calls, one at a time

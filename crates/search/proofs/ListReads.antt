@@ -87,7 +87,7 @@ module _ (job : Job) (j : ℕ) (segment list list′ : List ℕ) (long : length 
 
       swept : List ℕ → List ℕ × Answer
       swept offsets =
-          let marks = markAll (job .terms .size) (levelOf (job .phase)) (indexesOf (job .terms .size) j offsets) (marksFrom job segment) in (
+          let marks = markAll (job .terms) (levelOf (job .phase)) (indexesOf (job .terms .size) j offsets) (marksFrom job segment) in (
             marks .segment,
             record { refusal = 0; job = directed (markedJob job (job .passed) (job .waiting) marks) (job .way) (job .loaded) (withPair job j) },
           )

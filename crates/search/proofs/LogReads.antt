@@ -15,7 +15,7 @@ use Rattle.base.specs.Words.{unless, all, firstFrom}
 use Rattle.base.proofs.Tests.{test-cases, lt-or-ge, eq-or-ne}
 use Rattle.search.specs.Entries.{entryAt}
 use Rattle.search.specs.Expand.{Expansion, isParent, childrenOf, placeChild, placeAll, passOne, waitFor, expandStack, expandNext, expandRun, expansion, expandedJob, expandOf, expandRefusal}
-use Rattle.search.specs.JobState.{isCoherent, inForward, levelOf, stackCountOf, segmentCountOf, stackCountAt, movesOf, passedOf, waitingOf, progressed}
+use Rattle.search.specs.JobState.{isCoherent, inForward, levelOf, stackCountOf, segmentCountOf, stackCountAt, movesOf, passedOf, waitingOf, progressed, recounted}
 use Rattle.search.specs.Look.{lookRefusal, lookOf}
 use Rattle.search.specs.Settle.{settleRefusal, settleOf}
 use Rattle.search.specs.Logs.{indexesOf, logOne, lacksRoom, pending}
@@ -96,7 +96,7 @@ module _ (job : Job) (j : ℕ) where
             at = x .at;
             waits = x .waits;
             on = x .on;
-            marks = cond here (markOne S (levelOf (job .phase)) c (x .marks)) (x .marks);
+            marks = cond here (markOne (job .terms) (levelOf (job .phase)) c (x .marks)) (x .marks);
             logs = cond here (x .logs) (logOne (job .terms .room) (c / S) (c % S) (x .logs));
           }
 
@@ -167,7 +167,7 @@ module _ (job : Job) (j : ℕ) where
           → getD (out .1) (t * job .terms .room + i) 0 ≡ getD (out′ .1) (t * job .terms .room + i) 0
 
     expand-alike : Alike (expandOf job j segment log) (expandOf job j segment log′)
-    unfolding expandedJob progressed waitingOf
+    unfolding expandedJob progressed recounted waitingOf
     expand-alike = go (eq-or-ne (expandRefusal job j (length segment) (length log)) 0)
       where
         twin : Twin (expansion job j segment log) (expansion job j segment log′)
@@ -233,7 +233,7 @@ module _ (job : Job) (j : ℕ) (log log′ : List ℕ) (long : length log ≡ le
       by : ℕ → List ℕ → List ℕ × Answer
       by logs offsets =
           let r = levelRefusal job j (length segment) logs (unless (all (λ i. ltb i (stackCountAt job j)) offsets) 12 0) in
-          let marks = markAll (job .terms .size) (levelOf (job .phase)) (indexesOf (job .terms .size) j offsets) (marksFrom job segment) in
+          let marks = markAll (job .terms) (levelOf (job .phase)) (indexesOf (job .terms .size) j offsets) (marksFrom job segment) in
           cond (eqb r 0)
           (marks .segment, record { refusal = 0; job = markedJob job (job .passed) (set (job .waiting) j 0) marks })
           (segment, record { refusal = r; job = job })

@@ -11,7 +11,7 @@ use Rattle.base.proofs.Tests.{never}
 use Rattle.search.specs.Build.{World, withJob, withSegment, Lengths, own, doSettle, outcome, lent, kept}
 use Rattle.search.specs.JobState.{levelOf, passedOf, waitingOf, countOf, progressed}
 use Rattle.search.specs.Settle.{settleRefusal}
-use Rattle.search.specs.Marks.{Marks, markAll}
+use Rattle.search.specs.Marks.{Marks, markAll, foundAt, withFound}
 use Rattle.search.specs.Logs.{Logs, logPart, indexesOf, pending}
 use Rattle.search.specs.Terms.{N, G, m}
 use Rattle.search.specs.declared.Answer.{Answer}
@@ -19,14 +19,14 @@ use Rattle.search.specs.declared.Terms.{Terms}
 use Rattle.search.proofs.Accepted.{forward-level, settle-facts, settle-accepted}
 use Rattle.search.proofs.Invariant.{entryIn}
 use Rattle.search.proofs.SegmentLaws.{segment-stack, segment-stack-div, segment-stack-mod, log-length, log-at}
-use Rattle.search.proofs.Shapes.{room-is, size-is, segments-is}
+use Rattle.search.proofs.Shapes.{segments-is}
 use Rattle.search.proofs.Staging.{Searching, Staged, Held, stage, stage-start, stage-empty, stage-end, Marking, Due, mark-all}
 use Rattle.search.proofs.Given.{Given, some}
 
 module _ {terms : Terms} (given : Given terms) {w : World} {d : ℕ} (search : Searching terms w d) (j : ℕ) (inside : j < G terms) where
   pub settle-stage : Staged terms w d j
-      (markAll (terms .size) d (indexesOf (terms .size) j (logPart (terms .room) j (waitingOf (w .job) j) (w .log)))
-      (record { segment = getD (w .segments) j []; count = countOf (w .job) d }))
+      (markAll terms d (indexesOf (terms .size) j (logPart (terms .room) j (waitingOf (w .job) j) (w .log)))
+      (record { segment = getD (w .segments) j []; found = foundAt (w .job) d }))
       (record { log = w .log; waiting = set (w .job .waiting) j 0 }) (passedOf (w .job) j)
   unfolding countOf waitingOf indexesOf
   settle-stage = stage-empty given search j inside (marking .staged) seen
@@ -38,7 +38,7 @@ module _ {terms : Terms} (given : Given terms) {w : World} {d : ℕ} (search : S
       stacks = map (λ i. j * terms .size + i) offsets
 
       start : Marks
-      start = record { segment = getD (w .segments) j []; count = countOf (w .job) d }
+      start = record { segment = getD (w .segments) j []; found = foundAt (w .job) d }
 
       logs : Logs
       logs = record { log = w .log; waiting = w .job .waiting }
@@ -75,10 +75,10 @@ module _ {terms : Terms} (given : Given terms) {w : World} {d : ℕ} (search : S
                 (low, (k, rw own-segment (rw many at h), rw (own-segment, own-place) refl)) .1;
           })
 
-      marking : Marking given search j inside logs (passedOf (w .job) j) stacks start (markAll (terms .size) d stacks start)
+      marking : Marking given search j inside logs (passedOf (w .job) j) stacks start (markAll terms d stacks start)
       marking = mark-all given search j inside logs (passedOf (w .job) j) stacks start first due
 
-      seen : (v : ℕ) → v < N terms → v / terms .size ≡ j → entryIn (terms .size) (set (w .segments) j (markAll (terms .size) d stacks start .segment)) v ≡ 3 → Held terms logs v → ⊥
+      seen : (v : ℕ) → v < N terms → v / terms .size ≡ j → entryIn (terms .size) (set (w .segments) j (markAll terms d stacks start .segment)) v ≡ 3 → Held terms logs v → ⊥
       seen v h here e held =
           let k = held .1 .0 in
           let l : k < length stacks = omega (arith, many, ap (λ (x : ℕ). getD (w .job .waiting) x 0) here) in
@@ -91,7 +91,7 @@ module _ {terms : Terms} (given : Given terms) {w : World} {d : ℕ} (search : S
             div-add-mod' v (terms .size),
             ap (λ (x : ℕ). x * terms .size) here,
           ) in
-          marking .done k l (ap (entryIn (terms .size) (set (w .segments) j (markAll (terms .size) d stacks start .segment))) this ∙ e)
+          marking .done k l (ap (entryIn (terms .size) (set (w .segments) j (markAll terms d stacks start .segment))) this ∙ e)
 
 module _ {terms : Terms} (given : Given terms) {w : World} {d : ℕ} (search : Searching terms w d) where
   pub settle-keeps : (right : Lengths) (j : ℕ) → settleRefusal (w .job) j (length (getD (w .segments) j [])) (w .log) ≡ 0
@@ -110,14 +110,14 @@ module _ {terms : Terms} (given : Given terms) {w : World} {d : ℕ} (search : S
       leaves : List ℕ × Answer → World
       leaves o = withJob (o .1 .job) (withSegment j (o .0) w)
 
-      -- by S, the level, what waits, and the stacks passed
-      settled : ℕ → ℕ → List ℕ → List ℕ → World
-      settled S d offsets passed =
-          let marks = markAll S d (indexesOf S j offsets) (record { segment = mine; count = countOf (w .job) d }) in
-          withJob (progressed (w .job) (w .job .phase) passed (set (w .job .waiting) j 0) (set (w .job .counts) d (marks .count)))
+      -- by the terms, the level, what waits, and the stacks passed
+      settled : Terms → ℕ → List ℕ → List ℕ → World
+      settled t d offsets passed =
+          let marks = markAll t d (indexesOf (t .size) j offsets) (record { segment = mine; found = foundAt (w .job) d }) in
+          withJob (progressed (withFound (w .job) d (marks .found)) (w .job .phase) passed (set (w .job .waiting) j 0))
           (withSegment j (marks .segment) w)
 
-      same : settled (w .job .terms .size) (levelOf (w .job .phase)) (pending (w .job) j (w .log)) (w .job .passed)
-          ≡ settled (terms .size) d (logPart (terms .room) j (waitingOf (w .job) j) (w .log)) (set (w .job .passed) j (passedOf (w .job) j))
-      same = λ i. settled (size-is (search .shaped) i) (levelOf (search .searches .phase-is i))
-          (logPart (room-is (search .shaped) i) j (waitingOf (w .job) j) (w .log)) (sym (set-getD (w .job .passed) j 0) i)
+      same : settled (w .job .terms) (levelOf (w .job .phase)) (pending (w .job) j (w .log)) (w .job .passed)
+          ≡ settled terms d (logPart (terms .room) j (waitingOf (w .job) j) (w .log)) (set (w .job .passed) j (passedOf (w .job) j))
+      same = λ i. settled (search .shaped .terms-is i) (levelOf (search .searches .phase-is i))
+          (logPart (search .shaped .terms-is i .room) j (waitingOf (w .job) j) (w .log)) (sym (set-getD (w .job .passed) j 0) i)

@@ -1,12 +1,13 @@
 -- A build in the midst of a call on segment j, and each step of Expand, Settle and Sweep that keeps the invariant of the search.
 --   MarksFit    the segment's bytes are bytes and as many as is right, and its spare entries are 3
+--   FoundFits   what the level has found is what the entries say
 --   LogsFit     what waits fits the logs, and is an offset of its segment
 --   stage       the world that a call on segment j of w has come to
 --   Staged      what holds of it
 --   Searching   what holds before and after a call: shape and search
 --   Marking     what holds when the stacks of a list are marked
 --   redirect    a world with another loaded segment, other pairs and another changed list
-use mathlib.Core.Path.{_≡_, sym, ap, _∙_, subst}
+use mathlib.Core.Path.{_≡_, refl, sym, ap, _∙_, subst}
 use mathlib.Core.Logic.{_⊎_, inl, inr}
 use mathlib.Core.Bool.{true, cond}
 use mathlib.Core.List.{List, [], _∷_}
@@ -21,14 +22,16 @@ use Rattle.base.specs.Words.{tally, from}
 use Rattle.base.proofs.Tests.{eq-or-ne, lt-or-ge}
 use Rattle.graph.specs.Walks.{isMove}
 use Rattle.graph.proofs.Counts.{found}
+use Rattle.graph.proofs.LevelCounts.{counting-found}
 use Rattle.graph.proofs.Levels.{Level, Marked, level-mark, level-log, level-look, level-unlog}
 use Rattle.search.specs.Build.{World, withJob, withSegment, withLog, withChanged}
 use Rattle.search.specs.Entries.{entryAt, bytesFor}
-use Rattle.search.specs.JobState.{passedOf, waitingOf, countOf, sweptOf, isSwept, isReverse, noSegment, progressed, directed}
+use Rattle.search.specs.JobState.{passedOf, waitingOf, countOf, sweptOf, isSwept, isReverse, noSegment, progressed, recounted, directed}
 use Rattle.search.specs.Segments.{segmentLimit}
-use Rattle.search.specs.Marks.{Marks, markOne, markAll}
+use Rattle.search.specs.Marks.{everyStack, foundOne, Marks, markOne, markAll, foundAt, withFound}
 use Rattle.search.specs.Logs.{Logs, logOne}
 use Rattle.search.specs.Terms.{N, G, m}
+use Rattle.search.specs.declared.Found.{Found}
 use Rattle.search.specs.declared.Terms.{Terms}
 use Rattle.search.proofs.Invariant.{Shaped, Searches, Listing, Looked, Logged, entryIn}
 use Rattle.search.proofs.MarkLaws.{mark-length, mark-bytes, mark-other, mark-marked, mark-count, marked-before, marked-after}
@@ -57,13 +60,17 @@ Met terms swept passed u v =
     ((u % terms .size < getD passed (u / terms .size) 0) ⊎ (eqb (getD swept (u / terms .size) 0 / 2 ^ (v / terms .size) % 2) 1 ≡ true))
     × ((k : ℕ) × (isMove (moves terms) k ≡ true) × (step terms k u ≡ v))
 
+-- what level d has found is what its entries say
+pub record FoundFits (terms : Terms) (d : ℕ) (e : ℕ → ℕ) (all : Found) : Type 0 where
+  pub count : all .count ≡ tally (found (everyStack terms) (D terms) d e) (from 0 (N terms))
+
 pub mark-fits : (terms : Terms) (j d v : ℕ) (marks : Marks) → v % terms .size < m terms j → MarksFit terms j marks
-    → MarksFit terms j (markOne (terms .size) d v marks)
+    → MarksFit terms j (markOne terms d v marks)
 mark-fits terms j d v marks h fit =
     record {
-      bytes = mark-length (terms .size) d v marks ∙ fit .bytes;
-      byte = mark-bytes (terms .size) d v marks (fit .byte);
-      spare = λ l g k. mark-other (terms .size) d v marks l (λ e. omega arith) ∙ fit .spare l g k;
+      bytes = mark-length terms d v marks ∙ fit .bytes;
+      byte = mark-bytes terms d v marks (fit .byte);
+      spare = λ l g k. mark-other terms d v marks l (λ e. omega arith) ∙ fit .spare l g k;
     }
 
 -- an offset appended to the log of segment t, which has room
@@ -166,7 +173,7 @@ module _ (terms : Terms) (few : G terms ≤ segmentLimit) (logs : Logs) (fit : L
 -- the world that a call on segment j, in level d, has come to
 unfoldable pub stage : World → ℕ → ℕ → Marks → Logs → ℕ → World
 stage w d j marks logs at =
-    withJob (progressed (w .job) (w .job .phase) (set (w .job .passed) j at) (logs .waiting) (set (w .job .counts) d (marks .count)))
+    withJob (progressed (withFound (w .job) d (marks .found)) (w .job .phase) (set (w .job .passed) j at) (logs .waiting))
     (withLog (logs .log) (withSegment j (marks .segment) w))
 
 module _ (terms : Terms) where
@@ -179,7 +186,7 @@ module _ (terms : Terms) where
     pub marks-fit : MarksFit terms j marks
     pub logs-fit : LogsFit terms logs
     pub level : Level (N terms) (D terms) d (entryIn (terms .size) (set (w .segments) j (marks .segment))) (Met terms (w .job .swept) (set (w .job .passed) j at)) (Held terms logs)
-    pub count : marks .count ≡ tally (found (λ v. true) (D terms) d (entryIn (terms .size) (set (w .segments) j (marks .segment)))) (from 0 (N terms))
+    pub found-fits : FoundFits terms d (entryIn (terms .size) (set (w .segments) j (marks .segment))) (marks .found)
 
 module _ {terms : Terms} (given : Given terms) {w : World} {d : ℕ} (search : Searching terms w d) (j : ℕ) (inside : j < G terms) where
   listed : j < length (w .segments)
@@ -194,7 +201,7 @@ module _ {terms : Terms} (given : Given terms) {w : World} {d : ℕ} (search : S
       ∙ getD-set-same (w .job .passed) j at 0 (omega (arith, search .shaped .passed-length, few given))
 
   -- a call starts from the world as it is
-  pub stage-start : Staged terms w d j (record { segment = getD (w .segments) j []; count = countOf (w .job) d })
+  pub stage-start : Staged terms w d j (record { segment = getD (w .segments) j []; found = foundAt (w .job) d })
       (record { log = w .log; waiting = w .job .waiting }) (passedOf (w .job) j)
   unfolding countOf passedOf waitingOf sweptOf isSwept Looked Logged
   stage-start =
@@ -213,17 +220,25 @@ module _ {terms : Terms} (given : Given terms) {w : World} {d : ℕ} (search : S
           offsets = search .searches .offsets;
         };
         level = rw (set-getD (w .segments) j [], set-getD (w .job .passed) j 0) (search .searches .level);
-        count = rw (set-getD (w .segments) j []) (search .searches .counts-here);
+        found-fits = record { count = rw (set-getD (w .segments) j []) (search .searches .counts .here) };
       }
 
   module _ {marks : Marks} {logs : Logs} {at : ℕ} (staged : Staged terms w d j marks logs at) where
     module _ (v : ℕ) (h : v < N terms) (here : v / terms .size ≡ j) where
       pub stage-marked : Marked (N terms) d (entryIn (terms .size) (set (w .segments) j (marks .segment)))
-          (entryIn (terms .size) (set (w .segments) j (markOne (terms .size) d v marks .segment))) v
-      stage-marked = mark-marked (N terms) (terms .size) (some given) (w .segments) j listed d v marks h here (staged .marks-fit .bytes)
+          (entryIn (terms .size) (set (w .segments) j (markOne terms d v marks .segment))) v
+      stage-marked = mark-marked terms (some given) (w .segments) j listed d v marks h here (staged .marks-fit .bytes)
+
+      stage-found : D terms v ≤ d → FoundFits terms d (entryIn (terms .size) (set (w .segments) j (markOne terms d v marks .segment))) (markOne terms d v marks .found)
+      unfolding foundOne
+      stage-found near =
+          record {
+            count = mark-count terms (some given) (w .segments) j listed d v marks h here (staged .marks-fit .bytes)
+                (everyStack terms) (λ all. all .count) (λ all. refl) (staged .level) near (staged .found-fits .count);
+          }
 
       -- a stack of this segment that is no deeper than d is marked
-      pub stage-mark : D terms v ≤ d → Staged terms w d j (markOne (terms .size) d v marks) logs at
+      pub stage-mark : D terms v ≤ d → Staged terms w d j (markOne terms d v marks) logs at
       stage-mark near =
           record {
             at-fits = staged .at-fits;
@@ -231,8 +246,7 @@ module _ {terms : Terms} (given : Given terms) {w : World} {d : ℕ} (search : S
                 (subst (λ (t : ℕ). v % terms .size < m terms t) here (stack-offset (N terms) (terms .size) (some given) v h)) (staged .marks-fit);
             logs-fit = staged .logs-fit;
             level = level-mark (staged .level) near stage-marked;
-            count = mark-count (N terms) (terms .size) (some given) (w .segments) j listed d v marks h here (staged .marks-fit .bytes) (staged .level)
-                near (staged .count);
+            found-fits = stage-found near;
           }
 
     -- a stack elsewhere that is no deeper than d is logged
@@ -247,7 +261,7 @@ module _ {terms : Terms} (given : Given terms) {w : World} {d : ℕ} (search : S
           logs-fit = log-fits terms (few given) logs fit (v / terms .size) (v % terms .size) t room (stack-offset (N terms) (terms .size) (some given) v h);
           level = level-log (staged .level) v h near (log-more terms (few given) logs fit (v / terms .size) (v % terms .size) t room)
               (λ u i. only u (log-only terms (few given) logs fit (v / terms .size) (v % terms .size) t room u i));
-          count = staged .count;
+          found-fits = staged .found-fits;
         }
       where
         only : (u : ℕ) → (Held terms logs u) ⊎ ((u / terms .size ≡ v / terms .size) × (u % terms .size ≡ v % terms .size))
@@ -268,7 +282,7 @@ module _ {terms : Terms} (given : Given terms) {w : World} {d : ℕ} (search : S
           marks-fit = staged .marks-fit;
           logs-fit = staged .logs-fit;
           level = level-look (staged .level) (λ u v g i s m e. go u v s (m .0) (m .1) e (eq-or-ne (u / terms .size) j) (eq-or-ne (u % terms .size) at));
-          count = staged .count;
+          found-fits = staged .found-fits;
         }
       where
         go : (u v : ℕ) → suc (D terms u) ≡ d
@@ -315,7 +329,7 @@ module _ {terms : Terms} (given : Given terms) {w : World} {d : ℕ} (search : S
           level = level-unlog (staged .level)
               (λ v i. (i .0, (i .1 .0, omega (arith, fewer (v / terms .size)), i .1 .2)))
               (λ v h e i. keeps v h e i (eq-or-ne (v / terms .size) j));
-          count = staged .count;
+          found-fits = staged .found-fits;
         }
       where
         fit : LogsFit terms logs
@@ -338,7 +352,7 @@ module _ {terms : Terms} (given : Given terms) {w : World} {d : ℕ} (search : S
 
     -- in a reverse level nothing may wait
     pub stage-end : (isReverse (w .job .way) ≡ true → (t : ℕ) → getD (logs .waiting) t 0 ≡ 0) → Searching terms (stage w d j marks logs at) d
-    unfolding stage progressed passedOf waitingOf countOf sweptOf isSwept Looked Logged
+    unfolding stage progressed recounted passedOf waitingOf countOf sweptOf isSwept Looked Logged
     stage-end idle =
         record {
           shaped = record {
@@ -346,7 +360,7 @@ module _ {terms : Terms} (given : Given terms) {w : World} {d : ℕ} (search : S
             passed-length = length-set (w .job .passed) j at ∙ search .shaped .passed-length;
             waiting-length = staged .logs-fit .waiting-length;
             swept-length = search .shaped .swept-length;
-            counts-length = length-set (w .job .counts) d (marks .count) ∙ search .shaped .counts-length;
+            counts-length = length-set (w .job .counts) d (marks .found .count) ∙ search .shaped .counts-length;
             segments-length = length-set (w .segments) j (marks .segment) ∙ search .shaped .segments-length;
             segment-bytes = λ t h. bytes t h (eq-or-ne t j);
             log-length = staged .logs-fit .log-length;
@@ -363,9 +377,8 @@ module _ {terms : Terms} (given : Given terms) {w : World} {d : ℕ} (search : S
             offsets = staged .logs-fit .offsets;
             level = staged .level;
             spares = record { byte = λ t k h. byte t k h (eq-or-ne t j); spare = λ t i h. spare t i h (eq-or-ne t j) };
-            counts-below = λ i h. getD-set-other (w .job .counts) d i (marks .count) 0 (λ e. omega arith) ∙ search .searches .counts-below i h;
-            counts-here = getD-set-same (w .job .counts) d (marks .count) 0 counted ∙ staged .count;
-            counts-above = λ i h. getD-set-other (w .job .counts) d i (marks .count) 0 (λ e. omega arith) ∙ search .searches .counts-above i h;
+            counts = counting-found (search .searches .counts) (λ i ne. getD-set-other (w .job .counts) d i (marks .found .count) 0 ne)
+                (getD-set-same (w .job .counts) d (marks .found .count) 0 counted ∙ staged .found-fits .count);
             idle = idle;
             listed = λ r l. record { long = search .searches .listed r l .long; bits = search .searches .listed r l .bits };
           };
@@ -408,14 +421,14 @@ module _ {terms : Terms} (given : Given terms) {w : World} {d : ℕ} (search : S
     pub near : D terms v ≤ d
 
   pub mark-all : (logs : Logs) (at : ℕ) (stacks : List ℕ) (marks : Marks) → Staged terms w d j marks logs at
-      → ((k : ℕ) → k < length stacks → Due (getD stacks k 0)) → Marking logs at stacks marks (markAll (terms .size) d stacks marks)
+      → ((k : ℕ) → k < length stacks → Due (getD stacks k 0)) → Marking logs at stacks marks (markAll terms d stacks marks)
   unfolding markAll
   mark-all logs at [] marks staged due = record { staged = staged; before = λ v h e. e; done = λ k h. absurd (omega arith) }
   mark-all logs at (v ∷ stacks) marks staged due =
       let first : Due v = due 0 (omega arith) in
       let one = stage-mark given search j inside staged v (first .low) (first .here) (first .near) in
       let marked = stage-marked given search j inside staged v (first .low) (first .here) in
-      let rest = mark-all logs at stacks (markOne (terms .size) d v marks) one (λ k l. due (suc k) (omega arith)) in
+      let rest = mark-all logs at stacks (markOne terms d v marks) one (λ k l. due (suc k) (omega arith)) in
       record {
         staged = rest .staged;
         before = λ u l e. marked-before marked u l (rest .before u l e);
@@ -423,10 +436,10 @@ module _ {terms : Terms} (given : Given terms) {w : World} {d : ℕ} (search : S
       }
     where
       each : Marked (N terms) d (entryIn (terms .size) (set (w .segments) j (marks .segment)))
-          (entryIn (terms .size) (set (w .segments) j (markOne (terms .size) d v marks .segment))) v
-          → Marking logs at stacks (markOne (terms .size) d v marks) (markAll (terms .size) d stacks (markOne (terms .size) d v marks))
+          (entryIn (terms .size) (set (w .segments) j (markOne terms d v marks .segment))) v
+          → Marking logs at stacks (markOne terms d v marks) (markAll terms d stacks (markOne terms d v marks))
           → (k : ℕ) → k < suc (length stacks)
-          → entryIn (terms .size) (set (w .segments) j (markAll (terms .size) d stacks (markOne (terms .size) d v marks) .segment)) (getD (v ∷ stacks) k 0) ≡ 3 → ⊥
+          → entryIn (terms .size) (set (w .segments) j (markAll terms d stacks (markOne terms d v marks) .segment)) (getD (v ∷ stacks) k 0) ≡ 3 → ⊥
       each marked rest zero l e = marked-after marked (rest .before v (due 0 (omega arith) .low) e)
       each marked rest (suc k) l e = rest .done k (omega arith) e
 
@@ -469,9 +482,7 @@ redirected search loaded swept changed low long fits level listed =
         offsets = search .searches .offsets;
         level = level;
         spares = record { byte = search .searches .spares .byte; spare = search .searches .spares .spare };
-        counts-below = search .searches .counts-below;
-        counts-here = search .searches .counts-here;
-        counts-above = search .searches .counts-above;
+        counts = search .searches .counts;
         idle = search .searches .idle;
         listed = listed;
       };

@@ -20,9 +20,9 @@ use Rattle.graph.proofs.Levels.{level-look}
 use Rattle.search.specs.Build.{World, withJob, withSegment, Lengths, own, doSweep, Listed, outcome, lent, kept, lentList}
 use Rattle.search.specs.Changed.{bitAt}
 use Rattle.search.specs.Expand.{childrenOf}
-use Rattle.search.specs.JobState.{levelOf, passedOf, waitingOf, countOf, sweptOf, isSwept, stackCountAt, stackCountOf, progressed, directed}
+use Rattle.search.specs.JobState.{levelOf, passedOf, waitingOf, sweptOf, isSwept, stackCountAt, stackCountOf, progressed, recounted, directed}
 use Rattle.search.specs.Logs.{Logs, indexesOf}
-use Rattle.search.specs.Marks.{Marks, markAll, markedJob}
+use Rattle.search.specs.Marks.{Marks, markAll, foundAt, markedJob}
 use Rattle.search.specs.Sweep.{isChanged, isReached, reachedIn, withPair, sweepRefusal}
 use Rattle.search.specs.Terms.{N, G, m}
 use Rattle.search.specs.declared.Answer.{Answer}
@@ -136,7 +136,7 @@ module _ (w : World) (given : Given (w .job .terms)) (search : Searching (w .job
   stacks = indexesOf S j offsets
 
   abbrev start : Marks
-  start = record { segment = getD (w .segments) j []; count = countOf (w .job) d }
+  start = record { segment = getD (w .segments) j []; found = foundAt (w .job) d }
 
   abbrev logs : Logs
   logs = record { log = w .log; waiting = w .job .waiting }
@@ -161,12 +161,12 @@ module _ (w : World) (given : Given (w .job .terms)) (search : Searching (w .job
         near = reached-near (j * S + i) below (ap (λ (x : ℕ). isReached (w .job) (w .changed) (j * S + x)) (sym at) ∙ r .2);
       })
 
-  marking : Marking given search j inside logs (passedOf (w .job) j) stacks start (markAll S d stacks start)
+  marking : Marking given search j inside logs (passedOf (w .job) j) stacks start (markAll terms d stacks start)
   marking = mark-all given search j inside logs (passedOf (w .job) j) stacks start first due
 
   -- the world when they are marked
   abbrev marked : World
-  marked = stage w d j (markAll S d stacks start) logs (passedOf (w .job) j)
+  marked = stage w d j (markAll terms d stacks start) logs (passedOf (w .job) j)
 
   seen : (u v k : ℕ) → u < N terms → v < N terms → suc (D terms u) ≡ d → u / S ≡ b → v / S ≡ j
       → isMove (moves terms) k ≡ true → step terms k u ≡ v → entryIn S (marked .segments) v ≡ 3 → ⊥
@@ -181,11 +181,11 @@ module _ (w : World) (given : Given (w .job .terms)) (search : Searching (w .job
       (ap (λ (x : ℕ). isReached (w .job) (w .changed) (j * S + x)) at ∙ ap (isReached (w .job) (w .changed)) this ∙ edge-reached u v k g s here move e) in
       let place : getD stacks (r .0) 0 ≡ v = getD-map (λ i. j * S + i) offsets (r .0) 0 0 (r .1) ∙ ap (λ (x : ℕ). j * S + x) (r .2 ∙ at) ∙ this in
       λ q. marking .done (r .0) (omega (arith, r .1, length-map offsets (λ i. j * S + i)))
-      (ap (entryIn S (set (w .segments) j (markAll S d stacks start .segment))) place ∙ q)
+      (ap (entryIn S (set (w .segments) j (markAll terms d stacks start .segment))) place ∙ q)
 
   own-keeps : (right : Lengths) (list : Listed) → sweepRefusal (w .job) j (length (getD (w .segments) j [])) (length (lentList (w .job) list (w .changed))) ≡ 0
       → Searching terms (outcome {right = right} w (doSweep j own list) .world) d
-  unfolding outcome lent kept stage pairedWorld progressed directed passedOf waitingOf sweptOf isSwept withPair
+  unfolding outcome lent kept stage pairedWorld progressed recounted directed passedOf waitingOf sweptOf isSwept withPair
   own-keeps right list accepted =
       let lent = lentList (w .job) list (w .changed) in
       let facts = sweep-facts (w .job) j (length (getD (w .segments) j [])) (length lent) accepted in
@@ -194,8 +194,8 @@ module _ (w : World) (given : Given (w .job .terms)) (search : Searching (w .job
       subst (λ (x : World). Searching terms x d)
       (sym
       (ap leaves (sweep-accepted (w .job) j (getD (w .segments) j []) lent accepted)
-      ∙ ap (λ (xs : List ℕ). swept (w .job .passed) (markAll S d (indexesOf S j (reachedIn (w .job) j xs)) start)) mine
-      ∙ ap (λ (xs : List ℕ). swept xs (markAll S d stacks start)) (sym (set-getD (w .job .passed) j 0))))
+      ∙ ap (λ (xs : List ℕ). swept (w .job .passed) (markAll terms d (indexesOf S j (reachedIn (w .job) j xs)) start)) mine
+      ∙ ap (λ (xs : List ℕ). swept xs (markAll terms d stacks start)) (sym (set-getD (w .job .passed) j 0))))
       (paired-keeps given (stage-end given search j inside (marking .staged) (search .searches .idle)) j inside low (facts .left) seen)
     where
       leaves : List ℕ × Answer → World

@@ -16,10 +16,10 @@ use Rattle.search.specs.Begin.{begun}
 use Rattle.search.specs.Build.{World, Lengths, Call, CarriesOn, own, other, doBlank, doExpand, doSettle, doLook, doLoad, doSweep, doClose, withJob, withSegment, loadedAs, lent, kept, lentList, isOwn, isLentOwn, isLoadDue, outcome, after, passes, empties, sweeps, loads, changes}
 use Rattle.search.specs.Close.{isDone, isSweptWhole, isReady, isPastLast, closeRefusal}
 use Rattle.search.specs.Drive.{hasEnded}
-use Rattle.search.specs.JobState.{isBlanking, isLevel, isFinished, isReverse, inReverse, levelOf, lastLevel, noSegment, stackCountOf, segmentCountOf, stackCountAt, passedOf, waitingOf, countOf, isLoaded, isSwept, sweptOf, progressed, directed}
+use Rattle.search.specs.JobState.{isBlanking, isLevel, isFinished, isReverse, inReverse, levelOf, lastLevel, noSegment, stackCountOf, segmentCountOf, stackCountAt, passedOf, waitingOf, countOf, isLoaded, isSwept, sweptOf, progressed, recounted, directed}
 use Rattle.search.specs.Load.{loadRefusal}
 use Rattle.search.specs.Logs.{logPart, indexesOf, pending}
-use Rattle.search.specs.Marks.{Marks, markAll, marksFrom, markedJob}
+use Rattle.search.specs.Marks.{Marks, markAll, foundAt, withFound, marksFrom, markedJob}
 use Rattle.search.specs.Promise.{Continues, FinishedByClose, rightLengths}
 use Rattle.search.specs.PromiseBy.{Needs, FinishesBy, AtEnd, PromiseBy, WholeBuildBy}
 use Rattle.search.specs.Segments.{segmentLimit}
@@ -28,9 +28,11 @@ use Rattle.search.specs.Terms.{N}
 use Rattle.search.specs.declared.Answer.{Answer}
 use Rattle.search.specs.declared.Phase.{Phase}
 use Rattle.search.specs.declared.Phase.the-variants.{Blanking, Level, Finished}
+use Rattle.search.specs.declared.Job.{Job}
 use Rattle.search.specs.declared.Terms.{Terms}
 use Rattle.search.specs.declared.Way.{Way}
 use Rattle.search.specs.declared.Way.the-variants.{Forward}
+use Rattle.search.proofs.MarkLaws.{found-same}
 use Rattle.search.proofs.Accepted.{forward-level, reverse-level, blank-facts, expand-facts, settle-facts, load-facts, sweep-facts, close-facts, settle-accepted, blank-phase, expand-phase, settle-phase, load-phase, sweep-phase}
 use Rattle.search.proofs.Advancing.{ended-cases, close-14, invariant-advances}
 use Rattle.search.proofs.BlankKeeps.{begun-invariant}
@@ -227,24 +229,24 @@ module _ {terms : Terms} (given : Given terms) {w : World} (invariant : Invarian
   -- a Settle of an empty log changes nothing
   settle-still : (j : ℕ) → settleRefusal (w .job) j (length (getD (w .segments) j [])) (w .log) ≡ 0
       → outcome {right = rightLengths terms} w (doSettle j own own) .world ≡ w
-  unfolding outcome lent kept pending logPart indexesOf markAll progressed countOf waitingOf
+  unfolding outcome lent kept pending logPart indexesOf markAll progressed recounted countOf waitingOf
   settle-still j accepted =
       let segment : List ℕ = getD (w .segments) j [] in
       let d : ℕ = levelOf (w .job .phase) in
       let none : getD (w .job .waiting) j 0 ≡ 0 = last-complete given invariant h .none-waits j in
       ap (λ (o : List ℕ × Answer). withJob (o .1 .job) (withSegment j (o .0) w)) (settle-accepted (w .job) j segment (w .log) accepted)
-      ∙ ap (λ (count : ℕ). settled j (markAll (w .job .terms .size) d (indexesOf (w .job .terms .size) j (logPart (w .job .terms .room) j count (w .log))) (marksFrom (w .job) segment))) none
-      ∙ ap (λ (x : List ℕ). relisted x (set (w .job .counts) d (getD (w .job .counts) d 0)) (set (w .segments) j segment))
+      ∙ ap (λ (count : ℕ). settled j (markAll (w .job .terms) d (indexesOf (w .job .terms .size) j (logPart (w .job .terms .room) j count (w .log))) (marksFrom (w .job) segment))) none
+      ∙ ap (λ (x : List ℕ). relisted x (withFound (w .job) d (foundAt (w .job) d)) (set (w .segments) j segment))
       (ap (λ (x : ℕ). set (w .job .waiting) j x) (sym none) ∙ set-getD (w .job .waiting) j 0)
-      ∙ ap (λ (x : List ℕ). relisted (w .job .waiting) x (set (w .segments) j segment)) (set-getD (w .job .counts) d 0)
-      ∙ ap (relisted (w .job .waiting) (w .job .counts)) (set-getD (w .segments) j [])
+      ∙ ap (λ (x : Job). relisted (w .job .waiting) x (set (w .segments) j segment)) (found-same (w .job) d)
+      ∙ ap (relisted (w .job .waiting) (w .job)) (set-getD (w .segments) j [])
     where
       settled : ℕ → Marks → World
       settled j marks = withJob (markedJob (w .job) (w .job .passed) (set (w .job .waiting) j 0) marks) (withSegment j (marks .segment) w)
 
-      relisted : List ℕ → List ℕ → List (List ℕ) → World
-      relisted waiting counts segments =
-          record { job = progressed (w .job) (w .job .phase) (w .job .passed) waiting counts; segments = segments; log = w .log; changed = w .changed }
+      relisted : List ℕ → Job → List (List ℕ) → World
+      relisted waiting job segments =
+          record { job = progressed job (w .job .phase) (w .job .passed) waiting; segments = segments; log = w .log; changed = w .changed }
 
   -- a call leaves the world as it is, or loads a segment in a reverse level
   Stays : World → Type 0

@@ -34,7 +34,7 @@ blankOf job j segment =
       blanked job j,
       record {
         refusal = 0;
-        job = progressed job (job .phase) (set (job .passed) j (stackCountAt job j)) (job .waiting) (job .counts);
+        job = progressed job (job .phase) (set (job .passed) j (stackCountAt job j)) (job .waiting);
       },
     )
     (segment, record { refusal = r; job = job })

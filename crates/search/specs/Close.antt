@@ -5,7 +5,7 @@ use Prim.Native.Nat.{ℕ, _+_, _-_}
 use lib.Dec.{eqb}
 use lib.ListN.{getD, set, replicate}
 use Rattle.base.specs.Words.{unless, all, from}
-use Rattle.search.specs.JobState.{isCoherent, isFinished, inReverse, isSwept, levelOf, lastLevel, noSegment, segmentCountOf, stackCountAt, passedOf, waitingOf, countOf, progressed, directed}
+use Rattle.search.specs.JobState.{isCoherent, isFinished, inReverse, isSwept, levelOf, lastLevel, noSegment, segmentCountOf, stackCountAt, passedOf, waitingOf, countOf, progressed, recounted, directed}
 use Rattle.search.specs.Segments.{segmentLimit}
 use Rattle.search.specs.declared.Answer.{Answer}
 use Rattle.search.specs.declared.Job.{Job}
@@ -49,7 +49,7 @@ nextCounts counts (Finished d) = counts
 unfoldable pub closed : Job → Way → Job
 closed job way =
     directed
-    (progressed job (nextPhase (job .counts) (job .phase)) (replicate segmentLimit 0) (job .waiting) (nextCounts (job .counts) (job .phase)))
+    (progressed (recounted job (nextCounts (job .counts) (job .phase))) (nextPhase (job .counts) (job .phase)) (replicate segmentLimit 0) (job .waiting))
     way
     noSegment
     (replicate segmentLimit 0)

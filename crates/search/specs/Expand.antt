@@ -43,7 +43,7 @@ module _ (job : Job) (j : ℕ) where
         at = e .at;
         waits = e .waits;
         on = e .on;
-        marks = cond here (markOne (job .terms .size) (levelOf (job .phase)) c (e .marks)) (e .marks);
+        marks = cond here (markOne (job .terms) (levelOf (job .phase)) c (e .marks)) (e .marks);
         logs = cond here (e .logs) (logOne (job .terms .room) (c / job .terms .size) (c % job .terms .size) (e .logs));
       }
 

@@ -2,7 +2,8 @@
 --   stackCountAt   m of segment j
 --   movesOf        the moves that make children: the turns of its set, rising
 --   sweptOf        the segments that are swept against segment b, as bits
---   progressed     the job with another phase, passed, waiting and counts
+--   progressed     the job with another phase, passed and waiting
+--   recounted      the job with other counts of its levels
 --   directed       the job with another way, loaded segment and swept pairs
 use mathlib.Core.Bool.{Bool, true, false, not, _&&_, _||_, cond}
 use mathlib.Core.List.{List}
@@ -133,8 +134,8 @@ isCoherent job =
     && loadedFits job
     && all (sweptFits job) (from 0 segmentLimit)
 
-unfoldable pub progressed : Job → Phase → List ℕ → List ℕ → List ℕ → Job
-progressed job phase passed waiting counts =
+unfoldable pub progressed : Job → Phase → List ℕ → List ℕ → Job
+progressed job phase passed waiting =
     record {
       terms = job .terms;
       phase = phase;
@@ -142,6 +143,19 @@ progressed job phase passed waiting counts =
       loaded = job .loaded;
       passed = passed;
       waiting = waiting;
+      swept = job .swept;
+      counts = job .counts;
+    }
+
+unfoldable pub recounted : Job → List ℕ → Job
+recounted job counts =
+    record {
+      terms = job .terms;
+      phase = job .phase;
+      way = job .way;
+      loaded = job .loaded;
+      passed = job .passed;
+      waiting = job .waiting;
       swept = job .swept;
       counts = counts;
     }

@@ -21,7 +21,7 @@ settleRefusal job j bytes log =
 unfoldable pub settleOf : Job → ℕ → List ℕ → List ℕ → List ℕ × Answer
 settleOf job j segment log =
     let r = settleRefusal job j (length segment) log in
-    let marks = markAll (job .terms .size) (levelOf (job .phase)) (indexesOf (job .terms .size) j (pending job j log)) (marksFrom job segment) in
+    let marks = markAll (job .terms) (levelOf (job .phase)) (indexesOf (job .terms .size) j (pending job j log)) (marksFrom job segment) in
     cond (eqb r 0)
     (marks .segment, record { refusal = 0; job = markedJob job (job .passed) (set (job .waiting) j 0) marks })
     (segment, record { refusal = r; job = job })

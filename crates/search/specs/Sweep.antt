@@ -43,7 +43,7 @@ withPair job j = set (job .swept) (job .loaded) (sweptOf job (job .loaded) + 2 ^
 unfoldable pub sweepOf : Job → ℕ → List ℕ → List ℕ → List ℕ × Answer
 sweepOf job j segment list =
     let r = sweepRefusal job j (length segment) (length list) in
-    let marks = markAll (job .terms .size) (levelOf (job .phase)) (indexesOf (job .terms .size) j (reachedIn job j list)) (marksFrom job segment) in
+    let marks = markAll (job .terms) (levelOf (job .phase)) (indexesOf (job .terms .size) j (reachedIn job j list)) (marksFrom job segment) in
     cond (eqb r 0) (
       marks .segment,
       record {

@@ -66,6 +66,11 @@ pub struct Job {
     pub counts: [u64; COUNT_PLACES],
 }
 
+// What a level has found so far: how many stacks.
+pub struct Found {
+    pub count: u64,
+}
+
 // What Begin, Blank, Settle, Load, Sweep and Close answer: the job after the call. Refused, the job as it was; of Begin, a job of zeros
 // but for loaded, which is NO_SEGMENT. The job stands first: behind padding it would be copied once more.
 pub struct Answer {

@@ -19,7 +19,7 @@ unfolding Frame.fieldsRefusal Frame.bytesRefusal Frame.firstRefusal Frame.firstO
 frames = tt
 
 lines : Unit {0}
-unfolding Output.levelLine Output.levelsFrom Output.levelLines Output.deepestLine Output.totalLine Output.planLine Output.refusalLine
+unfolding Output.levelLine Output.levelsBelow Output.levelLines Output.deepestLine Output.totalLine Output.planLine Output.refusalLine
 lines = tt
 
 answers : Unit {0}

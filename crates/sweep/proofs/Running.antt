@@ -11,16 +11,18 @@ use Rattle.base.proofs.Lists.{map-append, filter-append, from-more}
 use Rattle.stacks.specs.Stack.{stackCount}
 use Rattle.stacks.proofs.KindLaws.{count-fits}
 use Rattle.search.specs.Entries.{entryAt}
+use Rattle.search.specs.JobState.{countLimit}
 use Rattle.search.specs.Logs.{indexesOf}
 use Rattle.search.specs.Marks.{Marks, markOne, markAll}
 use Rattle.search.specs.Segments.{stackCountIn}
+use Rattle.search.specs.declared.Found.{Found}
+use Rattle.search.specs.declared.Terms.{Terms}
 use Rattle.search.proofs.EntryLaws.{byte-inside}
 use Rattle.search.proofs.MarkLaws.{mark-seen, mark-length, marks-append}
 use Rattle.search.proofs.SegmentLaws.{segment-stack, segment-stack-mod}
-use Rattle.twobit.specs.Mark.{MarkFits, MarksStack, marksOf}
-use Rattle.twobit.specs.declared.marking.Found.{Found}
-use Rattle.twobit.proofs.LeafMarks.{count-le}
-use Rattle.sweep.specs.Reach.{ReachFits, RunFits, reachedBy, reachedTo, Sweeps}
+use Rattle.twobit.specs.Mark.{AtMost, MarkFits, MarksStack, marksOf}
+use Rattle.twobit.proofs.LeafMarks.{at-most, mark-at-most}
+use Rattle.sweep.specs.Reach.{ReachFits, RunFits, pairTerms, reachedBy, reachedTo, Sweeps}
 use Rattle.sweep.specs.declared.run.Pair.{Pair}
 
 -- ---- the marks after no stack, and after one more
@@ -46,34 +48,35 @@ module _ (pair : Pair) (list : List ℕ) (at : ℕ) (before marks : Marks) where
       ∙ filter-append p (from 0 at) (at ∷ [])
 
   module _ (swept : Sweeps pair at list before marks) where
-    sweeps-more : (after : Marks) → after ≡ cond isReached (markOne (pair .size) (pair .mark) v marks) marks → Sweeps pair (at + 1) list before after
+    sweeps-more : (after : Marks) → after ≡ cond isReached (markOne (pairTerms pair) (pair .mark) v marks) marks → Sweeps pair (at + 1) list before after
     unfolding markAll indexesOf
     sweeps-more after e =
         let S = pair .size in
+        let t : Terms = pairTerms pair in
         let sofar : List ℕ = reachedTo pair list at in
         e
         ∙ go isReached
-        ∙ ap (λ (m : Marks). markAll S (pair .mark) (indexesOf S (pair .j) (cond isReached (at ∷ []) [])) m) swept
-        ∙ sym (marks-append S (pair .mark) (indexesOf S (pair .j) sofar) (indexesOf S (pair .j) (cond isReached (at ∷ []) [])) before)
-        ∙ ap (λ (l : List ℕ). markAll S (pair .mark) l before) (sym (map-append (λ i. pair .j * S + i) sofar (cond isReached (at ∷ []) [])))
-        ∙ ap (λ (l : List ℕ). markAll S (pair .mark) (indexesOf S (pair .j) l) before) (sym reached-more)
+        ∙ ap (λ (m : Marks). markAll t (pair .mark) (indexesOf S (pair .j) (cond isReached (at ∷ []) [])) m) swept
+        ∙ sym (marks-append t (pair .mark) (indexesOf S (pair .j) sofar) (indexesOf S (pair .j) (cond isReached (at ∷ []) [])) before)
+        ∙ ap (λ (l : List ℕ). markAll t (pair .mark) l before) (sym (map-append (λ i. pair .j * S + i) sofar (cond isReached (at ∷ []) [])))
+        ∙ ap (λ (l : List ℕ). markAll t (pair .mark) (indexesOf S (pair .j) l) before) (sym reached-more)
       where
-        go : (t : Bool) → cond t (markOne (pair .size) (pair .mark) v marks) marks ≡ markAll (pair .size) (pair .mark) (indexesOf (pair .size) (pair .j) (cond t (at ∷ []) [])) marks
+        go : (t : Bool) → cond t (markOne (pairTerms pair) (pair .mark) v marks) marks ≡ markAll (pairTerms pair) (pair .mark) (indexesOf (pair .size) (pair .j) (cond t (at ∷ []) [])) marks
         go true = refl
         go false = refl
 
     -- a reached stack is marked; one that is not reached, and one that is seen, is left
-    sweeps-reached : isReached ≡ true → (after : Marks) → after ≡ markOne (pair .size) (pair .mark) v marks → Sweeps pair (at + 1) list before after
-    sweeps-reached t after e = sweeps-more after (e ∙ ap (λ (x : Bool). cond x (markOne (pair .size) (pair .mark) v marks) marks) (sym t))
+    sweeps-reached : isReached ≡ true → (after : Marks) → after ≡ markOne (pairTerms pair) (pair .mark) v marks → Sweeps pair (at + 1) list before after
+    sweeps-reached t after e = sweeps-more after (e ∙ ap (λ (x : Bool). cond x (markOne (pairTerms pair) (pair .mark) v marks) marks) (sym t))
 
     sweeps-unreached : isReached ≡ false → Sweeps pair (at + 1) list before marks
-    sweeps-unreached t = sweeps-more marks (ap (λ (x : Bool). cond x (markOne (pair .size) (pair .mark) v marks) marks) (sym t))
+    sweeps-unreached t = sweeps-more marks (ap (λ (x : Bool). cond x (markOne (pairTerms pair) (pair .mark) v marks) marks) (sym t))
 
     sweeps-seen : v % pair .size ≡ at → (entryAt (marks .segment) at ≡ 3 → ⊥) → Sweeps pair (at + 1) list before marks
     sweeps-seen own seen = sweeps-more marks (go isReached)
       where
-        go : (t : Bool) → marks ≡ cond t (markOne (pair .size) (pair .mark) v marks) marks
-        go true = sym (mark-seen (pair .size) (pair .mark) v marks (λ e. seen (ap (entryAt (marks .segment)) (sym own) ∙ e)))
+        go : (t : Bool) → marks ≡ cond t (markOne (pairTerms pair) (pair .mark) v marks) marks
+        go true = sym (mark-seen (pairTerms pair) (pair .mark) v marks (λ e. seen (ap (entryAt (marks .segment)) (sym own) ∙ e)))
         go false = refl
 
 -- ---- what a run is given, and how far it is
@@ -82,13 +85,13 @@ pub record SweptTo (pair : Pair) (stacks : ℕ) (segment₀ : List ℕ) (found�
   pub given : RunFits pair stacks found₀ segment₀ list
   pub within : at ≤ stacks
   pub long : length segment ≡ length segment₀
-  pub few : found .count ≤ found₀ .count + at
+  pub few : AtMost found (countLimit + at)
   pub swept : Sweeps pair at list (marksOf segment₀ found₀) (marksOf segment found)
 
 module _ {pair : Pair} {stacks : ℕ} {segment : List ℕ} {found : Found} {list : List ℕ} (given : RunFits pair stacks found segment list) where
   pub swept-none : SweptTo pair stacks segment found list segment found 0
   swept-none =
-      record { given = given; within = omega arith; long = refl; few = omega arith; swept = sweeps-none pair list (marksOf segment found) }
+      record { given = given; within = omega arith; long = refl; few = at-most (given .few) (omega arith); swept = sweeps-none pair list (marksOf segment found) }
 
   -- the index of the segment's first stack
   pub base-fits : pair .j * pair .size < 2 ^ 32
@@ -129,12 +132,16 @@ module _ {pair : Pair} {stacks : ℕ} {segment₀ : List ℕ} {found₀ : Found}
           below = stack-below;
         }
 
+    mark-few : AtMost found (2 ^ 62)
+    unfolding countLimit
+    mark-few = at-most (r .few) (omega (arith, stack-fits))
+
     pub mark-fits : MarkFits segment at (pair .mark) found
-    mark-fits = record { below = r .given .label; inside = stack-byte; few = omega (arith, r .few, r .given .few) }
+    mark-fits = record { below = r .given .label; inside = stack-byte; few = mark-few }
 
     -- one that is seen, one that is not reached, and one that is marked
     left : Sweeps pair (at + 1) list (marksOf segment₀ found₀) (marksOf segment found) → SweptTo pair stacks segment₀ found₀ list segment found (at + 1)
-    left swept = record { given = r .given; within = omega arith; long = r .long; few = omega (arith, r .few); swept = swept }
+    left swept = record { given = r .given; within = omega arith; long = r .long; few = at-most (r .few) (omega arith); swept = swept }
 
     pub swept-seen : (entryAt segment at ≡ 3 → ⊥) → SweptTo pair stacks segment₀ found₀ list segment found (at + 1)
     swept-seen seen = left (sweeps-seen pair list at (marksOf segment₀ found₀) (marksOf segment found) (r .swept) stack-own seen)
@@ -150,11 +157,11 @@ module _ {pair : Pair} {stacks : ℕ} {segment₀ : List ℕ} {found₀ : Found}
           let S = pair .size in
           let v = pair .j * S + at in
           let marks = marksOf segment found in
-          let e = marked S stack-own in
+          let e = marked (pairTerms pair) stack-own in
           record {
             given = r .given;
             within = omega arith;
-            long = ap (λ (m : Marks). length (m .segment)) e ∙ mark-length S (pair .mark) v marks ∙ r .long;
-            few = omega (arith, ap (λ (m : Marks). m .count) e, count-le S (pair .mark) v marks, r .few);
+            long = ap (λ (m : Marks). length (m .segment)) e ∙ mark-length (pairTerms pair) (pair .mark) v marks ∙ r .long;
+            few = at-most (subst (λ (m : Marks). AtMost (m .found) (countLimit + at + 1)) (sym e) (mark-at-most (pairTerms pair) (pair .mark) v marks (r .few))) (omega arith);
             swept = sweeps-reached pair list at (marksOf segment₀ found₀) marks (r .swept) (sym is ∙ t) (marksOf segment′ found′) e;
           }

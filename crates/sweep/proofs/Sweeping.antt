@@ -6,32 +6,33 @@ use Prim.Native.Nat.{ℕ, _+_, _-_, _*_, _%_, _^_, _<_, _≤_}
 use native.Mathlib.Omega.{arith}
 use borrow.Author.Tests.{lt-ltb}
 use lib.Dec.{eqb}
-use lib.ListN.{length, getD, set}
+use lib.ListN.{length, set}
 use lib.Pow.{pow-mono, shl-exact}
 use Rattle.base.proofs.Bits.{put-lt}
 use Rattle.search.specs.Changed.{listBytes}
 use Rattle.search.specs.Entries.{bytesFor, nextEntry}
-use Rattle.search.specs.JobState.{countLimit, sweptOf, levelOf, countOf, stackCountOf, segmentCountOf, stackCountAt, progressed, directed}
+use Rattle.search.specs.JobState.{countLimit, sweptOf, levelOf, stackCountOf, segmentCountOf, stackCountAt, progressed, directed}
 use Rattle.search.specs.Logs.{indexesOf}
-use Rattle.search.specs.Marks.{Marks, markAll}
+use Rattle.search.specs.Marks.{Marks, markAll, foundAt, withFound}
 use Rattle.search.specs.Segments.{segmentLimit}
 use Rattle.search.specs.Sweep.{sweepRefusal, isReached, reachedIn, withPair, sweepOf}
 use Rattle.search.specs.Terms.{m, beginRefusal}
 use Rattle.search.specs.declared.Answer.{Answer}
+use Rattle.search.specs.declared.Found.{Found}
 use Rattle.search.specs.declared.Job.{Job}
 use Rattle.search.proofs.Accepted.{SweepFacts, sweep-facts, sweep-accepted}
 use Rattle.search.proofs.Coherence.{begin-given, coherent-facts}
 use Rattle.search.proofs.EntryLaws.{next-lt, next-level}
+use Rattle.search.proofs.MarkLaws.{marks-alike}
 use Rattle.search.proofs.PairLaws as PairLaws
 use Rattle.search.proofs.PairLaws.{unswept-bit}
-use Rattle.search.proofs.SegmentLaws.{segment-starts, stackCountIn-le}
-use Rattle.twobit.specs.Mark.{marksOf}
-use Rattle.twobit.specs.declared.marking.Found.{Found}
+use Rattle.search.proofs.SegmentLaws.{segment-starts}
+use Rattle.twobit.specs.Mark.{AtMost, marksOf}
 use Rattle.twobit.proofs.LeafMarks.{marks-level}
 use Rattle.job.specs.Standing.{standingOf}
 use Rattle.job.specs.declared.standing.Standing.{Standing}
-use Rattle.job.proofs.Bounds.{Bounds, coherent-begins, coherent-bounds, segment-below, reverse-least}
-use Rattle.sweep.specs.Reach.{RunFits, Sweeps}
+use Rattle.job.proofs.Bounds.{Bounds, coherent-begins, coherent-bounds, coherent-found, segment-below, reverse-least}
+use Rattle.sweep.specs.Reach.{RunFits, pairTerms, Sweeps}
 use Rattle.sweep.specs.declared.run.Pair.{Pair}
 
 -- the lengths that a job of this standing asks for
@@ -94,9 +95,9 @@ module _ (job : Job) (j : ℕ) (segment list : List ℕ) (accepted : sweepRefusa
 
   -- the values as the code has them
   module _ (loaded level mark stacks : ℕ) (b : loaded ≡ job .loaded) (l : level ≡ levelOf (job .phase)) (k : mark ≡ nextEntry ((level - 1) % 3))
-      (stacks-are : stacks ≡ m (job .terms) j) where
-    pub run-fits : RunFits (pairOf job j loaded mark) stacks (record { count = getD (job .counts) level 0 }) segment list
-    unfolding countLimit stackCountAt stackCountOf segmentCountOf countOf
+      (stacks-are : stacks ≡ m (job .terms) j) (found : Found) (so-far : found ≡ foundAt job level) where
+    pub run-fits : RunFits (pairOf job j loaded mark) stacks found segment list
+    unfolding stackCountAt stackCountOf segmentCountOf
     run-fits =
         let f = given in
         let N = stackCountOf job in
@@ -110,34 +111,37 @@ module _ (job : Job) (j : ℕ) (segment list : List ℕ) (accepted : sweepRefusa
           all = stacks-are;
           bytes = rw stacks-are (f .long);
           label = omega (arith, k, next-lt ((level - 1) % 3));
-          few = omega (arith, stacks-are, coherent .counts-fit level, bounds .small, stackCountIn-le N (job .terms .size) (bounds .some) j);
+          few = subst (λ (x : Found). AtMost x countLimit) (sym so-far) (coherent-found job (f .called .coherent) level);
         }
 
     -- what the code leaves is what the definition says
     pub sweep-is : (row : ℕ) → row ≡ sweptOf job (job .loaded) → (marked : Found) (after : List ℕ)
-        → Sweeps (pairOf job j loaded mark) stacks list (marksOf segment (record { count = getD (job .counts) level 0 })) (marksOf after marked)
+        → Sweeps (pairOf job j loaded mark) stacks list (marksOf segment found) (marksOf after marked)
+        → (next : Job) → next ≡ withFound job level marked
         → _≡_ {A = List ℕ × Answer} (
           after,
           record {
             refusal = 0;
             job = directed
-                (progressed job (job .phase) (job .passed) (job .waiting) (set (job .counts) level (marked .count)))
+                (progressed next (job .phase) (job .passed) (job .waiting))
                 (job .way)
                 (job .loaded)
                 (set (job .swept) loaded (row + 1 * 2 ^ j % 2 ^ 64));
           },
         )
         (sweepOf job j segment list)
-    unfolding reachedIn isReached withPair countOf stackCountAt stackCountOf
-    sweep-is row r marked after swept =
-        let S = job .terms .size in
-        let left : ℕ → ℕ → ℕ → Marks → Job = λ d at put x. directed
-        (progressed job (job .phase) (job .passed) (job .waiting) (set (job .counts) d (x .count))) (job .way) (job .loaded) (set (job .swept) at put) in
+    unfolding reachedIn isReached withPair stackCountAt stackCountOf
+    sweep-is row r marked after swept next e =
+        let t = job .terms in
         let d = levelOf (job .phase) in
-        let stacks′ : List ℕ = indexesOf S j (reachedIn job j list) in
-        let start : Marks = record { segment = segment; count = countOf job d } in
-        let marks : marksOf after marked ≡ markAll S d stacks′ start =
-        rw (b, k ∙ next-level level (level-some level l), l, stacks-are) at swept ∙ marks-level S d stacks′ start in
-        ap (λ (x : Job). (after, record { refusal = 0; job = x })) (rw (l, b, r, shifted) refl)
-        ∙ ap (λ (x : Marks). (x .segment, record { refusal = 0; job = left d (job .loaded) (sweptOf job (job .loaded) + 2 ^ j) x })) marks
+        let left : ℕ → ℕ → Marks → Job = λ at put x. directed
+        (progressed (withFound job d (x .found)) (job .phase) (job .passed) (job .waiting)) (job .way) (job .loaded) (set (job .swept) at put) in
+        let stacks′ : List ℕ = indexesOf (t .size) j (reachedIn job j list) in
+        let start : Marks = record { segment = segment; found = foundAt job d } in
+        let marks : marksOf after marked ≡ markAll t d stacks′ start =
+        rw (so-far, b, k ∙ next-level level (level-some level l), l, stacks-are) at swept
+        ∙ marks-alike (pairTerms (pairOf job j loaded mark)) t refl refl refl (d % 3) stacks′ start
+        ∙ marks-level t d stacks′ start in
+        ap (λ (x : Job). (after, record { refusal = 0; job = x })) (rw (e, l, b, r, shifted) refl)
+        ∙ ap (λ (x : Marks). (x .segment, record { refusal = 0; job = left (job .loaded) (sweptOf job (job .loaded) + 2 ^ j) x })) marks
         ∙ sym (sweep-accepted job j segment list accepted)

@@ -4,8 +4,8 @@
 --   Sweeps      what a run leaves of the marks
 use mathlib.Core.Path.{_≡_}
 use mathlib.Core.Bool.{Bool, true}
-use mathlib.Core.List.{List}
-use Prim.Native.Nat.{ℕ, _+_, _*_, _/_, _%_, _^_, _<_}
+use mathlib.Core.List.{List, []}
+use Prim.Native.Nat.{ℕ, _+_, _*_, _/_, _%_, _<_}
 use lib.ListN.{length}
 use Rattle.base.specs.Words.{any, filter, from}
 use Rattle.stacks.specs.Stack.{isPaneCount, stackCount}
@@ -13,11 +13,14 @@ use Rattle.stacks.specs.Turn.{isGroupSet, turnsIn}
 use Rattle.search.specs.Changed.{listBytes}
 use Rattle.search.specs.Entries.{bytesFor}
 use Rattle.search.specs.Expand.{childrenOf}
+use Rattle.search.specs.JobState.{countLimit}
 use Rattle.search.specs.Logs.{indexesOf}
 use Rattle.search.specs.Marks.{Marks, markAll}
 use Rattle.search.specs.Segments.{stackCountIn}
 use Rattle.search.specs.Sweep.{isChanged}
-use Rattle.twobit.specs.declared.marking.Found.{Found}
+use Rattle.search.specs.declared.Found.{Found}
+use Rattle.search.specs.declared.Terms.{Terms}
+use Rattle.twobit.specs.Mark.{AtMost}
 use Rattle.sweep.specs.declared.run.Pair.{Pair}
 
 -- a child of segment b has its bit in the list
@@ -34,7 +37,11 @@ pub record ReachFits (kind n groups S b : ℕ) (list : List ℕ) (v : ℕ) : Typ
   pub listed : length list ≡ listBytes (stackCountIn (stackCount kind n) S b)
   pub below : v < stackCount kind n
 
--- the count stays within 64 bits: each stack adds at most one
+-- the terms that a pair stands for; the others do not matter
+abbrev pub pairTerms : Pair → Terms
+pairTerms pair = record { kind = pair .kind; n = pair .n; wanted = []; groups = pair .groups; size = pair .size; room = 0 }
+
+-- the counts stay within 64 bits: each stack adds at most one
 pub record RunFits (pair : Pair) (stacks : ℕ) (found : Found) (segment list : List ℕ) : Type 0 where
   pub is-pane-count : isPaneCount (pair .kind) (pair .n) ≡ true
   pub set-fits : isGroupSet (pair .kind) (pair .n) (pair .groups) ≡ true
@@ -44,7 +51,7 @@ pub record RunFits (pair : Pair) (stacks : ℕ) (found : Found) (segment list : 
   pub all : stacks ≡ stackCountIn (stackCount (pair .kind) (pair .n)) (pair .size) (pair .j)
   pub bytes : length segment ≡ bytesFor stacks
   pub label : pair .mark < 3
-  pub few : found .count + stacks < 2 ^ 64
+  pub few : AtMost found countLimit
 
 -- the first stacks of segment j that are reached, as offsets, and the marks that they leave
 abbrev pub reachedTo : Pair → List ℕ → ℕ → List ℕ
@@ -53,4 +60,4 @@ reachedTo pair list stacks =
 
 abbrev pub Sweeps : Pair → ℕ → List ℕ → Marks → Marks → Type 0
 Sweeps pair stacks list before after =
-    after ≡ markAll (pair .size) (pair .mark) (indexesOf (pair .size) (pair .j) (reachedTo pair list stacks)) before
+    after ≡ markAll (pairTerms pair) (pair .mark) (indexesOf (pair .size) (pair .j) (reachedTo pair list stacks)) before

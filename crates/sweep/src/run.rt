@@ -2,10 +2,10 @@
 ghost use Rattle.sweep.specs.Reach.{RunFits, Sweeps};
 ghost use Rattle.twobit.specs.Mark.{marksOf};
 use crate::reach;
+use search::Found;
 use twobit::entry;
 use twobit::entry::UNSEEN;
 use twobit::marking;
-use twobit::marking::Found;
 
 // What a call does not change: the job's fields that it needs, the segment that it sweeps, the loaded one, and this level's entry.
 pub(crate) struct Pair {

@@ -22,7 +22,7 @@ use search::NO_SEGMENT;
 use search::Terms;
 use twobit::entry;
 use twobit::list;
-use twobit::marking::Found;
+use twobit::marking;
 use twobit::segment;
 
 // Whether what is lent has the lengths of segment j and of segment b's changed list.
@@ -101,11 +101,10 @@ pub fn sweep(job: Job, j: u32, segment: &mut [u8], list: &[u8]) -> Answer
         mark,
     };
     let stacks = geometry::stack_count_at(terms, j);
-    let count = next.counts[level as usize];
-    let found = Found { count };
+    let found = marking::found_at(&next.counts, level);
     let marked = run::sweep_run(pair, stacks, found, segment, list);
     next.swept[b as usize] = standing.swept + (1u64 << j);
-    next.counts[level as usize] = marked.count;
+    marking::put_found(&mut next.counts, level, marked);
     Answer {
         refusal: 0,
         job: next,

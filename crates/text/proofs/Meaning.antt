@@ -43,11 +43,12 @@ use Rattle.search.proofs.WholeTable.{build-ends, build-finishes}
 use Rattle.search.proofs.AllTurns.{few-turns}
 use Rattle.text.specs.Frame.{stackLimit, tableLimit, reportRoom, placesOf, kindIn, panesIn, wantedIn, sizeIn, firstWith, firstRefusal, firstOf, laterRefusal, laterOf}
 use Rattle.text.specs.Hex.{isByte, bytesOf, lineOf, fourBytes}
-use Rattle.text.specs.Output.{levelLine, levelsFrom, levelCounts, levelLines, deepestLine, totalLine, planLine, refusalLine}
+use Rattle.text.specs.Output.{levelLine, lineAt, levelCounts, levelLines, deepestLine, totalLine, planLine, refusalLine}
 use Rattle.text.proofs.FrameRefusals.{FirstPasses, first-passes, later-facts, later-passes}
 use Rattle.text.proofs.HexLaws.{number-four, line-says}
 use Rattle.text.specs.Report.{isReported, reportGroups, tableBytes, logWords, changedBytes, builtIn, printedTotal, headText, planText, laterTexts, reportFrom, reportOf}
 use Rattle.text.specs.Promise.{Answers, Reports}
+use Rattle.text.proofs.Writing.{levels-same}
 use Rattle.text.proofs.LentLaws.{groups-some, table-some, log-some, changed-some}
 use Rattle.text.proofs.AnswerLaws.{plan-accepted, later-accepted, later-refused}
 
@@ -289,9 +290,17 @@ module _ (cs table : List ℕ) (h : firstRefusal cs ≡ 0) (long : length table 
   added-is : total shown ≡ stackCount kind n
   added-is = seen-is ∙ finishes .all-seen
 
-  head-is : headText (builtIn kind n wanted S table .1) ≡ levelsFrom 0 shown ++ deepestLine deepest ++ totalLine (printedTotal (end .job))
-  unfolding headText levelLines
-  head-is = ap (λ (x : List ℕ × Job). headText (x .1)) built-end
+  -- a line says the same by all counts and by those that are shown
+  lines-shown : levelLines deepest (end .job .counts) ≡ levelLines deepest shown
+  unfolding levelLines countOf
+  lines-shown =
+      levels-same (lineAt (end .job .counts)) (lineAt shown) (suc deepest) (λ d l. ap (levelLine d) (sym (shown-at d (omega arith))))
+
+  head-is : headText (builtIn kind n wanted S table .1) ≡ levelLines deepest shown ++ deepestLine deepest ++ totalLine (printedTotal (end .job))
+  unfolding headText
+  head-is =
+      ap (λ (x : List ℕ × Job). headText (x .1)) built-end
+      ∙ ap (λ (lines : List ℕ). lines ++ deepestLine deepest ++ totalLine (printedTotal (end .job))) lines-shown
 
   reports : (lines : List (List ℕ)) (text : List ℕ)
       → (let built = take (tableBytes kind n) (builtIn kind n wanted S table .0) in

@@ -1,16 +1,18 @@
 -- Writing digits into a buffer: what stands before them and after them stays.
 use mathlib.Core.Path.{_≡_, refl, sym, ap, ap₂, _∙_}
-use mathlib.Core.Logic.{_⊎_, inl, inr}
-use mathlib.Core.List.{List, [], _∷_, _++_, append-assoc, append-nil}
-use Prim.Native.Nat.{ℕ, suc, _+_, _-_, _*_, _/_, _%_, _≤_, _<_}
+use mathlib.Core.List.{List, [], _∷_, _++_, append-assoc, append-nil, map}
+use Prim.Native.Nat.{ℕ, zero, suc, _+_, _*_, _/_, _%_, _≤_, _<_}
 use native.Mathlib.Numerals.{add-one}
 use native.Mathlib.Omega.{arith}
-use native.Mathlib.Nat.{add-zero, zero-add}
-use lib.ListN.{length, getD, set, take, drop, length-append, length-take, take-append-drop}
-use lib.Seq.{take-suc, take-all, take-length, drop-cons, length-take-le, drop-drop, take-append-seam, drop-append-add, set-append-seam, append-snoc}
+use native.Mathlib.Nat.{add-zero, zero-add, suc-mul}
+use lib.ListN.{length, getD, set, take, drop, length-append, take-append-drop}
+use lib.Seq.{take-suc, take-length, drop-cons, length-take-le, drop-drop, take-append-seam, drop-append-add, set-append-seam, append-snoc}
+use Rattle.base.specs.Words.{from}
+use Rattle.base.proofs.Lists.{map-append, from-more}
 use Rattle.search.specs.JobState.{countPlaces}
+use Rattle.search.specs.Segments.{joined}
 use Rattle.text.specs.Hex.{digitChar, hexOf, lineOf, fourBytes}
-use Rattle.text.specs.Output.{levelLine, levelsFrom, levelLines}
+use Rattle.text.specs.Output.{levelLine, levelsBelow, lineAt, levelLines}
 use Rattle.text.specs.Written.{over, Put, Wrote}
 
 pub hex-length : (bs : List ℕ) → length (hexOf bs) ≡ 2 * length bs
@@ -139,41 +141,48 @@ put-after text piece out before now at r e f p =
 
 -- ---- the levels, one after the other
 
-levels-append : (d : ℕ) (xs ys : List ℕ) → levelsFrom d (xs ++ ys) ≡ levelsFrom d xs ++ levelsFrom (d + length xs) ys
-unfolding levelsFrom
-levels-append d [] ys = ap (λ (k : ℕ). levelsFrom k ys) (sym (add-zero d))
-levels-append d (x ∷ xs) ys =
-    ap (λ (l : List ℕ). levelLine d x ++ l)
-    (levels-append (suc d) xs ys ∙ ap (λ (k : ℕ). levelsFrom (suc d) xs ++ levelsFrom k ys) (let e : suc d + length xs ≡ d + suc (length xs) = omega arith in e))
-    ∙ sym (append-assoc (levelLine d x) (levelsFrom (suc d) xs) (levelsFrom (d + suc (length xs)) ys))
+joined-last : (xs : List (List ℕ)) (x : List ℕ) → joined (xs ++ (x ∷ [])) ≡ joined xs ++ x
+unfolding joined
+joined-last [] x = append-nil x
+joined-last (y ∷ xs) x = ap (λ (l : List ℕ). y ++ l) (joined-last xs x) ∙ sym (append-assoc y (joined xs) x)
 
--- one level more
-pub levels-more : (counts : List ℕ) (d : ℕ) → d < length counts
-    → levelsFrom 0 (take (suc d) counts) ≡ levelsFrom 0 (take d counts) ++ levelLine d (getD counts d 0)
-unfolding levelsFrom
-levels-more counts d h =
-    ap (levelsFrom 0) (take-suc counts d 0 h)
-    ∙ levels-append 0 (take d counts) (getD counts d 0 ∷ [])
-    ∙ ap (λ (l : List ℕ). levelsFrom 0 (take d counts) ++ l) (append-nil (levelLine (0 + length (take d counts)) (getD counts d 0)))
-    ∙ ap (λ (k : ℕ). levelsFrom 0 (take d counts) ++ levelLine k (getD counts d 0))
-    (zero-add (length (take d counts)) ∙ length-take-le d counts (omega arith))
+-- whatever a line says of its level
+module _ (line : ℕ → List ℕ) where
+  pub levels-none : levelsBelow line 0 ≡ []
+  unfolding levelsBelow joined from
+  levels-none = refl
+
+  -- one level more
+  pub levels-more : (d : ℕ) → levelsBelow line (suc d) ≡ levelsBelow line d ++ line d
+  unfolding levelsBelow
+  levels-more d =
+      ap (λ (ds : List ℕ). joined (map line ds)) (from-more 0 d)
+      ∙ ap joined (map-append line (from 0 d) ((0 + d) ∷ []))
+      ∙ joined-last (map line (from 0 d)) (line (0 + d))
+      ∙ ap (λ (k : ℕ). joined (map line (from 0 d)) ++ line k) (zero-add d)
+
+  -- lines of one length
+  pub levels-length : (wide : ℕ) → ((d : ℕ) → length (line d) ≡ wide) → (levels : ℕ) → length (levelsBelow line levels) ≡ levels * wide
+  levels-length wide each zero = ap length levels-none ∙ omega arith
+  levels-length wide each (suc d) =
+      ap length (levels-more d)
+      ∙ length-append (levelsBelow line d) (line d)
+      ∙ omega (arith, levels-length wide each d, each d, suc-mul d wide)
+
+-- levels of which the same is said
+pub levels-same : (line other : ℕ → List ℕ) (levels : ℕ) → ((d : ℕ) → d < levels → line d ≡ other d) → levelsBelow line levels ≡ levelsBelow other levels
+levels-same line other zero same = levels-none line ∙ sym (levels-none other)
+levels-same line other (suc d) same =
+    levels-more line d
+    ∙ ap₂ (λ (l x : List ℕ). l ++ x) (levels-same line other d (λ i h. same i (omega arith))) (same d (omega arith))
+    ∙ sym (levels-more other d)
 
 -- a level's line has eleven characters
-pub levels-length : (d : ℕ) (counts : List ℕ) → length (levelsFrom d counts) ≡ 11 * length counts
-unfolding levelsFrom levelLine lineOf hexOf fourBytes
-levels-length d [] = refl
-levels-length d (x ∷ xs) = omega (arith, levels-length (suc d) xs)
-
--- with none left there are all levels to the deepest
-pub levels-all : (counts : List ℕ) (deepest level : ℕ) → level ≤ deepest + 1 → (deepest < level) ⊎ (length counts ≤ level)
-    → levelsFrom 0 (take level counts) ≡ levelLines deepest counts
-unfolding levelLines
-levels-all counts deepest level l (inl h) =
-    ap (λ (k : ℕ). levelsFrom 0 (take k counts)) (let e : level ≡ suc deepest = omega arith in e)
-levels-all counts deepest level l (inr h) =
-    ap (levelsFrom 0) (take-all level counts h ∙ sym (take-all (suc deepest) counts (omega arith)))
+pub level-length : (counts : List ℕ) (d : ℕ) → length (lineAt counts d) ≡ 11
+unfolding levelLine lineOf hexOf fourBytes
+level-length counts d = refl
 
 -- all levels that there are counts of
-pub levels-most : (counts : List ℕ) (deepest : ℕ) → length counts ≡ countPlaces → length (levelLines deepest counts) ≤ 11 * countPlaces
+pub levels-most : (counts : List ℕ) (deepest : ℕ) → deepest < countPlaces → length (levelLines deepest counts) ≤ 11 * countPlaces
 unfolding levelLines
-levels-most counts deepest w = omega (arith, levels-length 0 (take (suc deepest) counts), length-take (suc deepest) counts)
+levels-most counts deepest h = omega (arith, levels-length (lineAt counts) 11 (level-length counts) (suc deepest))

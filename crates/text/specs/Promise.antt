@@ -16,7 +16,7 @@ use Rattle.stacks.specs.Turn.{Road, Fewest}
 use Rattle.search.specs.Entries.{entryAt, seenIn}
 use Rattle.text.specs.Frame.{placesOf, laterRefusal}
 use Rattle.text.specs.Hex.{isByte, bytesOf, numberOf, fourBytes}
-use Rattle.text.specs.Output.{levelsFrom, deepestLine, totalLine, planLine, refusalLine}
+use Rattle.text.specs.Output.{levelLines, deepestLine, totalLine, planLine, refusalLine}
 use Rattle.text.specs.Report.{laterText, laterTexts}
 
 -- the answer to a later frame is the line of a road to the wanted stack, and no road has fewer turns
@@ -35,7 +35,7 @@ pub record Reports (kind n : ℕ) (wanted : List ℤ) (built : List ℕ) (lines 
   pub deepest : ℕ
   pub counts : List ℕ
   pub sum : ℕ
-  pub text-is : text ≡ levelsFrom 0 counts ++ deepestLine deepest ++ totalLine sum ++ laterTexts kind n wanted built lines
+  pub text-is : text ≡ levelLines deepest counts ++ deepestLine deepest ++ totalLine sum ++ laterTexts kind n wanted built lines
   pub levels : length counts ≡ suc deepest
   -- each count is the number of stacks at exactly that many turns, and fits its four bytes; each level's number fits its byte, as the
   -- deepest does

@@ -8,9 +8,11 @@ use native.Mathlib.Omega.{arith}
 use lib.Dec.{eqb}
 use borrow.Author.Tests.{eq-eqb, ne-eqb}
 use Rattle.search.specs.Entries.{entryAt, setEntry, unseen}
-use Rattle.search.specs.Marks.{Marks, markOne, markAll}
-use Rattle.twobit.specs.Mark.{Marked, marksOf}
-use Rattle.twobit.specs.declared.marking.Found.{Found}
+use Rattle.search.specs.Marks.{everyStack, foundOne, Marks, markOne, markAll}
+use Rattle.search.specs.declared.Found.{Found}
+use Rattle.search.specs.declared.Terms.{Terms}
+use Rattle.search.proofs.MarkLaws.{counted-le}
+use Rattle.twobit.specs.Mark.{Marked, marksOf, AtMost}
 
 pub marked-not : (before : List ℕ) (i label v : ℕ) → v ≡ entryAt before i → (v ≡ 3 → ⊥) → Marked before i label before false
 unfolding unseen
@@ -25,37 +27,42 @@ marked-new before i label v after e h s =
     let t : eqb (entryAt before i) 3 ≡ true = eq-eqb (entryAt before i) 3 (sym e ∙ h) in
     record { bytes = rw t s; new = sym t }
 
--- one more is counted where the leaf says that the entry was unseen
-pub marked-counts : (S label v i : ℕ) (before after : List ℕ) (found : Found) (fresh t : Bool) → v % S ≡ i → label < 3
+-- the stack is found where the leaf says that the entry was unseen
+pub marked-found : (terms : Terms) (label v i : ℕ) (before after : List ℕ) (found : Found) (fresh t : Bool) → v % terms .size ≡ i → label < 3
     → Marked before i label after fresh → fresh ≡ t
-    → marksOf after (record { count = cond t (found .count + 1) (found .count) }) ≡ markOne S label v (marksOf before found)
+    → marksOf after (cond t (foundOne terms v found) found) ≡ markOne terms label v (marksOf before found)
 unfolding markOne
-marked-counts S label v i before after found fresh t at h m e =
+marked-found terms label v i before after found fresh t at h m e =
     rw (at, mod-eq-of-lt h) (go (eqb (entryAt before i) unseen) (m .bytes) (sym e ∙ m .new))
   where
     go : (b : Bool) → after ≡ cond b (setEntry before i label) before → t ≡ b
-        → marksOf after (record { count = cond t (found .count + 1) (found .count) })
-        ≡ cond {A = Marks} b (record { segment = setEntry before i label; count = found .count + 1 }) (marksOf before found)
+        → marksOf after (cond t (foundOne terms v found) found)
+        ≡ cond {A = Marks} b (record { segment = setEntry before i label; found = foundOne terms v found }) (marksOf before found)
     go true a f = rw (a, f)
     go false a f = rw (a, f)
 
--- at most one more is counted
-pub count-le : (S d v : ℕ) (marks : Marks) → markOne S d v marks .count ≤ marks .count + 1
-unfolding markOne
-count-le S d v marks = go (eqb (entryAt (marks .segment) (v % S)) unseen)
+-- a bound holds with every greater one, and a mark adds at most one to each count
+pub at-most : {found : Found} {most more : ℕ} → AtMost found most → most ≤ more → AtMost found more
+at-most fits h = record { count = omega (arith, fits .count) }
+
+pub mark-at-most : (terms : Terms) (d v : ℕ) (marks : Marks) {most : ℕ} → AtMost (marks .found) most → AtMost (markOne terms d v marks .found) (most + 1)
+unfolding markOne foundOne
+mark-at-most terms d v marks {most} fits = go (eqb (entryAt (marks .segment) (v % terms .size)) unseen)
   where
     go : (t : Bool)
-        → cond {A = Marks} t (record { segment = setEntry (marks .segment) (v % S) (d % 3); count = marks .count + 1 }) marks .count ≤ marks .count + 1
-    go true = omega arith
-    go false = omega arith
+        → AtMost (cond {A = Marks} t (record { segment = setEntry (marks .segment) (v % terms .size) (d % 3); found = foundOne terms v (marks .found) }) marks .found) (most + 1)
+    go true = record { count = omega (arith, fits .count, counted-le (everyStack terms) v (marks .found .count)) }
+    go false = at-most fits (omega arith)
 
 -- a level marks by its remainder alone
-pub mark-level : (S d v : ℕ) (marks : Marks) → markOne S (d % 3) v marks ≡ markOne S d v marks
+pub mark-level : (terms : Terms) (d v : ℕ) (marks : Marks) → markOne terms (d % 3) v marks ≡ markOne terms d v marks
 unfolding markOne
-mark-level S d v marks =
-    ap (λ (x : ℕ). cond (eqb (entryAt (marks .segment) (v % S)) unseen) (record { segment = setEntry (marks .segment) (v % S) x; count = marks .count + 1 }) marks) (mod-mod d 3)
+mark-level terms d v marks =
+    let i = v % terms .size in
+    ap (λ (x : ℕ). cond (eqb (entryAt (marks .segment) i) unseen) (record { segment = setEntry (marks .segment) i x; found = foundOne terms v (marks .found) }) marks) (mod-mod d 3)
 
-pub marks-level : (S d : ℕ) (stacks : List ℕ) (marks : Marks) → markAll S (d % 3) stacks marks ≡ markAll S d stacks marks
+pub marks-level : (terms : Terms) (d : ℕ) (stacks : List ℕ) (marks : Marks) → markAll terms (d % 3) stacks marks ≡ markAll terms d stacks marks
 unfolding markAll
-marks-level S d [] marks = refl
-marks-level S d (v ∷ stacks) marks = ap (markAll S (d % 3) stacks) (mark-level S d v marks) ∙ marks-level S d stacks (markOne S d v marks)
+marks-level terms d [] marks = refl
+marks-level terms d (v ∷ stacks) marks =
+    ap (markAll terms (d % 3) stacks) (mark-level terms d v marks) ∙ marks-level terms d stacks (markOne terms d v marks)

@@ -61,7 +61,7 @@ unfolding Segments.segmentCount Segments.stackCountIn Segments.isSegmentSize Seg
 segments = tt
 
 jobs : Unit {0}
-unfolding JobState.stackCountOf JobState.segmentCountOf JobState.stackCountAt JobState.logLength JobState.passedOf JobState.waitingOf JobState.countOf JobState.sweptOf JobState.isLoaded JobState.isSwept JobState.progressed JobState.directed
+unfolding JobState.stackCountOf JobState.segmentCountOf JobState.stackCountAt JobState.logLength JobState.passedOf JobState.waitingOf JobState.countOf JobState.sweptOf JobState.isLoaded JobState.isSwept JobState.progressed JobState.recounted JobState.directed
 jobs = tt
 
 phases : Unit {0}
@@ -81,7 +81,7 @@ unfolding Blank.blankRefusal Blank.goalOf Blank.blanked Blank.blankOf
 blanks = tt
 
 marks : Unit {0}
-unfolding Marks.markOne Marks.markAll
+unfolding Marks.counted Marks.foundOne Marks.markOne Marks.markAll
 marks = tt
 
 logs : Unit {0}

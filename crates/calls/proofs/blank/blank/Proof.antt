@@ -21,7 +21,7 @@ module _ (job : Job) (j : ℕ) (segment : List ℕ) (r : ℕ) (e : r ≡ blankRe
       ap (λ (q : ℕ). (segment, record { refusal = q; job = job })) e ∙ sym (blank-refused job j segment (λ z. h (e ∙ z)))
 
   accepted : (after : List ℕ) (next : Job) → r ≡ 0 → after ≡ blanked job j
-      → next ≡ progressed job (job .phase) (set (job .passed) j (stackCountAt job j)) (job .waiting) (job .counts)
+      → next ≡ progressed job (job .phase) (set (job .passed) j (stackCountAt job j)) (job .waiting)
       → _≡_ {A = List ℕ × Answer} (after, record { refusal = 0; job = next }) (blankOf job j segment)
   accepted after next h k n = rw (k, n) (sym (blank-accepted job j segment (sym e ∙ h)))
 
@@ -97,10 +97,10 @@ returns-2 c =
     let a = start (f .before) .args in
     let job = a .job in
     accepted job (a .j) (a .segment .now) (f .blank-refusal .result) (answered f) (n .blank-entries .last .1 .1 .0)
-    (progressed job (job .phase) (set (job .passed) (a .j) (c .stack-count-at .result)) (job .waiting) (job .counts))
+    (progressed job (job .phase) (set (job .passed) (a .j) (c .stack-count-at .result)) (job .waiting))
     (e .if1 .left)
     (n .blank-entries .ensures)
-    (ap (λ (m : ℕ). progressed job (job .phase) (set (job .passed) (a .j) m) (job .waiting) (job .counts)) (c .stack-count-at .ensures))
+    (ap (λ (m : ℕ). progressed job (job .phase) (set (job .passed) (a .j) m) (job .waiting)) (c .stack-count-at .ensures))
 
 pub blank-spec : {M : Type 1} → statement M
 blank-spec =

@@ -4,8 +4,8 @@ use mathlib.Core.List.{List}
 use Prim.Native.Nat.{ℕ, _-_, _%_, _<_}
 use native.Mathlib.Omega.{arith}
 use borrow.Author.Needs.{needs}
-use lib.ListN.{length, getD, set}
-use Rattle.search.specs.JobState.{countOf, progressed}
+use lib.ListN.{length, set}
+use Rattle.search.specs.JobState.{countOf, progressed, recounted}
 use Rattle.search.specs.Logs.{pending}
 use Rattle.search.specs.Segments.{segmentLimit}
 use Rattle.search.specs.Settle.{settleRefusal, settleOf}
@@ -85,14 +85,8 @@ waiting-part-requires c κs =
       rw (f .wide) (area-small (a .job) (f .called .coherent)),
     )
 
-cast-count : tie.Need-cast-count
-cast-count c = search needs
-
-mul-count : tie.Need-mul-count
-mul-count c = search needs
-
-element-copy-out-count : tie.Need-element-copy-out-count
-element-copy-out-count c = search needs
+found-at-requires : tie.Need-found-at-requires
+found-at-requires c κs = search needs
 
 -- what waits, as the definition has it
 waits : (c : tie.After-waiting-part) → let a = start (c .before .before .before .before .before) .args in c .waiting-part .result .now ≡ pending (a .job) (a .j) (a .log .now)
@@ -105,16 +99,17 @@ waits c =
 mark-all-requires : tie.Need-mark-all-requires
 unfolding countOf
 mark-all-requires c κs =
-    let w = c .before .before in
+    let found = c .before in
+    let w = found .before .before .before in
     let n = w .before in
     let v = n .before in
     let e = v .before in
     let a = start (e .before .before) .args in
     offsets-fit (a .job) (a .j) (a .segment .now) (a .log .now) (accepted e) (w .waiting-part .result .now) (waits w) (n .next-entry .result)
-    (record { count = getD (a .job .counts) (v .level-of .result) 0 })
+    (found .found-at .result)
     (v .level-of .result)
     (rw (n .next-entry .ensures) (next-lt ((v .level-of .result - 1) % 3)))
-    refl
+    (found .found-at .ensures)
 
 -- segment j has its place among the waiting numbers
 place : (c : tie.Else1) → let a = start (c .before .before) .args in a .j < segmentLimit
@@ -123,49 +118,40 @@ place c =
     let f = given c .called in
     segment-below (a .job) (f .coherent) (a .j) (f .inside)
 
--- where nothing was refused, seen from the marks
-abbrev passed : tie.After-mark-all → tie.Else1
-passed m = let w = m .before .before .before in w .before .before .before
-
 mul-next : tie.Need-mul-next
-mul-next c = omega (arith, place (passed (c .before .before)))
+mul-next c = omega (arith, place (c .before .before .before .before .before .before .before .before .before .before))
 
 element-write-next : tie.Need-element-write-next
-element-write-next c = place (passed (c .before .before))
+element-write-next c = place (c .before .before .before .before .before .before .before .before .before .before)
 
-cast-next : tie.Need-cast-next
-cast-next c = search needs
-
-mul-next-2 : tie.Need-mul-next-2
-mul-next-2 c = search needs
-
-element-write-next-2 : tie.Need-element-write-next-2
-element-write-next-2 c = search needs
+put-found-requires : tie.Need-put-found-requires
+put-found-requires c κs = search needs
 
 same-length : tie.Need-same-length
 same-length c = search needs
 
 returns-2 : tie.Need-returns-2
-unfolding countOf progressed
+unfolding countOf progressed recounted
 returns-2 c =
-    let m = c .before .before in
-    let w = m .before .before .before in
+    let m = c .before .before .before .before in
+    let o = m .before .before in
+    let w = o .before .before .before in
     let n = w .before in
     let v = n .before in
     let e = v .before in
     let a = start (e .before .before) .args in
     let job = a .job in
-    let left : ℕ → Job = λ d. progressed job (job .phase) (job .passed) (set (job .waiting) (a .j) 0) (set (job .counts) d (m .mark-all .result .count)) in
+    let left : List ℕ → Job = λ counts. progressed (recounted job counts) (job .phase) (job .passed) (set (job .waiting) (a .j) 0) in
     settled-is job (a .j) (a .segment .now) (a .log .now) (accepted e) (w .waiting-part .result .now) (waits w) (v .level-of .result) (n .next-entry .result)
-    (record { count = getD (job .counts) (v .level-of .result) 0 })
+    (o .found-at .result)
     (m .mark-all .result)
     (m .mark-all .last .0)
-    (left (v .level-of .result))
+    (left (c .put-found .last .0))
     (v .level-of .ensures)
     (n .next-entry .ensures)
-    refl
+    (o .found-at .ensures)
     (m .mark-all .ensures)
-    (ap left (v .level-of .ensures))
+    (ap left (c .put-found .ensures ∙ ap (λ (d : ℕ). set (job .counts) d (m .mark-all .result .count)) (v .level-of .ensures)))
 
 pub settle-spec : {M : Type 1} → statement M
 settle-spec =
@@ -179,14 +165,10 @@ settle-spec =
     sub-next-entry
     next-entry-requires
     waiting-part-requires
-    cast-count
-    mul-count
-    element-copy-out-count
+    found-at-requires
     mark-all-requires
     mul-next
     element-write-next
-    cast-next
-    mul-next-2
-    element-write-next-2
+    put-found-requires
     same-length
     returns-2)

@@ -2,7 +2,7 @@
 use mathlib.Core.Path.{_≡_, refl, sym, _∙_}
 use borrow.Author.Needs.{needs}
 use Rattle.search.specs.Close.{isPastLast, closeRefusal, closed, closeOf}
-use Rattle.search.specs.JobState.{countOf, progressed, directed}
+use Rattle.search.specs.JobState.{countOf, progressed, recounted, directed}
 use Rattle.search.proofs.Accepted.{close-facts}
 use Rattle.search.proofs.Coherence.{coherent-facts}
 use Rattle.job.proofs.Answers.{answer-no, answer-yes}
@@ -59,7 +59,7 @@ with-phase-requires : tie.Need-with-phase-requires
 with-phase-requires c κs = search needs
 
 returns-2 : tie.Need-returns-2
-unfolding closeOf progressed directed
+unfolding closeOf progressed recounted directed
 returns-2 c =
     let k = c .before in
     let p = k .before .before in

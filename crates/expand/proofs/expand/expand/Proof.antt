@@ -1,6 +1,7 @@
 -- `expand::expand::expand` meets its contract: a refused call, and one that runs.
 use mathlib.Core.Path.{_≡_, refl, sym, ap, _∙_}
 use mathlib.Core.Bool.{false}
+use mathlib.Core.List.{List}
 use Prim.Native.Nat.{ℕ, _<_}
 use native.Mathlib.Omega.{arith}
 use borrow.Author.Needs.{needs}
@@ -9,7 +10,7 @@ use Rattle.job.specs.Standing.{standingOf}
 use Rattle.job.proofs.Bounds.{coherent-begins, forward-least, segment-below}
 use Rattle.job.proofs.Standings.{passed-is, has-own}
 use Rattle.search.specs.Expand.{expandRefusal, expandedJob}
-use Rattle.search.specs.JobState.{progressed}
+use Rattle.search.specs.JobState.{countOf, progressed, recounted}
 use Rattle.search.specs.Segments.{segmentLimit}
 use Rattle.search.specs.declared.Job.{Job}
 use Rattle.search.proofs.Accepted.{LevelFacts, expand-refused}
@@ -74,25 +75,21 @@ stack-count-at-requires c κs =
     let ok = c .before .before in
     coherent-begins (start (ok .before .before) .args .job) (given ok .called .coherent)
 
-cast-count : tie.Need-cast-count
-cast-count c = search needs
-
-mul-count : tie.Need-mul-count
-mul-count c = search needs
-
-element-copy-out-count : tie.Need-element-copy-out-count
-element-copy-out-count c = search needs
+found-at-requires : tie.Need-found-at-requires
+found-at-requires c κs = search needs
 
 expand-run-requires : tie.Need-expand-run-requires
+unfolding countOf
 expand-run-requires c κs =
-    let counted = c .before .before .before .before in
+    let found = c .before .before .before in
+    let counted = found .before .before .before in
     let scanned = counted .before in
     let leveled = scanned .before in
     let ok = leveled .before in
     let stood = ok .before .before in
     let s = start stood in
     let a = s .args in
-    run-given (a .job) (a .j) (a .segment .now) (a .log .now) (accepted ok) (leveled .level-of .ensures) (scanned .scan-of .ensures)
+    run-given (a .job) (a .j) (a .segment .now) (a .log .now) (accepted ok) (leveled .level-of .ensures) (found .found-at .ensures) (scanned .scan-of .ensures)
     (counted .stack-count-at .ensures)
     (passed-is (stood .standing-of .result) (a .j) (a .job) (stands stood))
     (search (needs, s .good .0 .1 .1 .1 .1 .1 .1 .1 .0))
@@ -104,27 +101,14 @@ place c =
     let f = given c .called in
     segment-below (a .job) (f .coherent) (a .j) (f .inside)
 
--- where the stacks were counted and where nothing was refused, seen from the run
-abbrev counts : tie.After-expand-run → tie.After-stack-count-at
-counts ran = ran .before .before .before .before .before
-
-abbrev passed : tie.After-expand-run → tie.Else1
-passed ran = counts ran .before .before .before
-
 mul-next : tie.Need-mul-next
-mul-next c = omega (arith, place (passed (c .before .before .before .before)))
+mul-next c = omega (arith, place (c .before .before .before .before .before .before .before .before .before .before .before .before .before .before))
 
 element-write-next : tie.Need-element-write-next
-element-write-next c = place (passed (c .before .before .before .before))
+element-write-next c = place (c .before .before .before .before .before .before .before .before .before .before .before .before .before .before)
 
-cast-next : tie.Need-cast-next
-cast-next c = search needs
-
-mul-next-2 : tie.Need-mul-next-2
-mul-next-2 c = search needs
-
-element-write-next-2 : tie.Need-element-write-next-2
-element-write-next-2 c = search needs
+put-found-requires : tie.Need-put-found-requires
+put-found-requires c κs = search needs
 
 same-length : tie.Need-same-length
 same-length c = search needs
@@ -133,10 +117,11 @@ same-length-2 : tie.Need-same-length-2
 same-length-2 c = search needs
 
 returns-2 : tie.Need-returns-2
-unfolding expandedJob progressed
+unfolding countOf expandedJob progressed recounted
 returns-2 c =
-    let ran = c .before .before .before .before in
-    let counted = counts ran in
+    let ran = c .before .before .before .before .before .before in
+    let found = ran .before .before .before .before in
+    let counted = found .before .before .before in
     let scanned = counted .before in
     let leveled = scanned .before in
     let ok = leveled .before in
@@ -145,13 +130,13 @@ returns-2 c =
     let job = a .job in
     let reached = ran .expand-run .result in
     let waiting = ran .expand-run .last .1 .1 .1 .1 .1 .1 .0 in
-    let left : ℕ → Job = λ d. progressed job (job .phase) (set (job .passed) (a .j) (reached .at)) waiting (set (job .counts) d (reached .found .count)) in
-    answer-is job (a .j) (a .segment .now) (a .log .now) (accepted ok) (leveled .level-of .ensures) (scanned .scan-of .ensures)
+    let left : List ℕ → Job = λ counts. progressed (recounted job counts) (job .phase) (set (job .passed) (a .j) (reached .at)) waiting in
+    answer-is job (a .j) (a .segment .now) (a .log .now) (accepted ok) (leveled .level-of .ensures) (found .found-at .ensures) (scanned .scan-of .ensures)
     (counted .stack-count-at .ensures)
     (passed-is (stood .standing-of .result) (a .j) job (stands stood))
     reached
     (ran .expand-run .ensures)
-    (ap left (leveled .level-of .ensures))
+    (ap left (c .put-found .ensures ∙ ap (λ (d : ℕ). set (job .counts) d (reached .found .count)) (leveled .level-of .ensures)))
 
 pub expand-spec : {M : Type 1} → statement M
 expand-spec =
@@ -164,15 +149,11 @@ expand-spec =
     level-of-requires
     scan-of-requires
     stack-count-at-requires
-    cast-count
-    mul-count
-    element-copy-out-count
+    found-at-requires
     expand-run-requires
     mul-next
     element-write-next
-    cast-next
-    mul-next-2
-    element-write-next-2
+    put-found-requires
     same-length
     same-length-2
     returns-2)

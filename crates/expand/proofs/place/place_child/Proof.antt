@@ -3,6 +3,7 @@ use mathlib.Core.Path.{refl}
 use native.Mathlib.Omega.{arith}
 use lib.ListN.{length-take, length-drop}
 use borrow.Author.Needs.{needs}
+use Rattle.expand.specs.Scan.{scanJob}
 use Rattle.expand.proofs.Fitting.{scan-facts}
 use Rattle.expand.proofs.Placing.{LogPlace, child-marks, log-place, placed-here, placed-elsewhere}
 use Rattle.expand.proofs.place.place_child.Statement.{statement}
@@ -29,11 +30,12 @@ same-length : tie.Need-same-length
 same-length c = search needs
 
 returns : tie.Need-returns
+unfolding scanJob
 returns c =
     let marked = c .before .before in
     let here = marked .before .before in
     let s = here .before .before .before .before in
-    placed-here (s .pre) (here .if1 .taken) (marked .mark-stack .ensures (s .args .scan .size) refl)
+    placed-here (s .pre) (here .if1 .taken) (marked .mark-stack .ensures (scanJob (s .args .scan) .terms) refl)
 
 cast-start : tie.Need-cast-start
 cast-start c = omega (arith, place c)

@@ -4,7 +4,7 @@ use mathlib.Core.List.{List}
 use Prim.Native.Nat.{ℕ}
 use borrow.Author.Needs.{needs}
 use lib.ListN.{length}
-use Rattle.search.specs.JobState.{progressed, directed}
+use Rattle.search.specs.JobState.{countOf, progressed, recounted, directed}
 use Rattle.search.specs.Sweep.{sweepRefusal, sweepOf}
 use Rattle.search.specs.declared.Answer.{Answer}
 use Rattle.search.specs.declared.Job.{Job}
@@ -76,43 +76,33 @@ stack-count-at-requires c κs =
     let a = start (e .before .before) .args in
     sweep-begins (a .job) (a .j) (a .segment .now) (a .list .now) (accepted e)
 
-cast-count : tie.Need-cast-count
-cast-count c = search needs
-
-mul-count : tie.Need-mul-count
-mul-count c = search needs
-
-element-copy-out-count : tie.Need-element-copy-out-count
-element-copy-out-count c = search needs
+found-at-requires : tie.Need-found-at-requires
+found-at-requires c κs = search needs
 
 sweep-run-requires : tie.Need-sweep-run-requires
+unfolding countOf
 sweep-run-requires c κs =
-    let w = c .before .before in
+    let found = c .before in
+    let w = found .before .before .before in
     let k = w .before in
     let v = k .before .before in
     let e = v .before in
     let a = start (e .before .before) .args in
     let stood = e .before .before in
     let s = stood .standing-of in
-    run-fits (a .job) (a .j) (a .segment .now) (a .list .now) (accepted e) (s .result .loaded) (v .level-of .result) (k .next-entry .result)
-    (w .stack-count-at .result) (loaded-is (s .result) (a .j) (a .job) (stands stood)) (v .level-of .ensures) (k .next-entry .ensures) (w .stack-count-at .ensures)
-
--- where nothing was refused, seen from the run
-abbrev counted : tie.After-sweep-run → tie.After-stack-count-at
-counted m = m .before .before .before
-
-abbrev passed : tie.After-sweep-run → tie.Else1
-passed m = counted m .before .before .before .before
+    run-fits (a .job) (a .j) (a .segment .now) (a .list .now) (accepted e) (s .result .loaded) (v .level-of .result) (k .next-entry .result) (w .stack-count-at .result)
+    (loaded-is (s .result) (a .j) (a .job) (stands stood)) (v .level-of .ensures) (k .next-entry .ensures) (w .stack-count-at .ensures)
+    (found .found-at .result) (found .found-at .ensures)
 
 shl-next : tie.Need-shl-next
 shl-next c =
-    let e = passed (c .before .before) in
+    let e = c .before .before .before .before .before .before .before .before .before .before .before in
     let a = start (e .before .before) .args in
     sweep-below (a .job) (a .j) (a .segment .now) (a .list .now) (accepted e)
 
 add-next : tie.Need-add-next
 add-next c =
-    let e = passed (c .before .before .before) in
+    let e = c .before .before .before .before .before .before .before .before .before .before .before .before in
     let a = start (e .before .before) .args in
     let stood = e .before .before in
     let s = stood .standing-of in
@@ -126,29 +116,24 @@ mul-next c = search needs
 
 element-write-next : tie.Need-element-write-next
 element-write-next c =
-    let e = passed (c .before .before .before) in
+    let e = c .before .before .before .before .before .before .before .before .before .before .before .before in
     let a = start (e .before .before) .args in
     let stood = e .before .before in
     let s = stood .standing-of in
     rw (loaded-is (s .result) (a .j) (a .job) (stands stood)) (loaded-within (a .job) (a .j) (a .segment .now) (a .list .now) (accepted e))
 
-cast-next-2 : tie.Need-cast-next-2
-cast-next-2 c = search needs
-
-mul-next-2 : tie.Need-mul-next-2
-mul-next-2 c = search needs
-
-element-write-next-2 : tie.Need-element-write-next-2
-element-write-next-2 c = search needs
+put-found-requires : tie.Need-put-found-requires
+put-found-requires c κs = search needs
 
 same-length : tie.Need-same-length
 same-length c = search needs
 
 returns-2 : tie.Need-returns-2
-unfolding directed progressed
+unfolding countOf directed progressed recounted
 returns-2 c =
-    let m = c .before .before .before in
-    let w = counted m in
+    let m = c .before .before .before .before .before in
+    let found = m .before .before in
+    let w = found .before .before .before in
     let k = w .before in
     let v = k .before .before in
     let e = v .before in
@@ -161,11 +146,15 @@ returns-2 c =
     (v .level-of .ensures)
     (k .next-entry .ensures)
     (w .stack-count-at .ensures)
+    (found .found-at .result)
+    (found .found-at .ensures)
     (s .result .swept)
     (swept-is (s .result) (a .j) job (stands stood))
     (m .sweep-run .result)
     (m .sweep-run .last .1 .1 .1 .0)
     (m .sweep-run .ensures)
+    (recounted job (c .put-found .last .0))
+    (ap (recounted job) (c .put-found .ensures))
 
 pub sweep-spec : {M : Type 1} → statement M
 sweep-spec =
@@ -180,17 +169,13 @@ sweep-spec =
     sub-next-entry
     next-entry-requires
     stack-count-at-requires
-    cast-count
-    mul-count
-    element-copy-out-count
+    found-at-requires
     sweep-run-requires
     shl-next
     add-next
     cast-next
     mul-next
     element-write-next
-    cast-next-2
-    mul-next-2
-    element-write-next-2
+    put-found-requires
     same-length
     returns-2)
