@@ -28,6 +28,6 @@ scan-facts scan fit =
       panes-most = sizes .most;
       few = omega arith;
       room-most = rooms .most;
-      turns-few = omega (arith, set-turns (scan .kind) (scan .n) (fit .is-pane-count) (scan .groups) .few);
+      turns-few = omega (arith, set-turns (scan .kind) (scan .n) (fit .is-pane-count) (scan .groups) (fit .set-fits) .few);
       count-fits = count-fits (scan .kind) (scan .n) (fit .is-pane-count);
     }

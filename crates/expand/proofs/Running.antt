@@ -66,7 +66,8 @@ module _ (scan : Scan) (fit : ScanFits scan) where
       → getD (childrenBy scan v) i 0 < stackCountOf (scanJob scan)
   unfolding stackCountOf scanJob
   listed-inside v h =
-      children-inside (scan .kind) (scan .n) (movesOf scan) v (fit .is-pane-count) (set-turns (scan .kind) (scan .n) (fit .is-pane-count) (scan .groups)) h
+      children-inside (scan .kind) (scan .n) (movesOf scan) v (fit .is-pane-count)
+      (set-turns (scan .kind) (scan .n) (fit .is-pane-count) (scan .groups) (fit .set-fits)) h
 
   -- ---- the children of the stack at index v, as the array has them
   module _ (v : ℕ) (array : List ℕ) (filled : array ≡ childrenBy scan v ++ replicate (mostMoves - length (movesOf scan)) 0) where

@@ -11,6 +11,7 @@ ghost use Rattle.stacks.specs.Turn.{isGroupSet, turnsIn};
 ghost use Rattle.perm.specs.Moves.{mostMoves};
 use ones::SETS;
 use perm::groups::MOST_MOVES;
+use perm::moves;
 use perm::numbering;
 use perm::walk;
 
@@ -32,7 +33,7 @@ pub(crate) fn children_of(
     while walk.rest != 0 {
         let k = walk.k + 1;
         if walk.rest % 2 == 1 {
-            children[i] = numbering::rank_turned(kind, n, &stack, index, k, lookup);
+            children[i] = moves::rank_moved(kind, n, &stack, index, k, lookup);
             i += 1;
         }
         walk = walk::next(walk);

@@ -1,9 +1,10 @@
--- Laws of `dist`: it is the length of a shortest walk, cut at the bound, and it changes by at most one along a move.
+-- Laws of `dist`: it is the length of a shortest walk, cut at the bound, it changes by at most one along a move, it is the same there and
+-- back, and by a third vertex never less.
 use mathlib.Core.Path.{_≡_, refl, ap, subst}
 use mathlib.Core.Logic.{_⊎_, inl, inr}
 use mathlib.Core.Bool.{Bool, true, cond, false≢true}
 use mathlib.Core.List.{List, [], _∷_}
-use Prim.Native.Nat.{ℕ, zero, suc, _<_, _≤_, min}
+use Prim.Native.Nat.{ℕ, zero, suc, _+_, _<_, _≤_, min}
 use native.Mathlib.Omega.{arith}
 use lib.ListN.{length}
 use borrow.Author.Tests.{eq-eqb, ne-eqb}
@@ -140,11 +141,14 @@ module _ (moves : List ℕ) (step : ℕ → ℕ → ℕ) where
             let r = least-at (λ k. dist moves step w b (step k v)) b moves (omega arith) in
             (r .0, r .1, omega (arith, dist-cut b (suc b) (step (r .0) v) (omega arith)))
 
-    -- no walk is shorter than the distance
+    -- along a walk it falls by at most as many moves, so that no walk is shorter than the distance
+    walk-falls : (b : ℕ) (ks : List ℕ) (v u : ℕ) → Walk moves step ks v u → dist moves step w b v ≤ length ks + dist moves step w b u
+    walk-falls b [] v u r = omega (arith, ap (dist moves step w b) (walk-none-end v u r))
+    walk-falls b (k ∷ ks) v u r =
+        omega (arith, dist-step b k v (walk-first k ks v u r), walk-falls b ks (step k v) u (walk-rest k ks v u r))
+
     pub walk-dist : (b : ℕ) (ks : List ℕ) (v : ℕ) → Walk moves step ks v w → dist moves step w b v ≤ length ks
-    walk-dist b [] v r = omega (arith, ap (dist moves step w b) (walk-none-end v w r), dist-goal b)
-    walk-dist b (k ∷ ks) v r =
-        omega (arith, dist-step b k v (walk-first k ks v w r), walk-dist b ks (step k v) (walk-rest k ks v w r))
+    walk-dist b ks v r = omega (arith, walk-falls b ks v w r, dist-goal b)
 
     -- below the bound some walk is as short
     pub dist-walk : (b v : ℕ) → dist moves step w b v < b
@@ -165,3 +169,34 @@ module _ {N : ℕ} {moves : List ℕ} {step : ℕ → ℕ → ℕ} (laws : Graph
   dist-grows w b k v m h =
       let u = laws .undone k v m h in
       omega (arith, dist-step moves step w b (u .0) (step k v) (u .1), ap (dist moves step w b) (u .2))
+
+  walk-grows : (w b : ℕ) (ks : List ℕ) (v u : ℕ) → v < N → Walk moves step ks v u → dist moves step w b u ≤ length ks + dist moves step w b v
+  walk-grows w b [] v u h r = omega (arith, ap (dist moves step w b) (walk-none-end moves step v u r))
+  walk-grows w b (k ∷ ks) v u h r =
+      let m = walk-first moves step k ks v u r in
+      omega (
+        arith,
+        dist-grows w b k v m h,
+        walk-grows w b ks (step k v) u (laws .inside k v m h) (walk-rest moves step k ks v u r),
+      )
+
+  -- there and back it is the same: the shortest walk there bounds the distance back
+  back-le : (v w b : ℕ) → w < N → dist moves step w b v ≤ dist moves step v b w
+  back-le v w b h = go (lt-or-ge (dist moves step v b w) b)
+    where
+      go : (dist moves step v b w < b) ⊎ (b ≤ dist moves step v b w) → dist moves step w b v ≤ dist moves step v b w
+      go (inl l) =
+          let r = dist-walk moves step v b w l in
+          omega (arith, walk-grows w b (r .0) w v h (r .1), r .2, dist-goal moves step w b)
+      go (inr l) = omega (arith, dist-le moves step w b v)
+
+  pub dist-back : (v w b : ℕ) → v < N → w < N → dist moves step w b v ≡ dist moves step v b w
+  dist-back v w b hv hw = omega (arith, back-le v w b hw, back-le w v b hv)
+
+-- by a third vertex it is never less
+pub dist-third : (moves : List ℕ) (step : ℕ → ℕ → ℕ) (u v w b : ℕ) → dist moves step w b v ≤ dist moves step u b v + dist moves step w b u
+dist-third moves step u v w b = go (lt-or-ge (dist moves step u b v) b)
+  where
+    go : (dist moves step u b v < b) ⊎ (b ≤ dist moves step u b v) → dist moves step w b v ≤ dist moves step u b v + dist moves step w b u
+    go (inl l) = let r = dist-walk moves step u b v l in omega (arith, walk-falls moves step w b (r .0) v u (r .1), r .2)
+    go (inr l) = omega (arith, dist-le moves step w b v)

@@ -6,7 +6,7 @@ use Prim.Native.Nat.{ℕ, _+_, _%_, _<_}
 use lib.IntN.{ℤ}
 use Rattle.stacks.specs.Index.{rankOf, stackAt}
 use Rattle.stacks.specs.Stack.{isPaneCount, isStack, stackCount}
-use Rattle.stacks.specs.Turn.{turnOf}
+use Rattle.stacks.specs.Turn.{moveOf}
 use Rattle.stacks.proofs.Numbering.{unrank-stack, rank-unrank}
 use Rattle.search.specs.Expand.{childrenOf}
 use Rattle.search.proofs.Children.{children-next}
@@ -26,7 +26,7 @@ childrenAfter kind n groups v k = childrenOf kind n (turnsAfter kind n groups k)
 module _ {kind n groups k rest : ℕ} (walks : Walks kind n groups k rest) (v : ℕ) where
   module _ (some : rest ≡ 0 → ⊥) where
     -- the set names the next size, whose child r is
-    pub next-child : rest % 2 ≡ 1 → {stack : List ℤ} → stack ≡ stackAt kind n v → {r : ℕ} → r ≡ rankOf kind n (turnOf kind (k + 1) stack)
+    pub next-child : rest % 2 ≡ 1 → {stack : List ℤ} → stack ≡ stackAt kind n v → {r : ℕ} → r ≡ rankOf kind n (moveOf kind n (k + 1) stack)
         → childrenAfter kind n groups v k ≡ r ∷ childrenAfter kind n groups v (k + 1)
     next-child odd {stack} is {r} made =
         children-next kind n (turnsAfter kind n groups k) v (k + 1) (turnsAfter kind n groups (k + 1)) (named-ahead walks some odd) stack is r made

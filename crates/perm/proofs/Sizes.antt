@@ -14,10 +14,9 @@ use Rattle.base.specs.Words.{all, filter, from}
 use Rattle.base.proofs.Counting.{all-at}
 use Rattle.base.proofs.Lists.{from-length, getD-from}
 use Rattle.base.proofs.Tests.{and-left, not-is-false, never, lt-or-ge}
-use Rattle.stacks.specs.Stack.{stackPlaces, isPaneCount}
+use Rattle.stacks.specs.Stack.{stackPlaces}
 use Rattle.stacks.specs.Turn.{firstTurn, lastTurn, isTurn, turnsOf, lifts, groupPlaces, isGroupSet}
-use Rattle.stacks.proofs.KindLaws.{panes-twelve}
-use Rattle.stacks.proofs.TurnLaws.{first-inside, turn-last}
+use Rattle.stacks.proofs.TurnLaws.{turn-last}
 
 -- a scan that asks t of each size: q is what it says from size k on
 module _ (t : ℕ → Bool) (k : ℕ) (q : Bool) where
@@ -49,16 +48,6 @@ module _ (kind n groups : ℕ) where
   pub set-none : named ≡ true → groups ≡ 0 → isGroupSet kind n groups ≡ eqb (length (turnsOf kind n)) 0
   unfolding isGroupSet
   set-none h e = rw (h, eq-eqb groups 0 e)
-
--- the first and the last turn of a kind and n
-module _ (kind n : ℕ) (in-range : isPaneCount kind n ≡ true) where
-  pub last-twelve : lastTurn kind n ≤ stackPlaces
-  unfolding lastTurn
-  last-twelve = panes-twelve kind n in-range
-
-  pub first-last : firstTurn kind ≤ lastTurn kind n + 1
-  unfolding lastTurn
-  first-last = first-inside kind n in-range
 
 -- there is a turn where the first is no higher than the last
 pub turns-some : (kind n : ℕ) → leb (firstTurn kind) (lastTurn kind n) ≡ not (eqb (length (turnsOf kind n)) 0)
@@ -144,7 +133,7 @@ unnamed-left groups last (suc m) none e =
 
 pub set-left : (kind n groups : ℕ) → lastTurn kind n ≤ stackPlaces → isGroupSet kind n groups ≡ true → groups < 4294967296
     → groups / 2 ^ lastTurn kind n ≡ 0
-unfolding isGroupSet lastTurn
+unfolding isGroupSet
 set-left kind n groups low h small =
     unnamed-left groups last (groupPlaces - last) unnamed
     (ap (λ (j : ℕ). groups / 2 ^ j) (let q : last + (groupPlaces - last) ≡ groupPlaces = omega arith in q) ∙ omega arith)

@@ -8,7 +8,7 @@ use mathlib.Core.List.{List}
 use Prim.Native.Nat.{ℕ, _+_, _-_, _/_, _^_, _≤_}
 use Rattle.base.specs.Words.{filter, from}
 use Rattle.stacks.specs.Stack.{stackPlaces}
-use Rattle.stacks.specs.Turn.{lastTurn, lifts, turnsIn}
+use Rattle.stacks.specs.Turn.{firstTurn, lastTurn, lifts, turnsIn}
 use Rattle.perm.specs.declared.walk.Walk.{Walk}
 
 abbrev pub turnsAfter : ℕ → ℕ → ℕ → ℕ → List ℕ
@@ -16,6 +16,7 @@ turnsAfter kind n groups k = filter (lifts groups) (from (k + 1) (lastTurn kind 
 
 pub record Walks (kind n groups k rest : ℕ) : Type 0 where
   pub low : lastTurn kind n ≤ stackPlaces
+  pub begun : firstTurn kind ≤ k + 1
   pub within : k ≤ lastTurn kind n
   pub ends : groups / 2 ^ lastTurn kind n ≡ 0
   pub left : rest ≡ groups / 2 ^ k

@@ -1,10 +1,11 @@
-// Code: the kinds, sets of group sizes and of panes as bits, rank, unrank and turn; and the three open operations on stacks.
+// Code: the kinds, sets of group sizes and of panes as bits, rank, unrank, turns and moves; and the three open operations on stacks.
 pub mod groups;
 pub mod kind;
+pub mod moves;
 pub mod numbering;
 pub mod operations;
 mod place;
 mod set;
-pub mod turning;
+mod turning;
 pub mod valid;
 pub mod walk;

@@ -54,7 +54,7 @@ pub fn rank(kind: u8, n: u8, stack: [i8; PLACES], lookup: &[u8; SETS]) -> u32
 }
 
 // The index of a stack after turn k. Only the group is ranked: the places below it keep their digits and coats, which `index` has.
-pub fn rank_turned(
+pub(crate) fn rank_turned(
     kind: u8,
     n: u8,
     stack: &[i8; PLACES],

@@ -2,8 +2,8 @@
 ghost use mathlib.Core.Path.{_≡_};
 ghost use Rattle.stacks.specs.Operations.{kindRefusal, indexRefusal, stackRefusal, turnRefusal, indexOf, stackOf, turnedOf};
 use crate::kind;
+use crate::moves;
 use crate::numbering;
-use crate::turning;
 use crate::valid;
 use stacks::Indexed;
 use stacks::PLACES;
@@ -103,7 +103,7 @@ pub fn turn(kind: u8, n: u8, stack: [i8; PLACES], k: u8) -> Stacked
             stack: none,
         };
     }
-    let next = turning::turned(kind, n, stack, k);
+    let next = moves::moved(kind, n, stack, k);
     Stacked {
         refusal: 0,
         stack: next,

@@ -8,7 +8,7 @@ use crate::place;
 use stacks::PLACES;
 
 // Turn k of a stack: the top k panes in reverse order, each flipped.
-pub fn turned(kind: u8, n: u8, stack: [i8; PLACES], k: u8) -> [i8; PLACES]
+pub(crate) fn turned(kind: u8, n: u8, stack: [i8; PLACES], k: u8) -> [i8; PLACES]
     requires { ⌜ (isPaneCount kind n ≡ true) × (isStack kind n stack ≡ true) × (k ≤ n) ⌝ }
     ensures { λ r. ⌜ r ≡ turnOf kind k stack ⌝ }
 {

@@ -15,14 +15,15 @@ use Rattle.base.proofs.Tests.{eq-or-ne}
 use Rattle.graph.specs.Walks.{isMove}
 use Rattle.stacks.specs.Index.{rankOf}
 use Rattle.stacks.specs.Stack.{isPaneCount, isStack, stackCount}
-use Rattle.stacks.specs.Turn.{firstTurn, lastTurn, isTurn, lifts, turnsIn, turnOf}
+use Rattle.stacks.specs.Turn.{firstTurn, lastTurn, isTurn, lifts, turnsIn, moveOf}
 use Rattle.stacks.proofs.Numbering.{rank-lt}
 use Rattle.stacks.proofs.TurnLaws.{turn-first, turn-last}
+use Rattle.stacks.proofs.MoveLaws.{move-none, moves-stack}
 use Rattle.search.specs.Entries.{bytesFor, entryAt, nextEntry}
 use Rattle.search.specs.Plan.{planLimit, Route, entryOf, leadsTo, turnTo, nearerEntry, follow, isWanted, planStep, planRun, routeFrom}
 use Rattle.search.proofs.EntryLaws.{byte-inside}
 use Rattle.search.proofs.PlanLaws.{turn-taken, turn-largest, follow-turn, follow-none, route-within}
-use Rattle.search.proofs.Turning.{in-set, turn-in-set, Moves, moved-stack, moves-stack}
+use Rattle.search.proofs.Turning.{in-set, turn-in-set, Moves, moved-stack}
 
 -- the entry of a stack stands in the table
 pub entry-inside : (kind n : ℕ) (s : List ℤ) (table : List ℕ) (i : ℕ) → isPaneCount kind n ≡ true → isStack kind n s ≡ true
@@ -30,10 +31,9 @@ pub entry-inside : (kind n : ℕ) (s : List ℤ) (table : List ℕ) (i : ℕ) �
 entry-inside kind n s table i in-range stack long e =
     rw (e, long) (byte-inside (rankOf kind n s) (stackCount kind n) (rank-lt kind n s in-range stack))
 
--- turn 0 leaves a stack at its index
-pub no-turn : (kind n : ℕ) (s : List ℤ) (index : ℕ) → index ≡ rankOf kind n s → index ≡ rankOf kind n (turnOf kind 0 s)
-unfolding turnOf
-no-turn kind n s index e = e
+-- move 0 leaves a stack at its index
+pub no-turn : (kind n : ℕ) (s : List ℤ) (index : ℕ) → index ≡ rankOf kind n s → index ≡ rankOf kind n (moveOf kind n 0 s)
+no-turn kind n s index e = e ∙ ap (rankOf kind n) (sym (move-none kind n s))
 
 -- ---- the largest turn of a set that leads to an entry, tried from the last turn down
 
@@ -48,25 +48,24 @@ module _ (kind n groups : ℕ) (table : List ℕ) (s : List ℤ) (v : ℕ) where
   taken = turnTo kind n table s v moves
 
   -- turn k leads there just where its child's entry, w, is v
-  module _ (k child w : ℕ) (c : child ≡ rankOf kind n (turnOf kind k s)) (e : w ≡ entryAt table child) where
-    entry-is : entryOf kind n table (turnOf kind k s) ≡ w
+  module _ (k child w : ℕ) (c : child ≡ rankOf kind n (moveOf kind n k s)) (e : w ≡ entryAt table child) where
+    entry-is : entryOf kind n table (moveOf kind n k s) ≡ w
     unfolding entryOf
     entry-is = rw (e, c)
 
     pub read-leads : w ≡ v → leads k ≡ true
     unfolding leadsTo
-    read-leads h = eq-eqb (entryOf kind n table (turnOf kind k s)) v (entry-is ∙ h)
+    read-leads h = eq-eqb (entryOf kind n table (moveOf kind n k s)) v (entry-is ∙ h)
 
     pub leads-read : leads k ≡ true → w ≡ v
     unfolding leadsTo
-    leads-read l = sym entry-is ∙ eqb-true (entryOf kind n table (turnOf kind k s)) v l
+    leads-read l = sym entry-is ∙ eqb-true (entryOf kind n table (moveOf kind n k s)) v l
 
   -- no turn above k leads there
   abbrev pub NoneAbove : ℕ → Type 0
   NoneAbove k = (j : ℕ) → isMove moves j ≡ true → leads j ≡ true → j ≤ k
 
-  pub none-above-last : (k : ℕ) → k ≡ lastTurn kind n → (k ≤ n) × NoneAbove k
-  unfolding lastTurn
+  pub none-above-last : (k : ℕ) → k ≡ lastTurn kind n → (k ≤ lastTurn kind n) × NoneAbove k
   none-above-last k e = (omega arith, λ j m l. omega (arith, turn-last kind n j (in-set kind n groups j m .0)))
 
   module _ (k : ℕ) (above : NoneAbove k) where
@@ -102,9 +101,9 @@ module _ (kind n groups : ℕ) (table : List ℕ) (s : List ℤ) (v : ℕ) where
 -- ---- the route with the move that is found
 
 -- what is found is a turn
-pub turn-low : (kind n : ℕ) (table : List ℕ) (s : List ℤ) (v : ℕ) {moves : List ℕ} → Moves kind n moves → (k : ℕ) → k ≡ turnTo kind n table s v moves
-    → (k ≡ 0 → ⊥) → k ≤ n
-turn-low kind n table s v {moves} laws k e h = turn-last kind n k (laws .turns k (turn-taken kind n table s v moves k e h .0))
+pub turn-found : (kind n : ℕ) (table : List ℕ) (s : List ℤ) (v : ℕ) {moves : List ℕ} → Moves kind n moves → (k : ℕ)
+    → k ≡ turnTo kind n table s v moves → (k ≡ 0 → ⊥) → isTurn kind n k ≡ true
+turn-found kind n table s v {moves} laws k e h = laws .turns k (turn-taken kind n table s v moves k e h .0)
 
 -- it leads one nearer, by the entries as they are read
 pub found-nearer : (kind n : ℕ) (table : List ℕ) (s : List ℤ) (moves : List ℕ) (index v next near k : ℕ) → index ≡ rankOf kind n s → v ≡ entryAt table index
@@ -150,7 +149,7 @@ pub route-stack : (kind n : ℕ) {moves : List ℕ} (table : List ℕ) (wanted g
 route-stack kind n {moves} table wanted given in-range laws h =
     let r = route-within kind n moves table wanted given .0 in
     subst (λ (s : List ℤ). isStack kind n s ≡ true) (r .arrives)
-    (moves-stack kind n in-range laws (routeFrom kind n table wanted moves given .turns) given (r .turns) h)
+    (moves-stack kind n in-range (laws .turns) (routeFrom kind n table wanted moves given .turns) given (r .turns) h)
 
 -- ---- the loop that makes a route
 
@@ -200,8 +199,9 @@ module _ (kind n : ℕ) {moves table : List ℕ} {goal : ℕ} {given stack : Lis
         let here : Route = routeAt stack turns taken in
         stays wanted g (step-on kind n table here wanted moves (λ q. h (t .at ∙ q ∙ sym g)) ∙ follow-none kind n table moves here (sym z ∙ e))
 
-    pub travelled-step : isPaneCount kind n ≡ true → taken < planLimit → (k ≡ 0 → ⊥) → (child : List ℤ) → child ≡ turnOf kind k stack
-        → (next : ℕ) → next ≡ rankOf kind n (turnOf kind k stack) → Travelled kind n moves table goal given child next (set turns taken k) (taken + 1)
+    pub travelled-step : isPaneCount kind n ≡ true → taken < planLimit → (k ≡ 0 → ⊥) → (child : List ℤ) → child ≡ moveOf kind n k stack
+        → (next : ℕ) → next ≡ rankOf kind n (moveOf kind n k stack)
+        → Travelled kind n moves table goal given child next (set turns taken k) (taken + 1)
     travelled-step in-range l z child c next i =
         record {
           is-stack = rw c (moved-stack kind n in-range laws k stack (turn-taken kind n table stack (nearerEntry kind n table stack) moves k e z .0) (t .is-stack));

@@ -5,15 +5,15 @@ ghost use lib.ListN.{length};
 ghost use Rattle.ones.specs.Ones.{onesTable};
 ghost use Rattle.stacks.specs.Index.{rankOf};
 ghost use Rattle.stacks.specs.Stack.{isPaneCount, isStack, stackCount};
-ghost use Rattle.stacks.specs.Turn.{turnsIn, turnOf};
+ghost use Rattle.stacks.specs.Turn.{turnsIn, moveOf};
 ghost use Rattle.search.specs.Entries.{bytesFor};
 ghost use Rattle.search.specs.Plan.{entryOf, turnTo, routeFrom};
 ghost use Rattle.plan.specs.Routes.{routeOf, StandsAt, LeadsFrom};
 use ones::SETS;
 use perm::groups;
 use perm::kind;
+use perm::moves;
 use perm::numbering;
-use perm::turning;
 use search::PLAN_LIMIT;
 use stacks::PLACES;
 use twobit::entry;
@@ -58,13 +58,13 @@ fn turn_to(
     lookup: &[u8; SETS],
 ) -> Step
     requires { ⌜ StandsAt kind n stack index (now table) × (now lookup ≡ onesTable) ⌝ }
-    ensures { λ r. ⌜ (r .k ≡ turnTo kind n (now (table .entry)) stack v (turnsIn kind n groups)) × (r .index ≡ rankOf kind n (turnOf kind (r .k) stack)) ⌝ }
+    ensures { λ r. ⌜ (r .k ≡ turnTo kind n (now (table .entry)) stack v (turnsIn kind n groups)) × (r .index ≡ rankOf kind n (moveOf kind n (r .k) stack)) ⌝ }
 {
     let first = kind::first_turn(kind);
     let mut k = kind::last_turn(kind, n);
     while first <= k {
         if groups::lifts(groups, k) {
-            let child = numbering::rank_turned(kind, n, &stack, index, k, lookup);
+            let child = moves::rank_moved(kind, n, &stack, index, k, lookup);
             if entry::get_entry(table, child) == v {
                 return Step { k, index: child };
             }
@@ -85,7 +85,7 @@ pub(crate) fn route_from(
     table: &[u8],
     lookup: &[u8; SETS],
 ) -> Route
-    requires { ⌜ LeadsFrom kind n wanted given (now table) × (now lookup ≡ onesTable) ⌝ }
+    requires { ⌜ LeadsFrom kind n wanted given groups (now table) × (now lookup ≡ onesTable) ⌝ }
     ensures { λ r. ⌜ (routeOf r ≡ routeFrom kind n (now (table .entry)) wanted (turnsIn kind n groups) given) × (length (routeOf r .turns) ≡ r .taken) ⌝ }
 {
     let goal = numbering::rank(kind, n, wanted, lookup);
@@ -112,7 +112,7 @@ pub(crate) fn route_from(
                 taken,
             };
         }
-        let child = turning::turned(kind, n, stack, k);
+        let child = moves::moved(kind, n, stack, k);
         stack = child;
         index = step.index;
         turns[taken] = k;

@@ -11,6 +11,8 @@ use Rattle.stacks.specs.Counts.{CountsAt}
 use Rattle.stacks.specs.Index.{rankOf}
 use Rattle.stacks.specs.Stack.{isStack, stackCount}
 use Rattle.stacks.specs.Turn.{allGroups, Road, Fewest}
+use Rattle.stacks.proofs.KindLaws
+use Rattle.stacks.proofs.MoveLaws
 use Rattle.search.specs.Begin.{begun}
 use Rattle.search.specs.Build.{World, Call, outcome, after, doClose}
 use Rattle.search.specs.Entries.{entryAt, seenIn}
@@ -24,6 +26,7 @@ use Rattle.search.specs.declared.Planned.{Planned}
 use Rattle.search.specs.declared.Terms.{Terms}
 use Rattle.search.specs.declared.Way.{Way}
 use Rattle.search.proofs.AllTurns
+use Rattle.search.proofs.Coherence
 
 -- ---- a finished build
 
@@ -83,7 +86,11 @@ module _ (kind n : ℕ) (wanted : List ℤ) (S C : ℕ) (w : World) (f : Finishe
 
 -- ---- every list of calls
 
-module _ (kind n : ℕ) (wanted : List ℤ) (S C : ℕ) (segments : List (List ℕ)) (log changed : List ℕ)
+-- the kinds whose turns undo themselves, plain and coated, are all that Begin accepts
+begun-low : (terms : Terms) → beginRefusal terms ≡ 0 → terms .kind < 2
+begun-low terms begins = KindLaws.kind-low (terms .kind) (Coherence.begin-given begins .is-kind)
+
+module _ (kind n : ℕ) (wanted : List ℤ) (S C : ℕ) (segments : List (List ℕ)) (log changed : List ℕ) (low : kind < 2)
     (begins : beginRefusal (termsOf kind n wanted (allGroups kind n) S C) ≡ 0)
     (buffers : Buffers (termsOf kind n wanted (allGroups kind n) S C) segments log) where
   abbrev terms : Terms
@@ -95,7 +102,7 @@ module _ (kind n : ℕ) (wanted : List ℤ) (S C : ℕ) (segments : List (List �
   module _ (calls : List (Call (rightLengths terms))) where
     promise : Promise terms (rightLengths terms) start calls
     unfolding WholeBuild start
-    promise = AllTurns.whole-build terms segments log changed begins refl buffers calls
+    promise = AllTurns.whole-build terms segments log changed begins (MoveLaws.undoes-itself kind low) refl buffers calls
 
     by-close : isFinished (after start calls .job .phase) ≡ true → FinishedByClose start calls
     by-close = promise .by-close

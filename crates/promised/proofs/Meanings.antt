@@ -14,7 +14,7 @@ use Rattle.stacks.specs.Counts.{TellsWhere, CountsWhere, CountsBy, CountsAt}
 use Rattle.stacks.specs.Index.{stackAt, allStacks, coat}
 use Rattle.stacks.specs.Order.{lexLess, precedes}
 use Rattle.stacks.specs.Stack.{isStack, orderOf, stackCount}
-use Rattle.stacks.specs.Turn.{isTurn, turnsOf, lifts, turnsIn, turnOf, turnsFrom, RoadBy, FewestBy, Road, Fewest, turnBound}
+use Rattle.stacks.specs.Turn.{isTurn, turnsOf, lifts, turnsIn, turnOf, moveOf, movesFrom, RoadBy, FewestBy, Road, Fewest, turnBound}
 use Rattle.stacks.specs.Stack
 use Rattle.search.specs.Begin.{begun, beginOf}
 use Rattle.search.specs.Blank.{blankOf}
@@ -40,14 +40,18 @@ use Rattle.search.specs.declared.Way.the-variants.{Forward}
 
 -- ---- roads, fewest turns and counts
 
--- turns one after the other
-no-turns : (kind : ℕ) (s : List ℤ) → turnsFrom kind [] s ≡ s
-unfolding turnsFrom
-no-turns kind s = refl
+-- a move of a kind and n is the turn of its number; moves one after the other
+move-is : (kind n k : ℕ) (s : List ℤ) → moveOf kind n k s ≡ turnOf kind k s
+unfolding moveOf
+move-is kind n k s = refl
 
-one-turn-more : (kind k : ℕ) (ks : List ℕ) (s : List ℤ) → turnsFrom kind (k ∷ ks) s ≡ turnsFrom kind ks (turnOf kind k s)
-unfolding turnsFrom
-one-turn-more kind k ks s = refl
+no-turns : (kind n : ℕ) (s : List ℤ) → movesFrom kind n [] s ≡ s
+unfolding movesFrom
+no-turns kind n s = refl
+
+one-turn-more : (kind n k : ℕ) (ks : List ℕ) (s : List ℤ) → movesFrom kind n (k ∷ ks) s ≡ movesFrom kind n ks (moveOf kind n k s)
+unfolding movesFrom
+one-turn-more kind n k ks s = refl
 
 -- the turns of a set are those that it names, and a move is one of a list
 turns-of-set : (kind n groups : ℕ) → turnsIn kind n groups ≡ filter (lifts groups) (turnsOf kind n)
@@ -71,23 +75,23 @@ bound-coated : (n : ℕ) → turnBound 1 n ≡ 3 * n
 unfolding turnBound Stack.isCoated
 bound-coated n = refl
 
-module _ {kind : ℕ} {isMove : ℕ → Bool} {s w : List ℤ} where
+module _ {kind n : ℕ} {isMove : ℕ → Bool} {s w : List ℤ} where
   -- a road is moves alone, which take s to w
   module _ {ks : List ℕ} where
-    road-is : RoadBy kind isMove ks s w → (all isMove ks ≡ true) × (turnsFrom kind ks s ≡ w)
+    road-is : RoadBy kind n isMove ks s w → (all isMove ks ≡ true) × (movesFrom kind n ks s ≡ w)
     road-is road = (road .turns, road .arrives)
 
-    road-from : all isMove ks ≡ true → turnsFrom kind ks s ≡ w → RoadBy kind isMove ks s w
+    road-from : all isMove ks ≡ true → movesFrom kind n ks s ≡ w → RoadBy kind n isMove ks s w
     road-from turns arrives = record { turns = turns; arrives = arrives }
 
   -- d are the fewest where a road has d, and every road at least d
   module _ {d : ℕ} where
-    fewest-is : FewestBy kind isMove s w d
-        → ((ks : List ℕ) × RoadBy kind isMove ks s w × (length ks ≡ d)) × ((ks : List ℕ) → RoadBy kind isMove ks s w → d ≤ length ks)
+    fewest-is : FewestBy kind n isMove s w d
+        → ((ks : List ℕ) × RoadBy kind n isMove ks s w × (length ks ≡ d)) × ((ks : List ℕ) → RoadBy kind n isMove ks s w → d ≤ length ks)
     fewest-is fewest = ((fewest .road, fewest .leads, fewest .long), fewest .least)
 
-    fewest-from : (ks : List ℕ) → RoadBy kind isMove ks s w → length ks ≡ d → ((ks : List ℕ) → RoadBy kind isMove ks s w → d ≤ length ks)
-        → FewestBy kind isMove s w d
+    fewest-from : (ks : List ℕ) → RoadBy kind n isMove ks s w → length ks ≡ d → ((ks : List ℕ) → RoadBy kind n isMove ks s w → d ≤ length ks)
+        → FewestBy kind n isMove s w d
     fewest-from ks leads long least = record { road = ks; leads = leads; long = long; least = least }
 
 -- a test tells the stacks with a property where it passes exactly these
@@ -110,34 +114,34 @@ module _ {kind n : ℕ} {property : List ℤ → Type 0} where
 
 -- what is counted by some moves is the stacks whose fewest moves are d
 counts-is : {kind n : ℕ} {isMove : ℕ → Bool} {w : List ℤ} {d count : ℕ} → CountsBy kind n isMove w d count
-    → CountsWhere kind n (λ s. FewestBy kind isMove s w d) count
+    → CountsWhere kind n (λ s. FewestBy kind n isMove s w d) count
 counts-is counts = counts
 
 -- by all turns of a kind and n, and by the turns of a set
 module _ (kind n groups : ℕ) {s w : List ℤ} where
-  road-all : {ks : List ℕ} → Road kind n ks s w → RoadBy kind (isTurn kind n) ks s w
+  road-all : {ks : List ℕ} → Road kind n ks s w → RoadBy kind n (isTurn kind n) ks s w
   road-all road = road
 
-  all-road : {ks : List ℕ} → RoadBy kind (isTurn kind n) ks s w → Road kind n ks s w
+  all-road : {ks : List ℕ} → RoadBy kind n (isTurn kind n) ks s w → Road kind n ks s w
   all-road road = road
 
-  road-set : {ks : List ℕ} → RoadIn kind n groups ks s w → RoadBy kind (isMove (turnsIn kind n groups)) ks s w
+  road-set : {ks : List ℕ} → RoadIn kind n groups ks s w → RoadBy kind n (isMove (turnsIn kind n groups)) ks s w
   road-set road = road
 
-  set-road : {ks : List ℕ} → RoadBy kind (isMove (turnsIn kind n groups)) ks s w → RoadIn kind n groups ks s w
+  set-road : {ks : List ℕ} → RoadBy kind n (isMove (turnsIn kind n groups)) ks s w → RoadIn kind n groups ks s w
   set-road road = road
 
   module _ {d : ℕ} where
-    fewest-all : Fewest kind n s w d → FewestBy kind (isTurn kind n) s w d
+    fewest-all : Fewest kind n s w d → FewestBy kind n (isTurn kind n) s w d
     fewest-all fewest = fewest
 
-    all-fewest : FewestBy kind (isTurn kind n) s w d → Fewest kind n s w d
+    all-fewest : FewestBy kind n (isTurn kind n) s w d → Fewest kind n s w d
     all-fewest fewest = fewest
 
-    fewest-set : FewestIn kind n groups s w d → FewestBy kind (isMove (turnsIn kind n groups)) s w d
+    fewest-set : FewestIn kind n groups s w d → FewestBy kind n (isMove (turnsIn kind n groups)) s w d
     fewest-set fewest = fewest
 
-    set-fewest : FewestBy kind (isMove (turnsIn kind n groups)) s w d → FewestIn kind n groups s w d
+    set-fewest : FewestBy kind n (isMove (turnsIn kind n groups)) s w d → FewestIn kind n groups s w d
     set-fewest fewest = fewest
 
 module _ (kind n groups : ℕ) {w : List ℤ} {d count : ℕ} where

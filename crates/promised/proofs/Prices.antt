@@ -9,7 +9,7 @@ use lib.ListN.{length, getD, take}
 use Rattle.base.specs.Words.{unless, all, tally, total, from}
 use Rattle.graph.specs.Walks.{isMove}
 use Rattle.stacks.specs.Stack.{isStack, stackCount}
-use Rattle.stacks.specs.Turn.{lastTurn, turnsIn, turnsFrom}
+use Rattle.stacks.specs.Turn.{lastTurn, turnsIn, movesFrom}
 use Rattle.search.specs.Begin.{begun}
 use Rattle.search.specs.Build.{World, Call, after}
 use Rattle.search.specs.Entries.{bytesFor}
@@ -189,14 +189,14 @@ module _ (kind n : ℕ) (wanted : List ℤ) (groups S C : ℕ) (segments : List 
     out = priceOf (w .job .terms .kind) (w .job .terms .n) (w .job .terms .wanted) given (w .job .terms .groups) (joined (w .segments)) list tariff
 
     -- 20 where no turns of the set lead to the wanted stack
-    refused-20 : ((ks : List ℕ) → all (isMove (turnsIn kind n groups)) ks ≡ true → turnsFrom kind ks given ≡ wanted → ⊥) → out .1 .refusal ≡ 20
+    refused-20 : ((ks : List ℕ) → all (isMove (turnsIn kind n groups)) ks ≡ true → movesFrom kind n ks given ≡ wanted → ⊥) → out .1 .refusal ≡ 20
     unfolding PriceFinished rightBytes rightWords
     refused-20 none =
         PriceLaws.price-finished terms segments log changed begins (record { some = some; each = each; area = area }) calls finished
         given list tariff stack long .1 (λ ks road. none ks (road .turns) (road .arrives))
 
     -- where some do
-    module _ (ks : List ℕ) (moves : all (isMove (turnsIn kind n groups)) ks ≡ true) (leads : turnsFrom kind ks given ≡ wanted) where
+    module _ (ks : List ℕ) (moves : all (isMove (turnsIn kind n groups)) ks ≡ true) (leads : movesFrom kind n ks given ≡ wanted) where
       prices : Prices terms w given list tariff
       unfolding PriceFinished rightBytes rightWords
       prices =
@@ -216,6 +216,6 @@ module _ (kind n : ℕ) (wanted : List ℤ) (groups S C : ℕ) (segments : List 
         shortest : FewestIn kind n groups given wanted (out .1 .turns)
         shortest = prices .shortest accepted
 
-        least : (other : List ℕ) → all (isMove (turnsIn kind n groups)) other ≡ true → turnsFrom kind other given ≡ wanted
+        least : (other : List ℕ) → all (isMove (turnsIn kind n groups)) other ≡ true → movesFrom kind n other given ≡ wanted
             → out .1 .turns ≤ length other
         least other moves′ leads′ = prices .shortest accepted .least other (record { turns = moves′; arrives = leads′ })

@@ -13,7 +13,7 @@ use Rattle.stacks.specs.Counts.{CountsAt}
 use Rattle.stacks.specs.Index.{paneWith}
 use Rattle.stacks.specs.Operations.{kindRefusal}
 use Rattle.stacks.specs.Stack.{isStack, stackCount}
-use Rattle.stacks.specs.Turn.{isTurn, turnsFrom, Fewest}
+use Rattle.stacks.specs.Turn.{isTurn, movesFrom, Fewest}
 use Rattle.search.specs.Drive.{buildOf}
 use Rattle.search.specs.Entries.{entryAt, unseen, seenIn}
 use Rattle.search.specs.Segments.{isSegmentSize}
@@ -142,13 +142,13 @@ module _ (table cs : List ℕ) (lines : List (List ℕ)) (long : length table �
     are-turns : all (isTurn kind n) turns ≡ true
     are-turns = answers .arrives .turns
 
-    arrives : turnsFrom kind turns (placesOf (bytesOf later)) ≡ wanted
+    arrives : movesFrom kind n turns (placesOf (bytesOf later)) ≡ wanted
     arrives = answers .arrives .arrives
 
     shortest : Fewest kind n (placesOf (bytesOf later)) wanted (length turns)
     shortest = answers .shortest
 
-    least : (ks : List ℕ) → all (isTurn kind n) ks ≡ true → turnsFrom kind ks (placesOf (bytesOf later)) ≡ wanted → length turns ≤ length ks
+    least : (ks : List ℕ) → all (isTurn kind n) ks ≡ true → movesFrom kind n ks (placesOf (bytesOf later)) ≡ wanted → length turns ≤ length ks
     least ks are leads = answers .shortest .least ks (record { turns = are; arrives = leads })
 
     -- the number of turns and each turn fit their byte, so that the line says them

@@ -1,5 +1,5 @@
--- By the full set every stack has a road, of at most 30 turns, so that demands 2 and 3 read as document 01 has them: every stack is reached and
--- planned, a build closes by level 31, and no Close is refused 14.
+-- By the full set, where each turn undoes itself, every stack has a road, of at most 30 turns, so that demands 2 and 3 read as document 01 has
+-- them: every stack is reached and planned, a build closes by level 31, and no Close is refused 14.
 use mathlib.Core.Path.{_≡_, sym, ap, _∙_, subst}
 use mathlib.Core.Logic.{_⊎_, inl, inr}
 use mathlib.Core.Bool.{Bool, true, not}
@@ -16,7 +16,7 @@ use Rattle.graph.proofs.Tally.{tally-all}
 use Rattle.stacks.specs.Counts.{CountsBy, CountsAt}
 use Rattle.stacks.specs.Index.{rankOf, stackAt}
 use Rattle.stacks.specs.Stack.{isPaneCount}
-use Rattle.stacks.specs.Turn.{isTurn, turnsIn, allGroups, RoadBy, Road, FewestBy, Fewest}
+use Rattle.stacks.specs.Turn.{isTurn, UndoesItself, turnsIn, allGroups, RoadBy, Road, FewestBy, Fewest}
 use Rattle.stacks.proofs.GroupLaws.{all-turns-in}
 use Rattle.stacks.proofs.Numbering.{unrank-stack, rank-unrank}
 use Rattle.stacks.proofs.TurnBound.{road-bound, turn-bound-30}
@@ -40,37 +40,38 @@ module _ (kind n groups : ℕ) (in-range : isPaneCount kind n ≡ true) (full : 
       ap (λ (g : ℕ). isMove (turnsIn kind n g)) full ∙ ap isMove (all-turns-in kind n in-range) ∙ (λ i k. sym (turn-is-move kind n k) i)
 
   pub full-road : {ks : List ℕ} {s w : List ℤ} → RoadIn kind n groups ks s w → Road kind n ks s w
-  full-road {ks} {s} {w} r = subst (λ (p : ℕ → Bool). RoadBy kind p ks s w) full-test r
+  full-road {ks} {s} {w} r = subst (λ (p : ℕ → Bool). RoadBy kind n p ks s w) full-test r
 
   road-full : {ks : List ℕ} {s w : List ℤ} → Road kind n ks s w → RoadIn kind n groups ks s w
-  road-full {ks} {s} {w} r = subst (λ (p : ℕ → Bool). RoadBy kind p ks s w) (sym full-test) r
+  road-full {ks} {s} {w} r = subst (λ (p : ℕ → Bool). RoadBy kind n p ks s w) (sym full-test) r
 
   pub full-fewest : {s w : List ℤ} {d : ℕ} → FewestIn kind n groups s w d → Fewest kind n s w d
-  full-fewest {s} {w} {d} f = subst (λ (p : ℕ → Bool). FewestBy kind p s w d) full-test f
+  full-fewest {s} {w} {d} f = subst (λ (p : ℕ → Bool). FewestBy kind n p s w d) full-test f
 
-  fewest-full : {s w : List ℤ} {d : ℕ} → Fewest kind n s w d → FewestIn kind n groups s w d
-  fewest-full {s} {w} {d} f = subst (λ (p : ℕ → Bool). FewestBy kind p s w d) (sym full-test) f
+  pub fewest-full : {s w : List ℤ} {d : ℕ} → Fewest kind n s w d → FewestIn kind n groups s w d
+  fewest-full {s} {w} {d} f = subst (λ (p : ℕ → Bool). FewestBy kind n p s w d) (sym full-test) f
 
   full-counts : {w : List ℤ} {d count : ℕ} → CountsIn kind n groups w d count → CountsAt kind n w d count
   full-counts {w} {d} {count} c = subst (λ (p : ℕ → Bool). CountsBy kind n p w d count) full-test c
 
 -- no stack needs more than 30 turns
-pub few-turns : {terms : Terms} → Given terms → (s : List ℤ) (d : ℕ) → IsStack terms s → FewestAll terms s d → d ≤ mostTurns
-few-turns {terms} given s d h f =
-    let r = road-bound (terms .kind) (terms .n) (given .in-range) s (terms .wanted) h (given .stack) in
+pub few-turns : {terms : Terms} → Given terms → UndoesItself (terms .kind) → (s : List ℤ) (d : ℕ) → IsStack terms s
+    → FewestAll terms s d → d ≤ mostTurns
+few-turns {terms} given itself s d h f =
+    let r = road-bound (terms .kind) (terms .n) (given .in-range) itself s (terms .wanted) h (given .stack) in
     omega (arith, f .least (r .0) (r .1), r .2, turn-bound-30 (terms .kind) (terms .n) (given .in-range))
 
-module _ {terms : Terms} (given : Given terms) (full : terms .groups ≡ allGroups (terms .kind) (terms .n)) where
+module _ {terms : Terms} (given : Given terms) (itself : UndoesItself (terms .kind)) (full : terms .groups ≡ allGroups (terms .kind) (terms .n)) where
   fewest-all : {s : List ℤ} {d : ℕ} → FewestTo terms s d → FewestAll terms s d
   fewest-all = full-fewest (terms .kind) (terms .n) (terms .groups) (given .in-range) full
 
   short-road : (s : List ℤ) → IsStack terms s → (ks : List ℕ) × RoadTo terms ks s
   short-road s h =
-      let r = road-bound (terms .kind) (terms .n) (given .in-range) s (terms .wanted) h (given .stack) in
+      let r = road-bound (terms .kind) (terms .n) (given .in-range) itself s (terms .wanted) h (given .stack) in
       (r .0, road-full (terms .kind) (terms .n) (terms .groups) (given .in-range) full (r .1))
 
   needs-few : (d : ℕ) → Needs terms d → d ≤ mostTurns
-  needs-few d s = few-turns given (s .0) d (s .1) (fewest-all (s .2))
+  needs-few d s = few-turns given itself (s .0) d (s .1) (fewest-all (s .2))
 
   pub none-deep : Needs terms lastLevel → ⊥
   none-deep s = omega (arith, needs-few lastLevel s)
@@ -105,7 +106,7 @@ module _ {terms : Terms} (given : Given terms) (full : terms .groups ≡ allGrou
           accepts = p .accepts;
           arrives = subst (λ (t : Terms). RoadAll t (take (out .1 .turns) (out .0)) start) (sym (f .given-terms)) road;
           shortest = subst (λ (t : Terms). FewestAll t start (out .1 .turns)) (sym (f .given-terms)) shortest;
-          few = few-turns given start (out .1 .turns) h shortest;
+          few = few-turns given itself start (out .1 .turns) h shortest;
         }
 
     pub finishes-all : Finishes terms w
@@ -143,5 +144,5 @@ module _ {terms : Terms} (given : Given terms) (full : terms .groups ≡ allGrou
 
 pub whole-build : WholeBuild
 unfolding WholeBuild WholeBuildBy
-whole-build terms segments log changed accepted full buffers calls =
-    promise-all (begin-given accepted) full (whole-build-by terms segments log changed accepted buffers calls)
+whole-build terms segments log changed accepted itself full buffers calls =
+    promise-all (begin-given accepted) itself full (whole-build-by terms segments log changed accepted buffers calls)

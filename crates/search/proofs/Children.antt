@@ -10,7 +10,7 @@ use Rattle.graph.proofs.Moves.{move-listed, listed-move}
 use Rattle.base.proofs.Lists.{getD-map}
 use Rattle.stacks.specs.Index.{rankOf, stackAt}
 use Rattle.stacks.specs.Stack.{isPaneCount, stackCount}
-use Rattle.stacks.specs.Turn.{turnOf}
+use Rattle.stacks.specs.Turn.{moveOf}
 use Rattle.search.specs.Expand.{childrenOf}
 use Rattle.search.proofs.Turning.{childAt, Moves, move-graph}
 
@@ -21,7 +21,7 @@ module _ (kind n : ℕ) (moves : List ℕ) (v : ℕ) where
 
   -- the first of them, as code makes it
   pub children-next : (k : ℕ) (later : List ℕ) → moves ≡ k ∷ later → (stack : List ℤ) → stack ≡ stackAt kind n v
-      → (r : ℕ) → r ≡ rankOf kind n (turnOf kind k stack) → childrenOf kind n moves v ≡ r ∷ childrenOf kind n later v
+      → (r : ℕ) → r ≡ rankOf kind n (moveOf kind n k stack) → childrenOf kind n moves v ≡ r ∷ childrenOf kind n later v
   unfolding childrenOf
   children-next k later e stack is r made = rw (e, made, is)
 

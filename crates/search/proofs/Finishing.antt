@@ -69,7 +69,8 @@ plan-arrives kind n wanted given groups table list h =
     let f : PlanFacts kind n wanted given groups table (length list) = plan-row kind n wanted given groups table (length list) .asks accepts in
     let row = f .row in
     let road : RoadIn kind n groups turns given wanted =
-    route-arrives kind n table wanted given (row .of-panes) (set-turns kind n (row .of-panes) groups) (row .goal) (row .start) (f .plan) in
+    route-arrives kind n table wanted given (row .of-panes)
+    (set-turns kind n (row .of-panes) groups (row .of-set)) (row .goal) (row .start) (f .plan) in
     subst (λ (out : List ℕ × Planned). RoadIn kind n groups (take (out .1 .turns) (out .0)) given wanted × (out .1 .turns ≤ planLimit))
     (sym (plan-accepted kind n wanted given groups table list accepts)) (
       subst (λ (ks : List ℕ). RoadIn kind n groups ks given wanted) (sym (take-append-seam turns (drop (length turns) list))) road,

@@ -62,7 +62,7 @@ module _ {terms : Terms} (given : Given terms) where
   few = sizes .few
 
   pub laws : Moves (terms .kind) (terms .n) (moves terms)
-  laws = set-turns (terms .kind) (terms .n) (given .in-range) (terms .groups)
+  laws = set-turns (terms .kind) (terms .n) (given .in-range) (terms .groups) (given .of-set)
 
   pub depths : Depths (N terms) (moves terms) (step terms) (goal terms) beyond (D terms)
   depths = move-depths (terms .kind) (terms .n) (terms .wanted) beyond (given .in-range) (given .stack) laws (omega arith)

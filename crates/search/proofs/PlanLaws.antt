@@ -17,14 +17,15 @@ use Rattle.graph.proofs.Moves.{isMove-filter, largest-move, move-largest}
 use Rattle.graph.proofs.Depths.{Depths, nearer-label}
 use Rattle.stacks.specs.Stack.{isKind, isPaneCount, isStack, stackCount}
 use Rattle.stacks.specs.Index.{rankOf}
-use Rattle.stacks.specs.Turn.{isGroupSet, turnsIn, turnOf, turnsFrom, RoadBy, FewestBy}
+use Rattle.stacks.specs.Turn.{isGroupSet, turnsIn, moveOf, movesFrom, RoadBy, FewestBy}
 use Rattle.stacks.proofs.Numbering.{rank-lt, rank-injective}
 use Rattle.stacks.proofs.TurnLaws.{turn-first, first-pos}
+use Rattle.stacks.proofs.MoveLaws.{moves-stack}
 use Rattle.stacks.proofs.Refusals.{stack-row}
 use Rattle.stacks.proofs.Roads.{road-none, road-append}
 use Rattle.search.specs.Entries.{bytesFor, entryAt, unseen, nextEntry}
 use Rattle.search.specs.Plan.{planLimit, Route, entryOf, leadsTo, turnTo, nearerEntry, follow, isWanted, planStep, planRun, routeFrom, hasPlan, planRow, planRefusal}
-use Rattle.search.proofs.Turning.{childAt, Moves, child-rank, moved-stack, moves-stack}
+use Rattle.search.proofs.Turning.{childAt, Moves, child-rank, moved-stack}
 use Rattle.search.proofs.Fewest.{depth, move-depths, depth-fewest}
 
 -- ---- what an accepted call was given
@@ -115,8 +116,8 @@ module _ (kind n : ℕ) (table : List ℕ) (s : List ℤ) (v : ℕ) (moves : Lis
 -- ---- a plan in the making, whatever the table holds
 
 -- the route with one more turn
-abbrev onward : ℕ → ℕ → Route → Route
-onward kind k route = record { stack = turnOf kind k (route .stack); turns = route .turns ++ (k ∷ []) }
+abbrev onward : ℕ → ℕ → ℕ → Route → Route
+onward kind n k route = record { stack = moveOf kind n k (route .stack); turns = route .turns ++ (k ∷ []) }
 
 module _ (kind n : ℕ) (table moves : List ℕ) (route : Route) where
   -- the turn that is taken from here
@@ -124,7 +125,7 @@ module _ (kind n : ℕ) (table moves : List ℕ) (route : Route) where
   turnNearer = turnTo kind n table (route .stack) (nearerEntry kind n table (route .stack)) moves
 
   -- it is followed, and where none is taken the route stays
-  pub follow-turn : (k : ℕ) → k ≡ turnNearer → (k ≡ 0 → ⊥) → follow kind n table moves route ≡ onward kind k route
+  pub follow-turn : (k : ℕ) → k ≡ turnNearer → (k ≡ 0 → ⊥) → follow kind n table moves route ≡ onward kind n k route
   unfolding follow
   follow-turn k e h = rw (← e, ne-eqb k 0 h)
 
@@ -133,18 +134,18 @@ module _ (kind n : ℕ) (table moves : List ℕ) (route : Route) where
   follow-none e = rw (← e)
 
 -- a route from the given stack, of at most m moves
-abbrev pub RouteWithin : ℕ → List ℕ → List ℤ → ℕ → Route → Type 0
-RouteWithin kind moves given m route = RoadBy kind (isMove moves) (route .turns) given (route .stack) × (length (route .turns) ≤ m)
+abbrev pub RouteWithin : ℕ → ℕ → List ℕ → List ℤ → ℕ → Route → Type 0
+RouteWithin kind n moves given m route = RoadBy kind n (isMove moves) (route .turns) given (route .stack) × (length (route .turns) ≤ m)
 
 module _ (kind n : ℕ) (moves table : List ℕ) (wanted given : List ℤ) where
-  onward-within : (k m : ℕ) (route : Route) → isMove moves k ≡ true → RouteWithin kind moves given m route
-      → RouteWithin kind moves given (suc m) (onward kind k route)
-  unfolding turnsFrom all
+  onward-within : (k m : ℕ) (route : Route) → isMove moves k ≡ true → RouteWithin kind n moves given m route
+      → RouteWithin kind n moves given (suc m) (onward kind n k route)
+  unfolding movesFrom all
   onward-within k m route t u =
       (road-append (u .0) (record { turns = and-both (isMove moves k) true t refl; arrives = refl }), rw length-append (omega (arith, u .1)))
 
-  follow-within : (m : ℕ) (route : Route) → RouteWithin kind moves given m route
-      → RouteWithin kind moves given (suc m) (follow kind n table moves route)
+  follow-within : (m : ℕ) (route : Route) → RouteWithin kind n moves given m route
+      → RouteWithin kind n moves given (suc m) (follow kind n table moves route)
   follow-within m route u = go (eq-or-ne k 0)
     where
       s : List ℤ
@@ -153,30 +154,30 @@ module _ (kind n : ℕ) (moves table : List ℕ) (wanted given : List ℤ) where
       k : ℕ
       k = turnNearer kind n table moves route
 
-      go : (k ≡ 0) ⊎ (k ≡ 0 → ⊥) → RouteWithin kind moves given (suc m) (follow kind n table moves route)
+      go : (k ≡ 0) ⊎ (k ≡ 0 → ⊥) → RouteWithin kind n moves given (suc m) (follow kind n table moves route)
       go (inl e) = rw (follow-none kind n table moves route (sym e)) (u .0, omega (arith, u .1))
       go (inr h) =
           rw (follow-turn kind n table moves route k refl h)
           (onward-within k m route (turn-taken kind n table s (nearerEntry kind n table s) moves k refl h .0) u)
 
-  step-within : (m : ℕ) (route : Route) → RouteWithin kind moves given m route
-      → RouteWithin kind moves given (suc m) (planStep kind n table wanted moves route)
+  step-within : (m : ℕ) (route : Route) → RouteWithin kind n moves given m route
+      → RouteWithin kind n moves given (suc m) (planStep kind n table wanted moves route)
   unfolding planStep
   step-within m route u = go (isWanted kind n table wanted (route .stack))
     where
-      go : (b : Bool) → RouteWithin kind moves given (suc m) (cond b route (follow kind n table moves route))
+      go : (b : Bool) → RouteWithin kind n moves given (suc m) (cond b route (follow kind n table moves route))
       go true = (u .0, omega (arith, u .1))
       go false = follow-within m route u
 
-  run-within : (left m : ℕ) (route : Route) → RouteWithin kind moves given m route
-      → RouteWithin kind moves given (left + m) (planRun kind n table wanted moves left route)
+  run-within : (left m : ℕ) (route : Route) → RouteWithin kind n moves given m route
+      → RouteWithin kind n moves given (left + m) (planRun kind n table wanted moves left route)
   unfolding planRun
   run-within zero m route u = (u .0, omega (arith, u .1))
   run-within (suc left) m route u =
       let r = run-within left (suc m) (planStep kind n table wanted moves route) (step-within m route u) in
       (r .0, omega (arith, r .1))
 
-  pub route-within : RouteWithin kind moves given planLimit (routeFrom kind n table wanted moves given)
+  pub route-within : RouteWithin kind n moves given planLimit (routeFrom kind n table wanted moves given)
   unfolding routeFrom
   route-within =
       let r = run-within planLimit 0 (record { stack = given; turns = [] }) (road-none given, zero-le) in
@@ -185,17 +186,18 @@ module _ (kind n : ℕ) (moves table : List ℕ) (wanted given : List ℤ) where
 -- where there is a plan, its moves lead from the given stack to the wanted one
 pub route-arrives : (kind n : ℕ) {moves : List ℕ} (table : List ℕ) (wanted given : List ℤ) → isPaneCount kind n ≡ true → Moves kind n moves
     → isStack kind n wanted ≡ true → isStack kind n given ≡ true → hasPlan kind n table wanted moves given ≡ true
-    → RoadBy kind (isMove moves) (routeFrom kind n table wanted moves given .turns) given wanted
+    → RoadBy kind n (isMove moves) (routeFrom kind n table wanted moves given .turns) given wanted
 unfolding hasPlan isWanted
 route-arrives kind n {moves} table wanted given in-range laws goal start plan =
     let route : Route = routeFrom kind n table wanted moves given in
-    let r : RouteWithin kind moves given planLimit route = route-within kind n moves table wanted given in
+    let r : RouteWithin kind n moves given planLimit route = route-within kind n moves table wanted given in
     let stack : isStack kind n (route .stack) ≡ true =
-    subst (λ (s : List ℤ). isStack kind n s ≡ true) (r .0 .arrives) (moves-stack kind n in-range laws (route .turns) given (r .0 .turns) start) in
+    subst (λ (s : List ℤ). isStack kind n s ≡ true) (r .0 .arrives)
+    (moves-stack kind n in-range (laws .turns) (route .turns) given (r .0 .turns) start) in
     let same : rankOf kind n (route .stack) ≡ rankOf kind n wanted =
     eqb-true (rankOf kind n (route .stack)) (rankOf kind n wanted)
     (and-right (eqb (entryOf kind n table wanted) 0) (isWanted kind n table wanted (route .stack)) plan) in
-    subst (RoadBy kind (isMove moves) (route .turns) given) (rank-injective kind n (route .stack) wanted in-range stack goal same) (r .0)
+    subst (RoadBy kind n (isMove moves) (route .turns) given) (rank-injective kind n (route .stack) wanted in-range stack goal same) (r .0)
 
 -- ---- over a right table
 
@@ -215,34 +217,36 @@ module _ (kind n : ℕ) (wanted : List ℤ) (b : ℕ) (table : List ℕ) (in-ran
   depths = move-depths kind n wanted b in-range goal laws (omega arith)
 
   module _ (s : List ℤ) (stack : isStack kind n s ≡ true) where
-    child-far : (k : ℕ) → depth kind n moves wanted b (childAt kind n k (rankOf kind n s)) ≡ far (turnOf kind k s)
+    child-far : (k : ℕ) → depth kind n moves wanted b (childAt kind n k (rankOf kind n s)) ≡ far (moveOf kind n k s)
     child-far k = ap (depth kind n moves wanted b) (child-rank kind n in-range k s stack)
 
     -- a child of a stack that a plan may start from has a road too
     module _ (near : far s ≤ planLimit) where
-      child-near : (k : ℕ) → isMove moves k ≡ true → far (turnOf kind k s) < b
+      child-near : (k : ℕ) → isMove moves k ≡ true → far (moveOf kind n k s) < b
       child-near k m = omega (arith, depths .grows k (rankOf kind n s) m (rank-lt kind n s in-range stack), child-far k)
 
       -- a move leads on just where it leads one nearer
-      leads-nearer : (k : ℕ) → isMove moves k ≡ true → leadsTo kind n table s (nearerEntry kind n table s) k ≡ true → suc (far (turnOf kind k s)) ≡ far s
+      leads-nearer : (k : ℕ) → isMove moves k ≡ true → leadsTo kind n table s (nearerEntry kind n table s) k ≡ true
+          → suc (far (moveOf kind n k s)) ≡ far s
       unfolding leadsTo nearerEntry entryOf nextEntry
       leads-nearer k m l =
-          let e = eqb-true (entryOf kind n table (turnOf kind k s)) (nearerEntry kind n table s) l in
+          let e = eqb-true (entryOf kind n table (moveOf kind n k s)) (nearerEntry kind n table s) l in
           let c = child-far k in
           let here = right s stack (omega arith) in
-          let there = right (turnOf kind k s) (moved-stack kind n in-range laws k s m stack) (child-near k m) in
+          let there = right (moveOf kind n k s) (moved-stack kind n in-range laws k s m stack) (child-near k m) in
           let nearer = nearer-label depths k (rankOf kind n s) m (rank-lt kind n s in-range stack) (omega arith) in
           omega arith
 
-      nearer-leads : (k : ℕ) → isMove moves k ≡ true → suc (far (turnOf kind k s)) ≡ far s → leadsTo kind n table s (nearerEntry kind n table s) k ≡ true
+      nearer-leads : (k : ℕ) → isMove moves k ≡ true → suc (far (moveOf kind n k s)) ≡ far s
+          → leadsTo kind n table s (nearerEntry kind n table s) k ≡ true
       unfolding leadsTo nearerEntry entryOf nextEntry
       nearer-leads k m e =
           let here = right s stack (omega arith) in
-          let there = right (turnOf kind k s) (moved-stack kind n in-range laws k s m stack) (child-near k m) in
-          eq-eqb (entryOf kind n table (turnOf kind k s)) (nearerEntry kind n table s) (omega arith)
+          let there = right (moveOf kind n k s) (moved-stack kind n in-range laws k s m stack) (child-near k m) in
+          eq-eqb (entryOf kind n table (moveOf kind n k s)) (nearerEntry kind n table s) (omega arith)
 
       -- some move leads nearer, unless the stack is the wanted one
-      nearer-move : 0 < far s → (k : ℕ) × (isMove moves k ≡ true) × (suc (far (turnOf kind k s)) ≡ far s)
+      nearer-move : 0 < far s → (k : ℕ) × (isMove moves k ≡ true) × (suc (far (moveOf kind n k s)) ≡ far s)
       nearer-move h =
           let c = depths .closer (rankOf kind n s) h (omega arith) in
           (c .0, c .1, omega (arith, c .2, child-far (c .0)))
@@ -319,7 +323,7 @@ module _ (kind n : ℕ) (wanted : List ℤ) (b : ℕ) (table : List ℕ) (in-ran
     plan-length = omega (arith, route-nearer .2, route-ends)
 
     -- so no road is shorter than the plan
-    pub plan-fewest : FewestBy kind (isMove moves) given wanted (length (routeFrom kind n table wanted moves given .turns))
+    pub plan-fewest : FewestBy kind n (isMove moves) given wanted (length (routeFrom kind n table wanted moves given .turns))
     plan-fewest =
-        subst (FewestBy kind (isMove moves) given wanted) (sym plan-length)
+        subst (FewestBy kind n (isMove moves) given wanted) (sym plan-length)
         (depth-fewest kind n wanted b in-range goal laws given start (omega arith))

@@ -12,7 +12,7 @@ use Rattle.search.specs.Changed.{listBytes}
 use Rattle.search.specs.Drive.{Store, storeOf, advanced, hasEnded, drive, mostCalls, cut, held, buildRefusal, ended, built, buildOf, Builds}
 use Rattle.search.specs.Entries.{bytesFor}
 use Rattle.search.specs.JobState.{isFinished, isCoherent, stackCountOf, stackCountAt}
-use Rattle.stacks.specs.Turn.{allGroups}
+use Rattle.stacks.specs.Turn.{UndoesItself, allGroups}
 use Rattle.search.specs.Promise.{rightBytes, rightWords, Finishes}
 use Rattle.search.specs.Segments.{joined}
 use Rattle.search.specs.Terms.{N, G, m, beginRefusal}
@@ -142,10 +142,10 @@ build-ends terms table log list accepted =
     }
 
 -- by the full set it ends in a finished build
-pub build-finishes : (terms : Terms) (table log list : List ℕ) → terms .groups ≡ allGroups (terms .kind) (terms .n)
+pub build-finishes : (terms : Terms) (table log list : List ℕ) → UndoesItself (terms .kind) → terms .groups ≡ allGroups (terms .kind) (terms .n)
     → buildRefusal terms (length table) (length log) (length list) ≡ 0
     → (isFinished (built terms table log list .job .phase) ≡ true) × Finishes terms (built terms table log list)
-build-finishes terms table log list full accepted =
+build-finishes terms table log list itself full accepted =
     let given = build-accepts terms (length table) (length log) (length list) accepted .given in
-    let f = build-ends terms table log list accepted .finishes (none-deep given full) in
-    (f .0, finishes-all given full (f .1))
+    let f = build-ends terms table log list accepted .finishes (none-deep given itself full) in
+    (f .0, finishes-all given itself full (f .1))

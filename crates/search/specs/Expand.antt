@@ -7,7 +7,7 @@ use lib.Dec.{ltb, eqb}
 use lib.ListN.{length, set}
 use Rattle.base.specs.Words.{unless, firstFrom}
 use Rattle.stacks.specs.Index.{rankOf, stackAt}
-use Rattle.stacks.specs.Turn.{turnOf}
+use Rattle.stacks.specs.Turn.{moveOf}
 use Rattle.search.specs.Entries.{entryAt}
 use Rattle.search.specs.JobState.{levelOf, segmentCountOf, stackCountAt, movesOf, passedOf}
 use Rattle.search.specs.Refusals.{levelRefusal}
@@ -32,7 +32,7 @@ isParent d entry = eqb entry ((d - 1) % 3)
 
 -- the children of the stack at an index by some moves, in their order, as indexes
 unfoldable pub childrenOf : ℕ → ℕ → List ℕ → ℕ → List ℕ
-childrenOf kind n moves i = map (λ k. rankOf kind n (turnOf kind k (stackAt kind n i))) moves
+childrenOf kind n moves i = map (λ k. rankOf kind n (moveOf kind n k (stackAt kind n i))) moves
 
 module _ (job : Job) (j : ℕ) where
   -- a child of this segment is marked, a child elsewhere is logged, seen or not

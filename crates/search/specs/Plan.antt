@@ -8,7 +8,7 @@ use lib.ListN.{length, drop}
 use Rattle.base.specs.Words.{unless, filter, largest}
 use Rattle.stacks.specs.Index.{rankOf}
 use Rattle.stacks.specs.Stack.{isStack, stackCount}
-use Rattle.stacks.specs.Turn.{isGroupSet, turnsIn, turnOf}
+use Rattle.stacks.specs.Turn.{isGroupSet, turnsIn, moveOf}
 use Rattle.stacks.specs.Operations.{kindRefusal}
 use Rattle.search.specs.Entries.{bytesFor, entryAt, unseen, nextEntry}
 use Rattle.search.specs.declared.Planned.{Planned}
@@ -27,9 +27,9 @@ module _ (kind n : ℕ) (table : List ℕ) where
   unfoldable pub entryOf : List ℤ → ℕ
   entryOf s = entryAt table (rankOf kind n s)
 
-  -- turn k leads from s to a child with entry v
+  -- move k leads from s to a child with entry v
   unfoldable pub leadsTo : List ℤ → ℕ → ℕ → Bool
-  leadsTo s v k = eqb (entryOf (turnOf kind k s)) v
+  leadsTo s v k = eqb (entryOf (moveOf kind n k s)) v
 
   -- of the moves that lead from s to a child with entry v the largest, 0 where none does
   unfoldable pub turnTo : List ℤ → ℕ → List ℕ → ℕ
@@ -39,12 +39,12 @@ module _ (kind n : ℕ) (table : List ℕ) where
   unfoldable pub nearerEntry : List ℤ → ℕ
   nearerEntry s = nextEntry (nextEntry (entryOf s))
 
-  -- the route with the turn that leads one nearer, unchanged where none does
+  -- the route with the move that leads one nearer, unchanged where none does
   unfoldable pub follow : List ℕ → Route → Route
   follow moves route =
       let s = route .stack in
       let k = turnTo s (nearerEntry s) moves in
-      cond (eqb k 0) route (record { stack = turnOf kind k s; turns = route .turns ++ (k ∷ []) })
+      cond (eqb k 0) route (record { stack = moveOf kind n k s; turns = route .turns ++ (k ∷ []) })
 
   module _ (wanted : List ℤ) where
     unfoldable pub isWanted : List ℤ → Bool

@@ -11,7 +11,7 @@ use Rattle.base.specs.Words.{total}
 use Rattle.stacks.specs.Counts.{CountsAt}
 use Rattle.stacks.specs.Index.{rankOf}
 use Rattle.stacks.specs.Stack.{isStack}
-use Rattle.stacks.specs.Turn.{allGroups, Road, Fewest}
+use Rattle.stacks.specs.Turn.{UndoesItself, allGroups, Road, Fewest}
 use Rattle.search.specs.Begin.{begun}
 use Rattle.search.specs.Build.{World, Lengths, Call, outcome, after, isLentOwn, CarriesOn, doClose}
 use Rattle.search.specs.Entries.{entryAt, seenIn, bytesFor}
@@ -122,11 +122,13 @@ pub record Buffers (terms : Terms) (segments : List (List ℕ)) (log : List ℕ)
 abbrev pub startOf : Terms → List (List ℕ) → List ℕ → List ℕ → World
 startOf terms segments log changed = record { job = begun terms; segments = segments; log = log; changed = changed }
 
--- demands 2 and 3: whatever kind, n, wanted stack, S, C, buffers and list of calls, in any mixture of ways, where all turns make children
+-- demands 2 and 3: whatever kind whose turns undo themselves, n, wanted stack, S, C, buffers and list of calls, in any mixture of ways, where
+-- all turns make children. Such turns lead from any stack to any other, in at most turnBound
 unfoldable pub WholeBuild : Type 0
 WholeBuild =
     (terms : Terms) (segments : List (List ℕ)) (log changed : List ℕ)
     → beginRefusal terms ≡ 0
+    → UndoesItself (terms .kind)
     → terms .groups ≡ allGroups (terms .kind) (terms .n)
     → Buffers terms segments log
     → (calls : List (Call (rightLengths terms)))

@@ -32,10 +32,10 @@ use Rattle.search.specs.declared.Terms.{Terms}
 use Rattle.search.specs.declared.Way.{Way}
 
 abbrev pub RoadIn : ℕ → ℕ → ℕ → List ℕ → List ℤ → List ℤ → Type 0
-RoadIn kind n groups = RoadBy kind (isMove (turnsIn kind n groups))
+RoadIn kind n groups = RoadBy kind n (isMove (turnsIn kind n groups))
 
 abbrev pub FewestIn : ℕ → ℕ → ℕ → List ℤ → List ℤ → ℕ → Type 0
-FewestIn kind n groups = FewestBy kind (isMove (turnsIn kind n groups))
+FewestIn kind n groups = FewestBy kind n (isMove (turnsIn kind n groups))
 
 abbrev pub CountsIn : ℕ → ℕ → ℕ → List ℤ → ℕ → ℕ → Type 0
 CountsIn kind n groups = CountsBy kind n (isMove (turnsIn kind n groups))

@@ -6,11 +6,15 @@ use native.Mathlib.Nat.{le-refl, mul-le-mul, lt-of-le-of-lt, mul-pos}
 use native.Mathlib.Omega.{arith}
 use lib.Dec.{leb, lit<}
 use lib.Pow.{pow-mono, pow-pos}
-use borrow.Author.Tests.{leb-true}
+use borrow.Author.Tests.{leb-true, ltb-true}
 use Rattle.base.specs.Words.{fact}
 use Rattle.base.proofs.Numbers.{fact-mono, fact-pos}
 use Rattle.base.proofs.Tests.{and-left, and-right}
-use Rattle.stacks.specs.Stack.{isPaneCount, isCoated, fewestPanes, mostPanes, coatings, stackCount}
+use Rattle.stacks.specs.Stack.{isKind, isPaneCount, isCoated, fewestPanes, mostPanes, coatings, stackCount}
+
+pub kind-low : (kind : ℕ) → isKind kind ≡ true → kind < 2
+unfolding isKind
+kind-low kind h = ltb-true kind 2 h
 
 pub panes-least : (kind n : ℕ) → isPaneCount kind n ≡ true → 1 ≤ n
 unfolding isPaneCount fewestPanes

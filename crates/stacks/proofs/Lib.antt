@@ -1,4 +1,4 @@
--- Laws of stacks, turns and the numbering.
+-- Laws of stacks, turns, moves and the numbering.
 pub mod KindLaws
 pub mod Refusals
 pub mod Panes
@@ -6,6 +6,7 @@ pub mod OrderLaws
 pub mod CoatLaws
 pub mod Numbering
 pub mod TurnLaws
+pub mod MoveLaws
 pub mod GroupLaws
 pub mod Roads
 pub mod TurnBound

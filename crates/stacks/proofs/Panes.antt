@@ -1,7 +1,8 @@
--- What a valid order of panes is: the facts of a stack, the laws of `smaller`, and that an order of 1 to n is a list with the `smaller` of 1 to n.
+-- What a valid order of panes is: the facts of a stack, the laws of `smaller`, that an order of 1 to n is a list with the `smaller` of 1 to n,
+-- and that the ordered stack is one.
 use mathlib.Core.Path.{_≡_, refl, sym, ap, _∙_}
 use mathlib.Core.Logic.{_⊎_, inl, inr}
-use mathlib.Core.Bool.{Bool, true, _&&_, _||_}
+use mathlib.Core.Bool.{Bool, true, false, _&&_, _||_}
 use mathlib.Core.List.{List, [], _∷_, _++_, reverse}
 use Prim.Native.Nat.{ℕ, zero, suc, _+_, _-_, _≤_, _<_, min, zero-le}
 use native.Mathlib.Nat.{le-refl}
@@ -14,9 +15,10 @@ use lib.Signed.{nonNeg}
 use borrow.Author.Tests.{leb-true, ltb-true, eqb-true, lt-ltb, le-ltb, le-leb, eq-eqb, ne-eqb}
 use Rattle.base.specs.Words.{all, tally, from}
 use Rattle.base.proofs.Tests.{and-left, and-right, lt-or-ge, eq-or-ne}
-use Rattle.base.proofs.Counting.{tally-append, tally-reverse, tally-true, tally-false, tally-le, tally-mono}
-use Rattle.stacks.specs.Stack.{isCoated, isUnused, orderOf, eachOnce, isStack}
+use Rattle.base.proofs.Counting.{tally-append, tally-reverse, tally-true, tally-false, tally-le, tally-mono, all-below}
+use Rattle.stacks.specs.Stack.{isCoated, isPaneCount, isUnused, orderOf, eachOnce, isStack, ordered}
 use Rattle.stacks.specs.Index.{smaller}
+use Rattle.stacks.proofs.KindLaws.{panes-twelve}
 
 pub record StackFacts (kind n : ℕ) (s : List ℤ) : Type 0 where
   pub twelve : length s ≡ 12
@@ -181,3 +183,26 @@ once-smaller n xs h k x =
 pub smaller-once : (n : ℕ) (xs : List ℕ) → ((x : ℕ) → smaller x xs ≡ smaller x (from 1 n)) → eachOnce n [] xs ≡ true
 unfolding tally
 smaller-once n xs h = tally-once n [] xs (λ y. omega (arith, smaller-suc y xs, smaller-suc y (from 1 n), h y, h (suc y)))
+
+-- ---- the ordered stack
+
+-- it is a stack: one test, computed over every n, with coats and without
+abbrev isOrdered : Bool → ℕ → Bool
+isOrdered coated n =
+    eqb (length (ordered n)) 12 && eachOnce n [] (orderOf n (ordered n)) && (coated || all nonNeg (ordered n)) && all isUnused (drop n (ordered n))
+
+ordered-coated : all (isOrdered true) (from 0 13) ≡ true
+unfolding all from tally ordered orderOf eachOnce isUnused
+ordered-coated = refl
+
+ordered-plain : all (isOrdered false) (from 0 13) ≡ true
+unfolding all from tally ordered orderOf eachOnce isUnused
+ordered-plain = refl
+
+pub ordered-stack : (kind n : ℕ) → isPaneCount kind n ≡ true → isStack kind n (ordered n) ≡ true
+unfolding isStack
+ordered-stack kind n in-range = go (isCoated kind)
+  where
+    go : (coated : Bool) → isOrdered coated n ≡ true
+    go true = all-below (isOrdered true) 13 n ordered-coated (omega (arith, panes-twelve kind n in-range))
+    go false = all-below (isOrdered false) 13 n ordered-plain (omega (arith, panes-twelve kind n in-range))

@@ -1,10 +1,10 @@
--- Laws of turns: a turn undoes itself, keeps the panes and what stands below it, and acts on places only; and the same for a list of turns.
+-- Laws of turns: which there are; a turn undoes itself, keeps the panes and what stands below it, and acts on places only.
 use mathlib.Core.Path.{_≡_, refl, sym, ap, _∙_}
 use mathlib.Core.Logic.{_⊎_, inl, inr}
 use mathlib.Core.Bool.{Bool, true, false, _&&_, _||_, cond}
-use mathlib.Core.List.{List, [], _∷_, _++_, map, reverse, append-nil, append-assoc, reverse-cons, reverse-reverse}
+use mathlib.Core.List.{List, [], _∷_, _++_, map, reverse, append-nil, append-assoc, reverse-reverse}
 use Prim.Native.Nat.{ℕ, zero, suc, _+_, _-_, _<_, _≤_}
-use native.Mathlib.Nat.{le-trans}
+use native.Mathlib.Nat.{le-refl, le-trans}
 use native.Mathlib.Omega.{arith}
 use borrow.Author.Tests.{leb-true, le-leb}
 use lib.Dec.{leb}
@@ -16,9 +16,9 @@ use Rattle.base.proofs.Tests.{and-left, and-right, and-both, lt-or-ge}
 use Rattle.base.proofs.Lists.{map-append, map-reverse, map-take, map-drop, map-map, map-id, from-length}
 use Rattle.base.proofs.Counting.{tally-append, tally-reverse, tally-map, all-split, all-reverse, all-map}
 use Rattle.base.specs.Words.{all, tally, from}
-use Rattle.stacks.specs.Stack.{isCoated, isPaneCount, isStack, isUnused, orderOf}
+use Rattle.stacks.specs.Stack.{stackPlaces, isCoated, isPaneCount, isStack, isUnused, orderOf}
 use Rattle.stacks.specs.Index.{smaller}
-use Rattle.stacks.specs.Turn.{firstTurn, lastTurn, isTurn, turnsOf, undoOf, flip, turnOf, turnsFrom}
+use Rattle.stacks.specs.Turn.{firstTurn, lastTurn, isTurn, turnsOf, UndoesItself, flip, turnOf}
 use Rattle.stacks.proofs.KindLaws.{panes-least, panes-twelve}
 use Rattle.stacks.proofs.Panes.{StackFacts, stack-facts, facts-stack, smaller-append, smaller-reverse, smaller-once}
 use Rattle.stacks.proofs.Numbering.{stack-panes}
@@ -29,52 +29,76 @@ module _ (kind n k : ℕ) where
   unfolding isTurn
   turn-first h = leb-true (firstTurn kind) k (and-left (leb (firstTurn kind) k) (leb k (lastTurn kind n)) h)
 
-  pub turn-last : isTurn kind n k ≡ true → k ≤ n
-  unfolding isTurn lastTurn
-  turn-last h = leb-true k n (and-right (leb (firstTurn kind) k) (leb k (lastTurn kind n)) h)
+  pub turn-last : isTurn kind n k ≡ true → k ≤ lastTurn kind n
+  unfolding isTurn
+  turn-last h = leb-true k (lastTurn kind n) (and-right (leb (firstTurn kind) k) (leb k (lastTurn kind n)) h)
 
-  pub turn-between : firstTurn kind ≤ k → k ≤ n → isTurn kind n k ≡ true
-  unfolding isTurn lastTurn
-  turn-between h l = and-both (leb (firstTurn kind) k) (leb k n) (le-leb (firstTurn kind) k h) (le-leb k n l)
+  pub turn-between : firstTurn kind ≤ k → k ≤ lastTurn kind n → isTurn kind n k ≡ true
+  unfolding isTurn
+  turn-between h l =
+      and-both (leb (firstTurn kind) k) (leb k (lastTurn kind n)) (le-leb (firstTurn kind) k h) (le-leb k (lastTurn kind n) l)
 
-pub first-pos : (kind : ℕ) → 1 ≤ firstTurn kind
-unfolding firstTurn
-first-pos kind = go (isCoated kind)
-  where
-    go : (t : Bool) → 1 ≤ cond t 1 2
-    go true = omega arith
-    go false = omega arith
-
--- a stack of one plain pane has no turn, and its first would be one past it
-first-two : (kind : ℕ) → firstTurn kind ≤ 2
-unfolding firstTurn
-first-two kind = go (isCoated kind)
-  where
-    go : (t : Bool) → cond t 1 2 ≤ 2
-    go true = omega arith
-    go false = omega arith
-
-pub first-inside : (kind n : ℕ) → isPaneCount kind n ≡ true → firstTurn kind ≤ n + 1
-first-inside kind n in-range = omega (arith, first-two kind, panes-least kind n in-range)
-
--- how many turns there are
-pub turns-length : (kind n : ℕ) → length (turnsOf kind n) ≡ suc n - firstTurn kind
-unfolding turnsOf lastTurn
-turns-length kind n = from-length (firstTurn kind) (suc n - firstTurn kind)
-
-pub turns-count : (kind n : ℕ) → length (turnsOf kind n) ≤ n
-turns-count kind n = omega (arith, turns-length kind n, first-pos kind)
-
--- what the kind says of its first turn and of a flip
+-- the first turn, which is opened here alone
 module _ (kind : ℕ) where
+  pub first-cases : (firstTurn kind ≡ 1) ⊎ (firstTurn kind ≡ 2)
+  unfolding firstTurn
+  first-cases = go (isCoated kind)
+    where
+      go : (t : Bool) → (cond {A = ℕ} t 1 2 ≡ 1) ⊎ (cond {A = ℕ} t 1 2 ≡ 2)
+      go true = inl refl
+      go false = inr refl
+
   pub first-coated : isCoated kind ≡ true → firstTurn kind ≡ 1
   unfolding firstTurn
   first-coated e = ap (λ (t : Bool). cond t 1 2) e
 
-  pub first-plain : isCoated kind ≡ false → firstTurn kind ≡ 2
+  pub first-plain : UndoesItself kind → isCoated kind ≡ false → firstTurn kind ≡ 2
   unfolding firstTurn
-  first-plain e = ap (λ (t : Bool). cond t 1 2) e
+  first-plain itself e = ap (λ (t : Bool). cond t 1 2) e
 
+  pub first-pos : 1 ≤ firstTurn kind
+  first-pos = go first-cases
+    where
+      go : (firstTurn kind ≡ 1) ⊎ (firstTurn kind ≡ 2) → 1 ≤ firstTurn kind
+      go (inl e) = omega arith
+      go (inr e) = omega arith
+
+  first-two : firstTurn kind ≤ 2
+  first-two = go first-cases
+    where
+      go : (firstTurn kind ≡ 1) ⊎ (firstTurn kind ≡ 2) → firstTurn kind ≤ 2
+      go (inl e) = omega arith
+      go (inr e) = omega arith
+
+-- the last turn, which is opened here alone: where each turn undoes itself it is that of the whole stack. A stack of one plain pane has no turn,
+-- and its first would be one past it
+module _ (kind n : ℕ) where
+  pub last-whole : UndoesItself kind → lastTurn kind n ≡ n
+  unfolding lastTurn
+  last-whole itself = refl
+
+  module _ (in-range : isPaneCount kind n ≡ true) where
+    pub last-panes : lastTurn kind n ≤ n
+    unfolding lastTurn
+    last-panes = le-refl n
+
+    pub first-last : firstTurn kind ≤ lastTurn kind n + 1
+    unfolding lastTurn
+    first-last = omega (arith, first-two kind, panes-least kind n in-range)
+
+    pub last-places : lastTurn kind n ≤ stackPlaces
+    last-places = le-trans last-panes (panes-twelve kind n in-range)
+
+    pub turn-panes : (k : ℕ) → isTurn kind n k ≡ true → k ≤ n
+    turn-panes k t = le-trans (turn-last kind n k t) last-panes
+
+-- how many turns there are
+pub turns-count : (kind n : ℕ) → length (turnsOf kind n) ≤ lastTurn kind n
+unfolding turnsOf
+turns-count kind n = omega (arith, from-length (firstTurn kind) (suc (lastTurn kind n) - firstTurn kind), first-pos kind)
+
+-- what the kind says of a flip
+module _ (kind : ℕ) where
   pub flip-coated : isCoated kind ≡ true → (x : ℤ) → flip kind x ≡ negℤ x
   unfolding flip
   flip-coated e x = ap (λ (t : Bool). cond t (negℤ x) x) e
@@ -210,55 +234,10 @@ module _ (kind : ℕ) where
       (ap (λ (g : ℤ → ℕ). map g (reverse (take k (take n s))) ++ map natAbs (drop k (take n s))) (λ i x. flip-magnitude x i)
       ∙ rw (map-reverse natAbs, map-take natAbs k, map-drop natAbs k))
 
-  pub turns-append : (js ks : List ℕ) (s : List ℤ) → turnsFrom kind (js ++ ks) s ≡ turnsFrom kind ks (turnsFrom kind js s)
-  unfolding turnsFrom
-  turns-append [] ks s = refl
-  turns-append (j ∷ js) ks s = turns-append js ks (turnOf kind j s)
-
-  pub turns-keep-length : (ks : List ℕ) (s : List ℤ) → length (turnsFrom kind ks s) ≡ length s
-  unfolding turnsFrom
-  turns-keep-length [] s = refl
-  turns-keep-length (k ∷ ks) s = turns-keep-length ks (turnOf kind k s) ∙ turn-length k s
-
-  pub turns-tally : (p : ℤ → Bool) → ((x : ℤ) → p (flip kind x) ≡ p x) → (ks : List ℕ) (s : List ℤ) → tally p (turnsFrom kind ks s) ≡ tally p s
-  unfolding turnsFrom
-  turns-tally p e [] s = refl
-  turns-tally p e (k ∷ ks) s = turns-tally p e ks (turnOf kind k s) ∙ turn-tally p e k s
-
-  pub turns-all : (p : ℤ → Bool) → ((x : ℤ) → p (flip kind x) ≡ p x) → (ks : List ℕ) (s : List ℤ) → all p (turnsFrom kind ks s) ≡ all p s
-  unfolding turnsFrom
-  turns-all p e [] s = refl
-  turns-all p e (k ∷ ks) s = turns-all p e ks (turnOf kind k s) ∙ turn-all p e k s
-
-  -- what stands below the largest turn is left
-  pub turns-below : (n : ℕ) (ks : List ℕ) (a c : List ℤ) → all (isTurn kind n) ks ≡ true → n ≤ length a
-      → turnsFrom kind ks (a ++ c) ≡ turnsFrom kind ks a ++ c
-  unfolding turnsFrom all
-  turns-below n [] a c h l = refl
-  turns-below n (k ∷ ks) a c h l =
-      ap (turnsFrom kind ks) (turn-append k a c (le-trans (turn-last kind n k (and-left (isTurn kind n k) (all (isTurn kind n) ks) h)) l))
-      ∙ turns-below n ks (turnOf kind k a) c (and-right (isTurn kind n k) (all (isTurn kind n) ks) h) (rw (turn-length k a) l)
-
-  pub turns-rename : (f : ℤ → ℤ) → ((x : ℤ) → f (flip kind x) ≡ flip kind (f x)) → (ks : List ℕ) (s : List ℤ)
-      → map f (turnsFrom kind ks s) ≡ turnsFrom kind ks (map f s)
-  unfolding turnsFrom
-  turns-rename f e [] s = refl
-  turns-rename f e (k ∷ ks) s = turns-rename f e ks (turnOf kind k s) ∙ ap (turnsFrom kind ks) (turn-rename f e k s)
-
-  -- the same turns from the last to the first take the stack back
-  pub turns-back : (n : ℕ) (ks : List ℕ) (s : List ℤ) → all (isTurn kind n) ks ≡ true → n ≤ length s → turnsFrom kind (reverse ks) (turnsFrom kind ks s) ≡ s
-  unfolding turnsFrom all
-  turns-back n [] s h l = refl
-  turns-back n (k ∷ ks) s h l =
-      rw (reverse-cons k ks, turns-append (reverse ks) (k ∷ []))
-      (ap (turnOf kind k)
-      (turns-back n ks (turnOf kind k s) (and-right (isTurn kind n k) (all (isTurn kind n) ks) h) (rw (turn-length k s) l))
-      ∙ turn-involutive k s (le-trans (turn-last kind n k (and-left (isTurn kind n k) (all (isTurn kind n) ks) h)) l))
-
 -- a turn of a stack is a stack
 module _ (kind n : ℕ) (in-range : isPaneCount kind n ≡ true) where
-  turn-panes : (k : ℕ) (s : List ℤ) → k ≤ n → isStack kind n s ≡ true → (x : ℕ) → smaller x (orderOf n (turnOf kind k s)) ≡ smaller x (from 1 n)
-  turn-panes k s l h x =
+  turn-smaller : (k : ℕ) (s : List ℤ) → k ≤ n → isStack kind n s ≡ true → (x : ℕ) → smaller x (orderOf n (turnOf kind k s)) ≡ smaller x (from 1 n)
+  turn-smaller k s l h x =
       let order : List ℕ = orderOf n s in
       ap (smaller x) (turn-order kind n k s l)
       ∙ rw (smaller-append, smaller-reverse, ← (smaller-append x (take k order) (drop k order)), take-append-drop) (stack-panes kind n s in-range h x)
@@ -270,20 +249,7 @@ module _ (kind n : ℕ) (in-range : isPaneCount kind n ≡ true) where
       facts-stack kind n t
       record {
         twelve = turn-length kind k s ∙ f .twelve;
-        once = smaller-once n (orderOf n t) (turn-panes k s l h);
+        once = smaller-once n (orderOf n t) (turn-smaller k s l h);
         coats = coats-fit kind t ∙ turn-all kind (coatFits kind) (flip-fits kind) k s ∙ sym (coats-fit kind s) ∙ f .coats;
         unused = ap (all isUnused) (turn-drop kind n k s l) ∙ f .unused;
       }
-
-  pub turned-stack : (k : ℕ) (s : List ℤ) → isTurn kind n k ≡ true → isStack kind n s ≡ true → isStack kind n (turnOf kind k s) ≡ true
-  turned-stack k s t h = turn-stack k s (turn-last kind n k t) h
-
-  -- what undoes a turn is a turn, and takes the stack back
-  pub undo-turn : (k : ℕ) → isTurn kind n k ≡ true → isTurn kind n (undoOf kind k) ≡ true
-  unfolding undoOf
-  undo-turn k t = t
-
-  pub turn-undone : (k : ℕ) (s : List ℤ) → isTurn kind n k ≡ true → isStack kind n s ≡ true → turnOf kind (undoOf kind k) (turnOf kind k s) ≡ s
-  unfolding undoOf
-  turn-undone k s t h =
-      turn-involutive kind k s (rw (stack-facts kind n s h .twelve) (le-trans (turn-last kind n k t) (panes-twelve kind n in-range)))

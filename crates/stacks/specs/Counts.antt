@@ -23,7 +23,7 @@ module _ (kind n : ℕ) (property : List ℤ → Type 0) where
     pub tallied : (other : List ℤ → Bool) → TellsWhere other → count ≡ tally other (allStacks kind n)
 
 abbrev pub CountsBy : ℕ → ℕ → (ℕ → Bool) → List ℤ → ℕ → ℕ → Type 0
-CountsBy kind n isMove wanted d = CountsWhere kind n (λ s. FewestBy kind isMove s wanted d)
+CountsBy kind n isMove wanted d = CountsWhere kind n (λ s. FewestBy kind n isMove s wanted d)
 
 -- by all turns
 abbrev pub CountsAt : ℕ → ℕ → List ℤ → ℕ → ℕ → Type 0

@@ -8,7 +8,7 @@ use lib.ListN.{replicate}
 use Rattle.base.specs.Words.{unless}
 use Rattle.stacks.specs.Stack.{stackPlaces, isKind, isPaneCount, isStack, stackCount}
 use Rattle.stacks.specs.Index.{rankOf, stackAt}
-use Rattle.stacks.specs.Turn.{isTurn, turnOf}
+use Rattle.stacks.specs.Turn.{isTurn, moveOf}
 use Rattle.stacks.specs.declared.Indexed.{Indexed}
 use Rattle.stacks.specs.declared.Stacked.{Stacked}
 
@@ -42,4 +42,4 @@ stackOf kind n i = stacked (stackRefusal kind n i) (stackAt kind n i)
 
 -- Turn
 unfoldable pub turnedOf : ℕ → ℕ → List ℤ → ℕ → Stacked
-turnedOf kind n s k = stacked (turnRefusal kind n s k) (turnOf kind k s)
+turnedOf kind n s k = stacked (turnRefusal kind n s k) (moveOf kind n k s)

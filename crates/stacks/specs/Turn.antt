@@ -1,4 +1,6 @@
 -- Turns: which there are, and what each does (document 01, "Stacks and turns"). A turn is a prefix reversal.
+--   moveOf      move k of a kind and n, which is turn k: roads, counts, children and plans are by moves, and only the laws of a move look further
+--   undoOf      the move that undoes move k, and UndoesItself, where that is the same one
 use mathlib.Core.Path.{_≡_}
 use mathlib.Core.Bool.{Bool, true, not, _&&_, _||_, cond}
 use mathlib.Core.List.{List, [], _∷_, _++_, map, reverse}
@@ -48,6 +50,9 @@ allGroups kind n = total (map (λ k. 2 ^ (k - 1)) (turnsOf kind n))
 unfoldable pub undoOf : ℕ → ℕ → ℕ
 undoOf kind k = k
 
+abbrev pub UndoesItself : ℕ → Type 0
+UndoesItself kind = (k : ℕ) → undoOf kind k ≡ k
+
 -- what a turn does to a pane of its group: a coated one changes sign
 unfoldable pub flip : ℕ → ℤ → ℤ
 flip kind x = cond (isCoated kind) (negℤ x) x
@@ -56,29 +61,33 @@ flip kind x = cond (isCoated kind) (negℤ x) x
 unfoldable pub turnOf : ℕ → ℕ → List ℤ → List ℤ
 turnOf kind k s = map (flip kind) (reverse (take k s)) ++ drop k s
 
--- the turns of a list one after the other
-unfoldable pub turnsFrom : ℕ → List ℕ → List ℤ → List ℤ
-turnsFrom kind [] s = s
-turnsFrom kind (k ∷ ks) s = turnsFrom kind ks (turnOf kind k s)
+-- move k of a kind and n
+unfoldable pub moveOf : ℕ → ℕ → ℕ → List ℤ → List ℤ
+moveOf kind n k s = turnOf kind k s
 
--- a road by some moves: turns that the test lets by, and that take stack s to stack w
-pub record RoadBy (kind : ℕ) (isMove : ℕ → Bool) (ks : List ℕ) (s w : List ℤ) : Type 0 where
+-- the moves of a list one after the other
+unfoldable pub movesFrom : ℕ → ℕ → List ℕ → List ℤ → List ℤ
+movesFrom kind n [] s = s
+movesFrom kind n (k ∷ ks) s = movesFrom kind n ks (moveOf kind n k s)
+
+-- a road by some moves: those that the test lets by, and that take stack s to stack w
+pub record RoadBy (kind n : ℕ) (isMove : ℕ → Bool) (ks : List ℕ) (s w : List ℤ) : Type 0 where
   pub turns : all isMove ks ≡ true
-  pub arrives : turnsFrom kind ks s ≡ w
+  pub arrives : movesFrom kind n ks s ≡ w
 
 -- the fewest of them from s to w are d: a road of that length is there, and every road has at least as many
-pub record FewestBy (kind : ℕ) (isMove : ℕ → Bool) (s w : List ℤ) (d : ℕ) : Type 0 where
+pub record FewestBy (kind n : ℕ) (isMove : ℕ → Bool) (s w : List ℤ) (d : ℕ) : Type 0 where
   pub road : List ℕ
-  pub leads : RoadBy kind isMove road s w
+  pub leads : RoadBy kind n isMove road s w
   pub long : length road ≡ d
-  pub least : (ks : List ℕ) → RoadBy kind isMove ks s w → d ≤ length ks
+  pub least : (ks : List ℕ) → RoadBy kind n isMove ks s w → d ≤ length ks
 
 -- a road and the fewest turns by all turns of that kind and n
 abbrev pub Road : ℕ → ℕ → List ℕ → List ℤ → List ℤ → Type 0
-Road kind n = RoadBy kind (isTurn kind n)
+Road kind n = RoadBy kind n (isTurn kind n)
 
 abbrev pub Fewest : ℕ → ℕ → List ℤ → List ℤ → ℕ → Type 0
-Fewest kind n = FewestBy kind (isTurn kind n)
+Fewest kind n = FewestBy kind n (isTurn kind n)
 
 -- as many turns as any stack needs at most: 2 (n - 1) if plain, 3 n if coated
 unfoldable pub turnBound : ℕ → ℕ → ℕ

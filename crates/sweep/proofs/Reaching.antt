@@ -8,9 +8,9 @@ use lib.IntN.{ℤ}
 use borrow.Author.Tests.{eq-eqb, ne-eqb}
 use Rattle.stacks.specs.Index.{rankOf, stackAt}
 use Rattle.stacks.specs.Stack.{stackCount}
-use Rattle.stacks.specs.Turn.{turnOf}
+use Rattle.stacks.specs.Turn.{isTurn, moveOf}
 use Rattle.stacks.proofs.Numbering.{rank-lt, unrank-stack}
-use Rattle.stacks.proofs.TurnLaws.{turn-stack}
+use Rattle.stacks.proofs.MoveLaws.{move-stack}
 use Rattle.search.specs.Changed.{listBytes, bitAt}
 use Rattle.search.specs.Segments.{stackCountIn}
 use Rattle.search.specs.Sweep.{isChanged}
@@ -35,12 +35,12 @@ module _ (S b : ℕ) (list : List ℕ) (child : ℕ) where
 -- ---- the children of a stack
 
 -- a stack that a turn leads to has its bit, if it is one of segment b
-pub child-bit : {kind n groups S b v : ℕ} {list : List ℕ} → ReachFits kind n groups S b list v → (k child : ℕ) (stack : List ℤ) → k ≤ n
-    → stack ≡ stackAt kind n v → child ≡ rankOf kind n (turnOf kind k stack) → BitFits S b list child
-child-bit {kind} {n} {groups} {S} {b} {v} fits k child stack low is made =
+pub child-bit : {kind n groups S b v : ℕ} {list : List ℕ} → ReachFits kind n groups S b list v → (k child : ℕ) (stack : List ℤ)
+    → isTurn kind n k ≡ true → stack ≡ stackAt kind n v → child ≡ rankOf kind n (moveOf kind n k stack) → BitFits S b list child
+child-bit {kind} {n} {groups} {S} {b} {v} fits k child stack turn is made =
     let N = stackCount kind n in
-    let turned = turn-stack kind n (fits .is-pane-count) k (stackAt kind n v) low (unrank-stack kind n v (fits .is-pane-count) (fits .below)) in
-    let inside : child < N = rw (made, is) (rank-lt kind n (turnOf kind k (stackAt kind n v)) (fits .is-pane-count) turned) in (
+    let moved = move-stack kind n (fits .is-pane-count) k (stackAt kind n v) turn (unrank-stack kind n v (fits .is-pane-count) (fits .below)) in
+    let inside : child < N = rw (made, is) (rank-lt kind n (moveOf kind n k (stackAt kind n v)) (fits .is-pane-count) moved) in (
       fits .some,
       λ e. rw (fits .listed)
           (bit-inside (child % S) (stackCountIn N S b) (subst (λ (t : ℕ). child % S < stackCountIn N S t) e (stack-offset N S (fits .some) child inside))),

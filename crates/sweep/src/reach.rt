@@ -4,6 +4,7 @@ ghost use Rattle.ones.specs.Ones.{onesTable};
 ghost use Rattle.search.specs.Sweep.{isChanged};
 ghost use Rattle.sweep.specs.Reach.{BitFits, ReachFits, reachedBy};
 use ones::SETS;
+use perm::moves;
 use perm::numbering;
 use perm::walk;
 use twobit::list;
@@ -38,7 +39,7 @@ pub(crate) fn is_reached(
     while walk.rest != 0 {
         let k = walk.k + 1;
         if walk.rest % 2 == 1 {
-            let child = numbering::rank_turned(kind, n, &stack, index, k, lookup);
+            let child = moves::rank_moved(kind, n, &stack, index, k, lookup);
             if is_changed(size, b, list, child) {
                 return true;
             }

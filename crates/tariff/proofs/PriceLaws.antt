@@ -132,7 +132,7 @@ price-finished terms segments log changed accepted buffers calls h given list ta
 -- ---- what is priced
 
 pub priced-turns : PricedTurns
-unfolding PricedTurns OnePriceEach priceRefusal lastTurn
+unfolding PricedTurns OnePriceEach priceRefusal
 priced-turns kind n wanted given groups table list tariff h i l =
     let accepts = sym (price-refusal-is kind n wanted given groups table list tariff) ∙ h in
     let asked = plan-row kind n wanted given groups table (length list) in
@@ -141,7 +141,7 @@ priced-turns kind n wanted given groups table list tariff h i l =
     let turns : List ℕ = routeFrom kind n table wanted (turnsIn kind n groups) given .turns in
     let plan = plan-accepted kind n wanted given groups table list (asked .accepts (f .0)) in
     let out = price-accepted kind n wanted given groups table list tariff accepts in
-    let laws : Moves kind n (turnsIn kind n groups) = set-turns kind n (row .of-panes) groups in
+    let laws : Moves kind n (turnsIn kind n groups) = set-turns kind n (row .of-panes) groups (row .of-set) in
     let road : RoadIn kind n groups turns given wanted =
     route-arrives kind n table wanted given (row .of-panes) laws (row .goal) (row .start) (f .0 .plan) in
     let inside : i < length turns = subst (λ (m : ℕ). i < m) (ap (λ (o : List ℕ × Priced). o .1 .turns) out ∙ ap (λ (o : List ℕ × Planned). o .1 .turns) plan) l in

@@ -17,10 +17,12 @@ use Rattle.base.proofs.Tests.{and-left, and-right, and-both, lt-or-ge}
 use Rattle.stacks.specs.Counts.{CountsAt}
 use Rattle.stacks.specs.Index.{rankOf, allStacks}
 use Rattle.stacks.specs.Stack.{stackPlaces, isPaneCount, isStack, stackCount}
-use Rattle.stacks.specs.Turn.{isTurn, turnsIn, allGroups, Road, Fewest}
+use Rattle.stacks.specs.Turn.{lastTurn, isTurn, UndoesItself, turnsIn, allGroups, Road, Fewest}
+use Rattle.stacks.proofs.KindLaws.{kind-low}
+use Rattle.stacks.proofs.MoveLaws.{undoes-itself}
 use Rattle.stacks.proofs.Numbering.{rank-lt}
 use Rattle.stacks.proofs.GroupLaws.{all-groups}
-use Rattle.stacks.proofs.TurnLaws.{turn-last}
+use Rattle.stacks.proofs.TurnLaws.{turn-last, last-places}
 use Rattle.search.specs.Build.{World}
 use Rattle.search.specs.Changed.{listBytes}
 use Rattle.search.specs.Drive.{buildRefusal, built, buildOf, Builds}
@@ -44,7 +46,7 @@ use Rattle.search.proofs.AllTurns.{few-turns}
 use Rattle.text.specs.Frame.{stackLimit, tableLimit, reportRoom, placesOf, kindIn, panesIn, wantedIn, sizeIn, firstWith, firstRefusal, firstOf, laterRefusal, laterOf}
 use Rattle.text.specs.Hex.{isByte, bytesOf, lineOf, fourBytes}
 use Rattle.text.specs.Output.{levelLine, lineAt, levelCounts, levelLines, deepestLine, totalLine, planLine, refusalLine}
-use Rattle.text.proofs.FrameRefusals.{FirstPasses, first-passes, later-facts, later-passes}
+use Rattle.text.proofs.FrameRefusals.{FirstPasses, first-passes, later-facts}
 use Rattle.text.proofs.HexLaws.{number-four, line-says}
 use Rattle.text.specs.Report.{isReported, reportGroups, tableBytes, logWords, changedBytes, builtIn, printedTotal, headText, planText, laterTexts, reportFrom, reportOf}
 use Rattle.text.specs.Promise.{Answers, Reports}
@@ -75,14 +77,14 @@ later-is-stack : (kind n : ℕ) (cs : List ℕ) → laterRefusal kind n cs ≡ 0
 later-is-stack kind n cs h = later-facts kind n cs h .1 .1
 
 -- turns fit their byte, and so does the number of a plan's turns
-turns-fit : (kind n : ℕ) (ks : List ℕ) → n ≤ stackPlaces → all (isTurn kind n) ks ≡ true → all isByte ks ≡ true
+turns-fit : (kind n : ℕ) (ks : List ℕ) → lastTurn kind n ≤ stackPlaces → all (isTurn kind n) ks ≡ true → all isByte ks ≡ true
 unfolding all isByte
 turns-fit kind n [] h t = refl
 turns-fit kind n (k ∷ ks) h t =
     let last = turn-last kind n k (and-left (isTurn kind n k) (all (isTurn kind n) ks) t) in
     and-both (ltb k 256) (all isByte ks) (lt-ltb k 256 (omega arith)) (turns-fit kind n ks h (and-right (isTurn kind n k) (all (isTurn kind n) ks) t))
 
-plan-fits : (kind n : ℕ) (turns : List ℕ) → n ≤ stackPlaces → length turns ≤ planLimit → all (isTurn kind n) turns ≡ true
+plan-fits : (kind n : ℕ) (turns : List ℕ) → lastTurn kind n ≤ stackPlaces → length turns ≤ planLimit → all (isTurn kind n) turns ≡ true
     → all isByte (length turns ∷ turns) ≡ true
 unfolding all isByte
 plan-fits kind n turns h l t =
@@ -98,9 +100,10 @@ module _ (kind n : ℕ) (wanted : List ℤ) (table : List ℕ) where
   abbrev groups : ℕ
   groups = reportGroups kind n
 
-  answers : (cs : List ℕ) → laterRefusal kind n cs ≡ 0 → PlansIn kind n wanted groups table (placesOf (bytesOf cs)) → Answers kind n wanted table cs
+  answers : (cs : List ℕ) → isPaneCount kind n ≡ true → laterRefusal kind n cs ≡ 0
+      → PlansIn kind n wanted groups table (placesOf (bytesOf cs)) → Answers kind n wanted table cs
   unfolding laterOf PlanArrives
-  answers cs h p =
+  answers cs in-range h p =
       let given = placesOf (bytesOf cs) in
       let out = planOf kind n wanted given groups table (replicate planLimit 0) in
       let count = plan-count kind n wanted given groups table (replicate planLimit 0) in
@@ -111,7 +114,7 @@ module _ (kind n : ℕ) (wanted : List ℤ) (table : List ℕ) where
             ∙ sym (plan-accepted kind n wanted table given (out .0) (out .1) refl (p .accepts));
         arrives = p .arrives;
         shortest = subst (Fewest kind n given wanted) (sym count) (p .shortest);
-        fit = plan-fits kind n (take (out .1 .turns) (out .0)) (later-passes kind n cs h .2)
+        fit = plan-fits kind n (take (out .1 .turns) (out .0)) (last-places kind n in-range)
             (rw count (plan-arrives kind n wanted given groups table (replicate planLimit 0) (p .accepts) .1)) (p .arrives .turns);
       }
 
@@ -122,11 +125,12 @@ plans-in w terms given same p =
     (record { accepts = p .accepts; arrives = p .arrives; shortest = p .shortest })
 
 -- A later frame that is not refused is answered a road of fewest turns, from its stack to the wanted one.
-later-means : (w : World) (terms : Terms) (cs : List ℕ) → terms .groups ≡ reportGroups (terms .kind) (terms .n) → Finishes terms w
-    → laterRefusal (terms .kind) (terms .n) cs ≡ 0 → Answers (terms .kind) (terms .n) (terms .wanted) (joined (w .segments)) cs
-later-means w terms cs full f h =
+later-means : (w : World) (terms : Terms) (cs : List ℕ) → isPaneCount (terms .kind) (terms .n) ≡ true
+    → terms .groups ≡ reportGroups (terms .kind) (terms .n) → Finishes terms w → laterRefusal (terms .kind) (terms .n) cs ≡ 0
+    → Answers (terms .kind) (terms .n) (terms .wanted) (joined (w .segments)) cs
+later-means w terms cs in-range full f h =
     let given = placesOf (bytesOf cs) in
-    answers (terms .kind) (terms .n) (terms .wanted) (joined (w .segments)) cs h
+    answers (terms .kind) (terms .n) (terms .wanted) (joined (w .segments)) cs in-range h
     (subst (λ (g : ℕ). PlansIn (terms .kind) (terms .n) (terms .wanted) g (joined (w .segments)) given) full
     (plans-in w terms given (f .given-terms) (f .plans given (replicate planLimit 0) (later-is-stack (terms .kind) (terms .n) cs h) (omega arith))))
 
@@ -174,6 +178,10 @@ module _ (cs table : List ℕ) (h : firstRefusal cs ≡ 0) (long : length table 
   unfolding isLogRoom
   given = record { is-kind = passes .is-kind; in-range = passes .in-range; stack = passes .stack; of-set = all-groups kind n (passes .in-range); segments = passes .segments; room = refl }
 
+  -- the kinds of a report are those whose turns undo themselves
+  itself : UndoesItself kind
+  itself = undoes-itself kind (kind-low kind (passes .is-kind))
+
   reported : isReported kind n ≡ true
   unfolding isReported
   reported = and-both (isPaneCount kind n) (leb (stackCount kind n) stackLimit) (passes .in-range) (le-leb (stackCount kind n) stackLimit (passes .few))
@@ -209,7 +217,7 @@ module _ (cs table : List ℕ) (h : firstRefusal cs ≡ 0) (long : length table 
   end = built terms part log list
 
   finishes : Finishes terms end
-  finishes = build-finishes terms part log list refl accepted .1
+  finishes = build-finishes terms part log list itself refl accepted .1
 
   built-end : builtIn kind n wanted S table ≡ (joined (end .segments) ++ drop (tableBytes kind n) table, end .job)
   unfolding builtIn
@@ -231,7 +239,7 @@ module _ (cs table : List ℕ) (h : firstRefusal cs ≡ 0) (long : length table 
   deepest-low : deepest ≤ lastLevel
   deepest-low =
       let s = finishes .deepest in
-      omega (arith, few-turns given (s .0) deepest (s .1) (s .2))
+      omega (arith, few-turns given itself (s .0) deepest (s .1) (s .2))
 
   counts-at : (d : ℕ) → d ≤ deepest → CountsAt kind n wanted d (countOf (end .job) d)
   counts-at d l = finishes .counts d (omega (arith, deepest-low))
@@ -325,7 +333,7 @@ module _ (cs table : List ℕ) (h : firstRefusal cs ≡ 0) (long : length table 
         reached = finishes .deepest;
         greatest = finishes .greatest;
         refused = λ ds ne. sym (later-refused kind n wanted (joined (end .segments)) ds (laterOf kind n ds) refl ne);
-        planned = λ ds z. later-means end terms ds (sym (groups-some kind n reported)) finishes z;
+        planned = λ ds z. later-means end terms ds (given .in-range) (sym (groups-some kind n reported)) finishes z;
       })
 
 -- The report of an accepted first frame: its counts are the numbers of stacks at each distance, its total is their sum and the number of

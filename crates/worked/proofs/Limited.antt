@@ -8,7 +8,7 @@ use native.Mathlib.Nat.{mod-lt}
 use native.Mathlib.Omega.{arith}
 use lib.IntN.{ℤ}
 use lib.ListN.{length, replicate}
-use Rattle.stacks.specs.Stack.{isStack}
+use Rattle.stacks.specs.Stack.{isStack, ordered}
 use Rattle.stacks.specs.Index.{rankOf}
 use Rattle.search.specs.Build.{World}
 use Rattle.search.specs.Drive.{built, Builds}
@@ -18,7 +18,7 @@ use Rattle.search.specs.Plan.{planLimit, planOf}
 use Rattle.search.specs.PromiseBy.{FewestIn, CountsIn, NoRoad, EntryBy, Needs, FinishesBy}
 use Rattle.search.specs.Segments.{joined}
 use Rattle.search.proofs.WholeTable.{build-ends}
-use Rattle.worked.specs.Cases.{plain, ordered, anyList}
+use Rattle.worked.specs.Cases.{plain, anyList}
 use Rattle.worked.specs.Limited.{only-2, near, frame, Limited}
 use Rattle.worked.specs.PlainThree.{given}
 use Rattle.worked.proofs.Open.{all-open}

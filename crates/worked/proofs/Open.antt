@@ -37,7 +37,7 @@ unfolding Walks.isMove Words.all Words.any Words.tally Words.filter Words.total 
 words = tt
 
 stacks : Unit {0}
-unfolding Stack.isKind Stack.isCoated Stack.fewestPanes Stack.mostPanes Stack.isPaneCount Stack.orderOf Stack.eachOnce Stack.isUnused Stack.isStack Stack.coatings Stack.stackCount
+unfolding Stack.isKind Stack.isCoated Stack.fewestPanes Stack.mostPanes Stack.isPaneCount Stack.orderOf Stack.eachOnce Stack.isUnused Stack.isStack Stack.ordered Stack.coatings Stack.stackCount
 stacks = tt
 
 indexes : Unit {0}
@@ -45,7 +45,7 @@ unfolding Index.smaller Index.rankFrom Index.coat Index.coatBits Index.rankOf In
 indexes = tt
 
 turns : Unit {0}
-unfolding Turn.firstTurn Turn.lastTurn Turn.isTurn Turn.turnsOf Turn.lifts Turn.isGroupSet Turn.turnsIn Turn.allGroups Turn.flip Turn.turnOf Turn.turnsFrom
+unfolding Turn.firstTurn Turn.lastTurn Turn.isTurn Turn.turnsOf Turn.lifts Turn.isGroupSet Turn.turnsIn Turn.allGroups Turn.flip Turn.turnOf Turn.moveOf Turn.movesFrom
 turns = tt
 
 operations : Unit {0}
@@ -145,7 +145,7 @@ unfolding Price.costOf Price.priceRefusal Price.priceOf
 prices = tt
 
 cases : Unit {0}
-unfolding Cases.ordered Cases.anyList Cases.tooLong Cases.refusals Cases.blankAll Cases.searchLevel Cases.searchLevels Cases.sweepLevel Cases.startOf Cases.endOf Cases.whole PlainThree.start PlainThree.early PlainThree.calls Reverse.mixed Reverse.onward
+unfolding Cases.anyList Cases.tooLong Cases.refusals Cases.blankAll Cases.searchLevel Cases.searchLevels Cases.sweepLevel Cases.startOf Cases.endOf Cases.whole PlainThree.start PlainThree.early PlainThree.calls Reverse.mixed Reverse.onward
 cases = tt
 
 unfoldable pub all-open : Unit {0}

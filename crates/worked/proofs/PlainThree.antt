@@ -2,7 +2,7 @@
 use mathlib.Core.Path.{_≡_, refl, sym, ap, subst, _∙_}
 use mathlib.Core.Bool.{true}
 use mathlib.Core.List.{List, [], _∷_}
-use Prim.Native.Nat.{ℕ, zero, suc, _*_, _%_, _≤_, _<_}
+use Prim.Native.Nat.{ℕ, zero, suc, _+_, _*_, _%_, _≤_, _<_}
 use native.Mathlib.Omega.{arith}
 use lib.IntN.{ℤ}
 use lib.ListN.{length, getD, take}
@@ -10,8 +10,9 @@ use lib.Seq.{getD-take}
 use Rattle.base.specs.Words.{total}
 use Rattle.stacks.specs.Counts.{CountsAt}
 use Rattle.stacks.specs.Index.{rankOf}
-use Rattle.stacks.specs.Stack.{isStack, stackCount}
-use Rattle.stacks.specs.Turn.{Fewest}
+use Rattle.stacks.specs.Stack.{isStack, stackCount, ordered}
+use Rattle.stacks.specs.Turn.{turnsIn, Fewest}
+use Rattle.stacks.proofs.MoveLaws.{undoes-itself}
 use Rattle.search.specs.Build.{World}
 use Rattle.search.specs.Entries.{entryAt, seenIn}
 use Rattle.search.specs.JobState.{countOf, isFinished, levelOf}
@@ -20,10 +21,12 @@ use Rattle.search.specs.declared.Phase.{Phase}
 use Rattle.search.specs.declared.Phase.the-variants.{Finished}
 use Rattle.search.specs.Plan.{planLimit}
 use Rattle.search.specs.Promise.{rightBytes, rightLengths, Buffers, Promise, Continues, FinishedByClose, Plans, Finishes, WholeBuild}
-use Rattle.search.specs.PromiseBy.{PlanArrives}
+use Rattle.search.specs.PromiseBy.{FewestIn, PlanArrives}
 use Rattle.search.proofs.Finishing.{plan-arrives}
-use Rattle.search.proofs.AllTurns.{full-road, whole-build}
-use Rattle.worked.specs.Cases.{plain, ordered, anyList}
+use Rattle.search.proofs.AllTurns.{full-road, full-fewest, fewest-full, whole-build}
+use Rattle.search.proofs.Fewest.{fewest-back, fewest-third}
+use Rattle.search.proofs.Turning.{Moves, set-turns}
+use Rattle.worked.specs.Cases.{plain, anyList}
 use Rattle.worked.specs.PlainThree.{Calls, start, part, end, early, calls, given, table, PlainThree, all, terms}
 use Rattle.worked.proofs.Open.{all-open}
 
@@ -82,7 +85,8 @@ module _ (first second : ℕ) (words : ℕ → ℕ) where
 
   promise : (list : Calls) → Promise terms (rightLengths terms) (start first second words) list
   unfolding all-open WholeBuild
-  promise = whole-build terms (start first second words .segments) (start first second words .log) [] refl refl buffers
+  promise =
+      whole-build terms (start first second words .segments) (start first second words .log) [] refl (undoes-itself plain (omega arith)) refl buffers
 
   pub finished : isFinished (end first second words .job .phase) ≡ true
   unfolding all-open
@@ -117,6 +121,25 @@ module _ (first second : ℕ) (words : ℕ → ℕ) where
     plans : Plans (end first second words) given (anyList slots planLimit)
     unfolding all-open
     plans = finishes .plans given (anyList slots planLimit) refl (omega arith)
+
+    -- the turns of the full set as the moves of a search, and the fewest of them
+    moves : Moves plain 3 (turnsIn plain 3 all)
+    unfolding all-open
+    moves = set-turns plain 3 refl all refl
+
+    fewest : FewestIn plain 3 all given (ordered 3) 2
+    unfolding all-open
+    fewest = fewest-full plain 3 all refl refl (plans .shortest)
+
+    back-of : Fewest plain 3 (ordered 3) given 2
+    unfolding all-open
+    back-of = full-fewest plain 3 all refl refl (fewest-back plain 3 refl moves given (ordered 3) refl refl fewest)
+
+    third-of : (s : List ℤ) (d e : ℕ) → isStack plain 3 s ≡ true → Fewest plain 3 given s d → Fewest plain 3 s (ordered 3) e → 2 ≤ d + e
+    unfolding all-open
+    third-of s d e h first second =
+        fewest-third plain 3 refl moves given (ordered 3) refl refl fewest s h
+        (fewest-full plain 3 all refl refl first) (fewest-full plain 3 all refl refl second)
 
     pub plain-three : PlainThree first second words slots
     unfolding all-open PlanArrives
@@ -154,6 +177,8 @@ module _ (first second : ℕ) (words : ℕ → ℕ) where
           road = plans .arrives;
           fewest = plans .shortest;
           few = plans .few;
+          back = back-of;
+          by-third = third-of;
           smaller = record { turns = refl; arrives = refl };
           larger = record { turns = refl; arrives = refl };
           takes-larger = refl;

@@ -3,6 +3,7 @@ use mathlib.Core.Path.{refl}
 use mathlib.Core.List.{[], _∷_}
 use Prim.Native.Nat.{ℕ}
 use native.Mathlib.Omega.{arith}
+use Rattle.stacks.specs.Stack.{ordered}
 use Rattle.search.specs.Plan.{planLimit}
 use Rattle.tariff.specs.Promise.{PlanFirst, PricePlans, Prices, PriceFinished, OnePriceEach, PricedTurns, RoundedOnce, swap, AnyOrder, SplitAlike}
 use Rattle.tariff.specs.Rounding.{rounded}
@@ -13,7 +14,7 @@ use Rattle.tariff.proofs.PriceLaws.{plan-first, price-plans, price-finished, pr
 use Rattle.tariff.proofs.Rearranging.{any-order, split-alike}
 use Rattle.tariff.proofs.Rounding.{rounded-once}
 use Rattle.tariff.proofs.TariffLaws.{one-price-each}
-use Rattle.worked.specs.Cases.{plain, ordered, anyList}
+use Rattle.worked.specs.Cases.{plain, anyList}
 use Rattle.worked.specs.PlainThree.{all, terms, start, end, calls, given, table}
 use Rattle.worked.specs.Pricing.{example, swapped, single, Pricing}
 use Rattle.worked.proofs.Open.{all-open}

@@ -1,6 +1,5 @@
 -- The words of the worked cases: stacks written by their panes, and builds that take the segments in turn.
 --   places     the panes of a list, top first, and unused places to twelve
---   ordered    the ordered stack, all coats up
 --   startOf    Begin for the ordered stack by all turns with C = 16, and buffers that hold zeros
 --   endOf      the world that such a build comes to after as many levels
 --   whole      Build the whole table for the same, in buffers of these lengths
@@ -14,7 +13,7 @@ use native.Mathlib.Omega.{arith}
 use lib.IntN.{ℤ, pos, negℤ}
 use lib.ListN.{take, replicate, length-replicate}
 use Rattle.base.specs.Words.{from}
-use Rattle.stacks.specs.Stack.{stackPlaces}
+use Rattle.stacks.specs.Stack.{stackPlaces, ordered}
 use Rattle.search.specs.Begin.{beginOf}
 use Rattle.search.specs.Build.{World, Lengths, Lent, Call, own, other, ownList, doBlank, doExpand, doSettle, doLoad, doSweep, doClose, outcome, after}
 use Rattle.stacks.specs.Turn.{allGroups}
@@ -41,9 +40,6 @@ down x = negℤ (pos x)
 
 abbrev pub places : List ℤ → List ℤ
 places panes = take stackPlaces (panes ++ replicate stackPlaces (pos 0))
-
-unfoldable pub ordered : ℕ → List ℤ
-ordered n = places (map up (from 1 n))
 
 unfoldable pub anyList : (ℕ → ℕ) → ℕ → List ℕ
 anyList number count = map number (from 0 count)

@@ -8,7 +8,7 @@ use mathlib.Core.List.{List, [], _∷_}
 use Prim.Native.Nat.{ℕ, _≤_}
 use lib.IntN.{ℤ}
 use lib.ListN.{length, take, replicate}
-use Rattle.stacks.specs.Stack.{isStack}
+use Rattle.stacks.specs.Stack.{isStack, ordered}
 use Rattle.search.specs.Drive.{buildOf}
 use Rattle.search.specs.Plan.{planLimit, planOf}
 use Rattle.search.specs.PromiseBy.{FewestIn, CountsIn, NoRoad}
@@ -17,7 +17,7 @@ use Rattle.search.specs.declared.Phase.the-variants.{Finished}
 use Rattle.search.specs.declared.Planned.{Planned}
 use Rattle.search.specs.Terms.{beginRefusal, termsOf}
 use Rattle.search.specs.declared.Terms.{Terms}
-use Rattle.worked.specs.Cases.{plain, coated, up, places, ordered, anyList}
+use Rattle.worked.specs.Cases.{plain, coated, up, places, anyList}
 use Rattle.worked.specs.PlainThree.{given}
 
 abbrev pub only-2 : ℕ

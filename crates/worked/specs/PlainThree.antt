@@ -7,13 +7,13 @@
 use mathlib.Core.Path.{_≡_}
 use mathlib.Core.Bool.{true, false}
 use mathlib.Core.List.{List, [], _∷_, _++_}
-use Prim.Native.Nat.{ℕ, _%_, _≤_, _<_}
+use Prim.Native.Nat.{ℕ, _+_, _%_, _≤_, _<_}
 use lib.IntN.{ℤ}
 use lib.ListN.{take}
 use Rattle.base.specs.Words.{total}
 use Rattle.stacks.specs.Counts.{CountsAt}
 use Rattle.stacks.specs.Index.{rankOf}
-use Rattle.stacks.specs.Stack.{isStack}
+use Rattle.stacks.specs.Stack.{isStack, ordered}
 use Rattle.stacks.specs.Turn.{allGroups, Road, Fewest}
 use Rattle.search.specs.Begin.{begun, beginOf}
 use Rattle.search.specs.Build.{World, Call, own, doBlank, doExpand, doSettle, doLook, doClose, outcome, after, isLentOwn, CarriesOn}
@@ -28,7 +28,7 @@ use Rattle.search.specs.declared.Phase.the-variants.{Level, Finished}
 use Rattle.search.specs.declared.Terms.{Terms}
 use Rattle.search.specs.declared.Way.{Way}
 use Rattle.search.specs.declared.Way.the-variants.{Forward}
-use Rattle.worked.specs.Cases.{plain, up, places, ordered, anyList, tooLong, refusals, searchLevels}
+use Rattle.worked.specs.Cases.{plain, up, places, anyList, tooLong, refusals, searchLevels}
 
 abbrev pub all : ℕ
 all = allGroups plain 3
@@ -137,6 +137,9 @@ module _ (first second : ℕ) (words : ℕ → ℕ) where
     pub road : Road plain 3 (3 ∷ 2 ∷ []) given (ordered 3)
     pub fewest : Fewest plain 3 given (ordered 3) 2
     pub few : planOf plain 3 (ordered 3) given all table (anyList slots planLimit) .1 .turns ≤ 30
+    -- back there are as many, and by a third stack never fewer
+    pub back : Fewest plain 3 (ordered 3) given 2
+    pub by-third : (s : List ℤ) (d e : ℕ) → isStack plain 3 s ≡ true → Fewest plain 3 given s d → Fewest plain 3 s (ordered 3) e → 2 ≤ d + e
     -- two shortest roads lead from 1 3 2: Plan takes the one that lifts the larger group first
     pub smaller : Road plain 3 (2 ∷ 3 ∷ 2 ∷ []) tied (ordered 3)
     pub larger : Road plain 3 (3 ∷ 2 ∷ 3 ∷ []) tied (ordered 3)

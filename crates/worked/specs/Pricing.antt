@@ -8,6 +8,7 @@ use Prim.Native.Nat.{ℕ, _+_, _*_, _≤_, _<_}
 use lib.ListN.{length, getD, take, replicate}
 use Rattle.base.specs.Words.{total}
 use Rattle.stacks.specs.Turn.{Road, Fewest}
+use Rattle.stacks.specs.Stack.{ordered}
 use Rattle.search.specs.Plan.{planLimit, planOf}
 use Rattle.tariff.specs.Price.{costOf, priceOf}
 use Rattle.tariff.specs.Promise.{unpriced, priceIn, OnePrice, PricedAlike}
@@ -16,7 +17,7 @@ use Rattle.tariff.specs.Tariffs.{lineLimit, tariffLine, tariffLines, tariffRefu
 use Rattle.tariff.specs.declared.Line.{Line}
 use Rattle.tariff.specs.declared.Priced.{Priced}
 use Rattle.tariff.specs.declared.Tariff.{Tariff}
-use Rattle.worked.specs.Cases.{plain, ordered, anyList}
+use Rattle.worked.specs.Cases.{plain, anyList}
 use Rattle.worked.specs.PlainThree.{all, given, table, end}
 
 abbrev pub tariffOf : List Line → Tariff

@@ -4,9 +4,10 @@ use mathlib.Core.List.{List, [], _∷_}
 use Prim.Native.Nat.{ℕ, suc}
 use lib.ListN.{take}
 use Rattle.stacks.specs.Operations.{indexed, stacked, indexOf, stackOf, turnedOf}
+use Rattle.stacks.specs.Stack.{ordered}
 use Rattle.search.specs.Segments.{joined}
 use Rattle.search.specs.declared.Phase.the-variants.{Finished}
-use Rattle.worked.specs.Cases.{plain, coated, up, down, places, ordered, endOf}
+use Rattle.worked.specs.Cases.{plain, coated, up, down, places, endOf}
 
 -- a build for the ordered stack is finished by the level after the deepest, and leaves this table; or these counts
 pub record Table (kind n S deepest : ℕ) (table : List ℕ) : Type 0 where

@@ -14,7 +14,7 @@ use Rattle.search.proofs.Turning.{set-turns}
 use Rattle.perm.specs.Moves.{mostMoves}
 use Rattle.perm.specs.Walk.{Walks}
 use Rattle.perm.specs.declared.walk.Walk.{Walk}
-use Rattle.perm.proofs.Walks.{next-turn, walk-on}
+use Rattle.perm.proofs.Walks.{next-last, next-turn, walk-on}
 use Rattle.job.proofs.Walked.{unranked, childrenAfter, next-child, no-child, no-children}
 use Rattle.expand.proofs.Filling.{Filled, filled-none, filled-room, filled-more, filled-on, filled-all}
 use Rattle.expand.proofs.children.children_of.Statement.{statement}
@@ -40,7 +40,7 @@ loop-holds c =
     let a = s .args in
     let b = c .begin .ensures in
     let moves = turnsIn (a .kind) (a .n) (a .groups) in
-    let few = set-turns (a .kind) (a .n) (s .pre .0) (a .groups) .few in (
+    let few = set-turns (a .kind) (a .n) (s .pre .0) (a .groups) (s .pre .2) .few in (
       b .walks,
       filled-none (ap (λ (ks : List ℕ). childrenOf (a .kind) (a .n) ks (a .index)) (sym (b .all)))
           (omega (arith, children-length (a .kind) (a .n) moves (a .index), few)),
@@ -54,28 +54,27 @@ abbrev at-start : tie.At-loop Inv-loop μ-loop → tie.Start Inv-loop μ-loop
 at-start l = l .before .before .before
 
 next-is-turn : (t : tie.Then1 Inv-loop μ-loop) → let l = at-loop t in let a = at-start l .args in l .loop .walk .k + 1 ≤ lastTurn (a .kind) (a .n)
-next-is-turn t = next-turn (at-loop t .loop .inv .0) (t .if1 .taken)
+next-is-turn t = next-last (at-loop t .loop .inv .0) (t .if1 .taken)
 
 add-k : tie.Need-add-k Inv-loop μ-loop
 add-k c = let t = c .before in omega (arith, next-is-turn t, at-loop t .loop .inv .0 .low)
 
-rank-turned-requires : tie.Need-rank-turned-requires Inv-loop μ-loop
-unfolding lastTurn
-rank-turned-requires c κs =
+rank-moved-requires : tie.Need-rank-moved-requires Inv-loop μ-loop
+rank-moved-requires c κs =
     let t = c .before .before .before .before in
     let l = at-loop t in
     let s = at-start l in
     let a = s .args in
     let u = unranked (a .kind) (a .n) (a .index) (s .pre .0) (s .pre .1) (l .before .before .unrank .ensures) in
-    (s .pre .0, u .0, u .1, next-is-turn t, s .pre .3)
+    ((s .pre .0, u .0, next-turn (l .loop .inv .0) (t .if1 .taken)), u .1, s .pre .3)
 
-room : (c : tie.After-rank-turned Inv-loop μ-loop) → at-loop (c .before .before .before .before .before) .loop .i < mostMoves
+room : (c : tie.After-rank-moved Inv-loop μ-loop) → at-loop (c .before .before .before .before .before) .loop .i < mostMoves
 room c =
     let b = c .before .before in
     let t = b .before .before .before in
     let l = at-loop t in
-    filled-room (l .loop .inv .1) (c .rank-turned .result) _
-    (next-child (l .loop .inv .0) (at-start l .args .index) (t .if1 .taken) (b .if2 .taken) (l .before .before .unrank .ensures) (c .rank-turned .ensures))
+    filled-room (l .loop .inv .1) (c .rank-moved .result) _
+    (next-child (l .loop .inv .0) (at-start l .args .index) (t .if1 .taken) (b .if2 .taken) (l .before .before .unrank .ensures) (c .rank-moved .ensures))
 
 mul-children : tie.Need-mul-children Inv-loop μ-loop
 mul-children c = omega (arith, room c)
@@ -129,7 +128,7 @@ children-of-spec =
     begin-requires
     loop-holds
     add-k
-    rank-turned-requires
+    rank-moved-requires
     mul-children
     array-write-children
     add-i

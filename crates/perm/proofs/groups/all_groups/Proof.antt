@@ -5,9 +5,8 @@ use native.Mathlib.Omega.{arith}
 use lib.Pow.{pow-mono}
 use borrow.Author.Needs.{needs}
 use Rattle.stacks.proofs.GroupLaws.{all-groups-is}
-use Rattle.stacks.proofs.TurnLaws.{first-pos}
+use Rattle.stacks.proofs.TurnLaws.{first-pos, first-last, last-places}
 use Rattle.perm.proofs.Sets.{shifted}
-use Rattle.perm.proofs.Sizes.{last-twelve, first-last}
 use Rattle.perm.proofs.groups.all_groups.Statement.{statement}
 use Rattle.perm.proofs.groups.all_groups.Tie as tie
 
@@ -25,7 +24,7 @@ cast-first c = search needs
 
 -- the last turn is at most twelve, and the first is no more than one past it
 low : (c : tie.After-first-turn) → c .before .last-turn .result ≤ 12
-low c = let s = c .before .before in omega (arith, last-twelve (s .args .kind) (s .args .n) (s .pre), c .before .last-turn .ensures)
+low c = let s = c .before .before in omega (arith, last-places (s .args .kind) (s .args .n) (s .pre), c .before .last-turn .ensures)
 
 some : (c : tie.After-first-turn) → 1 ≤ c .first-turn .result
 some c = omega (arith, first-pos (c .before .before .args .kind), c .first-turn .ensures)

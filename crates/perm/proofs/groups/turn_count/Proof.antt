@@ -9,7 +9,7 @@ use Rattle.stacks.specs.Stack.{stackPlaces}
 use Rattle.stacks.specs.Turn.{turnsIn}
 use Rattle.perm.specs.Walk.{Walks, turnsAfter}
 use Rattle.perm.specs.declared.walk.Walk.{Walk}
-use Rattle.perm.proofs.Walks.{next-turn, walk-on, count-ahead, none-ahead}
+use Rattle.perm.proofs.Walks.{next-last, walk-on, count-ahead, none-ahead}
 use Rattle.perm.proofs.groups.turn_count.Statement.{statement}
 use Rattle.perm.proofs.groups.turn_count.Tie as tie
 
@@ -36,7 +36,7 @@ bit l = omega (arith, mod-lt (l .loop .walk .rest) {m = 2} (omega arith))
 
 -- while something is left, the next size is a turn
 low : (t : tie.Then1 Inv-loop μ-loop) → t .before .before .loop .walk .k < stackPlaces
-low t = let walks = t .before .before .loop .inv .0 in omega (arith, next-turn walks (t .if1 .taken), walks .low)
+low t = let walks = t .before .before .loop .inv .0 in omega (arith, next-last walks (t .if1 .taken), walks .low)
 
 add-count : tie.Need-add-count Inv-loop μ-loop
 add-count c = let t = c .before in omega (arith, bit (t .before .before), low t)

@@ -4,8 +4,7 @@ use Prim.Native.Nat.{_+_, _-_}
 use native.Mathlib.Omega.{arith}
 use borrow.Author.Needs.{needs}
 use Rattle.stacks.specs.Turn.{firstTurn}
-use Rattle.stacks.proofs.TurnLaws.{first-pos}
-use Rattle.perm.proofs.Sizes.{last-twelve, first-last}
+use Rattle.stacks.proofs.TurnLaws.{first-pos, first-last, last-places}
 use Rattle.perm.proofs.Walks.{walk-begins, all-ahead}
 use Rattle.perm.proofs.walk.begin.Statement.{statement}
 use Rattle.perm.proofs.walk.begin.Tie as tie
@@ -26,7 +25,7 @@ shr-rest c =
       arith,
       c .first-turn .ensures,
       first-last (s .args .kind) (s .args .n) (s .pre .0),
-      last-twelve (s .args .kind) (s .args .n) (s .pre .0),
+      last-places (s .args .kind) (s .args .n) (s .pre .0),
     )
 
 returns : tie.Need-returns

@@ -93,7 +93,7 @@ route-from-requires : tie.Need-route-from-requires
 route-from-requires c κs =
     let t = at-given (c .before .before) .before .before in
     let f = facts (t .before) in
-    ((f .of-panes, f .goal, f .start, f .long), t .table .ensures)
+    ((f .of-panes, f .goal, f .start, f .of-set, f .long), t .table .ensures)
 
 -- the stack that the route has come to
 stack-is : (c : tie.After-route-from)
@@ -109,7 +109,8 @@ rank-requires c κs =
     let a = at-start (t .before) .args in (
       f .of-panes,
       rw (stack-is w)
-          (route-stack (a .kind) (a .n) (a .table .now) (a .wanted) (a .given) (f .of-panes) (set-turns (a .kind) (a .n) (f .of-panes) (a .groups)) (f .start)),
+          (route-stack (a .kind) (a .n) (a .table .now) (a .wanted) (a .given) (f .of-panes)
+          (set-turns (a .kind) (a .n) (f .of-panes) (a .groups) (f .of-set)) (f .start)),
       t .table .ensures,
     )
 

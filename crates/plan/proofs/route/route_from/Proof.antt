@@ -7,8 +7,8 @@ use lib.ListN.{replicate}
 use Rattle.stacks.specs.Turn.{turnsIn}
 use Rattle.search.specs.Plan.{planLimit, turnTo, nearerEntry}
 use Rattle.search.proofs.EntryLaws.{entry-lt, next-lt}
-use Rattle.search.proofs.Turning.{set-turns}
-use Rattle.plan.proofs.Routes.{entry-inside, turn-low, found-nearer, Travelled, travelled-start, travelled-length, travelled-arrived, travelled-stuck, travelled-step, travelled-end}
+use Rattle.search.proofs.Turning.{Moves, set-turns}
+use Rattle.plan.proofs.Routes.{entry-inside, turn-found, found-nearer, Travelled, travelled-start, travelled-length, travelled-arrived, travelled-stuck, travelled-step, travelled-end}
 use Rattle.plan.proofs.route.route_from.Statement.{statement}
 use Rattle.plan.proofs.route.route_from.Tie as tie
 
@@ -36,7 +36,8 @@ get-entry-requires : tie.Need-get-entry-requires Inv-loop μ-loop
 get-entry-requires c κs =
     let a = c .before in
     let s = a .before .before .before .before in
-    entry-inside (s .args .kind) (s .args .n) (a .loop .stack) (s .args .table .now) (a .loop .index) (s .pre .0 .0) (a .loop .inv .is-stack) (s .pre .0 .3) (a .loop .inv .at)
+    entry-inside (s .args .kind) (s .args .n) (a .loop .stack) (s .args .table .now) (a .loop .index) (s .pre .0 .0)
+    (a .loop .inv .is-stack) (s .pre .0 .4) (a .loop .inv .at)
 
 returns : tie.Need-returns Inv-loop μ-loop
 returns c =
@@ -59,7 +60,7 @@ turn-to-requires : tie.Need-turn-to-requires Inv-loop μ-loop
 turn-to-requires c κs =
     let a = c .before .before .before .before .before in
     let s = a .before .before .before .before in
-    ((s .pre .0 .0, a .loop .inv .is-stack, a .loop .inv .at, s .pre .0 .3), s .pre .1)
+    ((s .pre .0 .0, a .loop .inv .is-stack, a .loop .inv .at, s .pre .0 .4), s .pre .1)
 
 -- where the loop stands, seen from the turn that is found
 abbrev at-loop : tie.After-turn-to Inv-loop μ-loop → tie.At-loop Inv-loop μ-loop
@@ -78,22 +79,27 @@ found c =
     (v .result) (c .before .before .next-entry .result) (c .before .next-entry2 .result) (c .turn-to .result .k)
     (a .loop .inv .at) (v .ensures) (c .before .before .next-entry .ensures) (c .before .next-entry2 .ensures) (c .turn-to .ensures .0)
 
+-- the turns of the set are moves of a search
+laws : (l : tie.At-loop Inv-loop μ-loop)
+    → let s = l .before .before .before .before .args in Moves (s .kind) (s .n) (turnsIn (s .kind) (s .n) (s .groups))
+laws l = let s = l .before .before .before .before in set-turns (s .args .kind) (s .args .n) (s .pre .0 .0) (s .args .groups) (s .pre .0 .3)
+
 returns-2 : tie.Need-returns-2 Inv-loop μ-loop
 returns-2 c =
     let a = at-loop (c .before) in
     let s = a .before .before .before .before in (
-      travelled-stuck (s .args .kind) (s .args .n) (a .loop .inv) (set-turns (s .args .kind) (s .args .n) (s .pre .0 .0) (s .args .groups))
+      travelled-stuck (s .args .kind) (s .args .n) (a .loop .inv) (laws a)
           (c .before .turn-to .result .k) (c .before .before .before .before .if1 .left) (found (c .before)) (c .if2 .taken) (s .args .wanted) (a .before .before .rank .ensures),
       travelled-length (s .args .kind) (s .args .n) (a .loop .inv),
     )
 
-turned-requires : tie.Need-turned-requires Inv-loop μ-loop
-turned-requires c κs =
+moved-requires : tie.Need-moved-requires Inv-loop μ-loop
+moved-requires c κs =
     let a = at-loop (c .before) in
     let s = a .before .before .before .before in (
       s .pre .0 .0,
       a .loop .inv .is-stack,
-      turn-low (s .args .kind) (s .args .n) (s .args .table .now) (a .loop .stack) (c .before .before .next-entry2 .result) (set-turns (s .args .kind) (s .args .n) (s .pre .0 .0) (s .args .groups))
+      turn-found (s .args .kind) (s .args .n) (s .args .table .now) (a .loop .stack) (c .before .before .next-entry2 .result) (laws a)
           (c .before .turn-to .result .k) (c .before .turn-to .ensures .0) (c .if2 .left),
     )
 
@@ -111,9 +117,9 @@ loop-again c =
     let a = at-loop (c .before .before) in
     let s = a .before .before .before .before in
     let step = c .before .before .turn-to in
-    travelled-step (s .args .kind) (s .args .n) (a .loop .inv) (set-turns (s .args .kind) (s .args .n) (s .pre .0 .0) (s .args .groups))
+    travelled-step (s .args .kind) (s .args .n) (a .loop .inv) (laws a)
     (step .result .k) (c .before .before .before .before .before .if1 .left) (found (c .before .before)) (s .pre .0 .0)
-    (omega (arith, array-write-turns c)) (c .before .if2 .left) (c .turned .result) (c .turned .ensures) (step .result .index) (step .ensures .1)
+    (omega (arith, array-write-turns c)) (c .before .if2 .left) (c .moved .result) (c .moved .ensures) (step .result .index) (step .ensures .1)
 
 returns-3 : tie.Need-returns-3 Inv-loop μ-loop
 returns-3 c =
@@ -139,7 +145,7 @@ route-from-spec =
     next-entry-requires-2
     turn-to-requires
     returns-2
-    turned-requires
+    moved-requires
     array-write-turns
     add-taken
     loop-less

@@ -10,7 +10,7 @@ use Rattle.search.specs.Expand.{childrenOf}
 use Rattle.search.specs.Sweep.{isChanged}
 use Rattle.perm.specs.Walk.{Walks}
 use Rattle.perm.specs.declared.walk.Walk.{Walk}
-use Rattle.perm.proofs.Walks.{next-turn, walk-on}
+use Rattle.perm.proofs.Walks.{next-last, next-turn, walk-on}
 use Rattle.job.proofs.Walked.{unranked, childrenAfter, next-child, no-child, no-children}
 use Rattle.sweep.specs.Reach.{reachedBy}
 use Rattle.sweep.proofs.Reaching.{child-bit}
@@ -44,29 +44,28 @@ abbrev at-start : tie.At-loop Inv-loop μ-loop → tie.Start Inv-loop μ-loop
 at-start l = l .before .before .before .before
 
 next-is-turn : (t : tie.Then1 Inv-loop μ-loop) → let l = at-loop t in let a = at-start l .args in l .loop .walk .k + 1 ≤ lastTurn (a .kind) (a .n)
-next-is-turn t = next-turn (at-loop t .loop .inv .0) (t .if1 .taken)
+next-is-turn t = next-last (at-loop t .loop .inv .0) (t .if1 .taken)
 
 add-k : tie.Need-add-k Inv-loop μ-loop
 add-k c = let t = c .before in omega (arith, next-is-turn t, at-loop t .loop .inv .0 .low)
 
-rank-turned-requires : tie.Need-rank-turned-requires Inv-loop μ-loop
-unfolding lastTurn
-rank-turned-requires c κs =
+rank-moved-requires : tie.Need-rank-moved-requires Inv-loop μ-loop
+rank-moved-requires c κs =
     let t = c .before .before .before .before in
     let l = at-loop t in
     let s = at-start l in
     let f = s .pre .0 in
     let a = s .args in
     let u = unranked (a .kind) (a .n) (a .index) (f .is-pane-count) (f .below) (l .before .before .unrank .ensures) in
-    (f .is-pane-count, u .0, u .1, next-is-turn t, s .pre .1)
+    ((f .is-pane-count, u .0, next-turn (l .loop .inv .0) (t .if1 .taken)), u .1, s .pre .1)
 
 is-changed-requires : tie.Need-is-changed-requires Inv-loop μ-loop
-unfolding lastTurn
 is-changed-requires c κs =
     let t = c .before .before .before .before .before in
     let l = at-loop t in
     let u = l .before .before .unrank in
-    child-bit (at-start l .pre .0) (l .loop .walk .k + 1) (c .rank-turned .result) (u .result) (next-is-turn t) (u .ensures) (c .rank-turned .ensures)
+    child-bit (at-start l .pre .0) (l .loop .walk .k + 1) (c .rank-moved .result) (u .result)
+    (next-turn (l .loop .inv .0) (t .if1 .taken)) (u .ensures) (c .rank-moved .ensures)
 
 returns : tie.Need-returns Inv-loop μ-loop
 unfolding any
@@ -80,7 +79,7 @@ returns c =
     sym
     (l .loop .inv .1
     ∙ ap (any (isChanged (a .size) (a .b) (a .list .now)))
-    (next-child (l .loop .inv .0) (a .index) (t .if1 .taken) (b .if2 .taken) (l .before .before .unrank .ensures) (r .rank-turned .ensures))
+    (next-child (l .loop .inv .0) (a .index) (t .if1 .taken) (b .if2 .taken) (l .before .before .unrank .ensures) (r .rank-moved .ensures))
     ∙ rw (← h .is-changed .ensures, c .if3 .taken))
 
 next-requires : tie.Need-next-requires Inv-loop μ-loop
@@ -127,7 +126,7 @@ is-reached-spec =
     begin-requires
     loop-holds
     add-k
-    rank-turned-requires
+    rank-moved-requires
     is-changed-requires
     returns
     next-requires
