@@ -1,11 +1,15 @@
 // A plain breadth-first search by the turns of a set, one byte a stack: the fewest turns, or 255 for unseen.
 ghost use Prim.Native.Nat.{_≤_};
-ghost use lib.ListN.{length};
 use crate::stack;
-use search::COUNT_PLACES;
 
 // What stands for a stack without a road.
 pub const UNSEEN: u8 = 255;
+
+// How many stacks each level has, and the last level that has some.
+pub struct Found {
+    pub counts: [u64; 256],
+    pub deepest: usize,
+}
 
 // 1 where the stack at index i was unseen and is now marked, else 0.
 fn reach(bytes: &mut [u8], i: usize, mark: u8) -> u64
@@ -44,13 +48,13 @@ fn reach_by(
 // Marks the children of the stack at index i, and answers how many were unseen.
 fn spread(kind: u8, n: usize, groups: u32, bytes: &mut [u8], i: usize, mark: u8) -> u64
     requires { ⌜ n ≤ 12 ⌝ }
-    ensures { λ r. ⌜ r ≤ n ⌝ }
 {
     let parent = stack::unrank(kind, n, i);
     let mut found: u64 = 0;
     let mut k = n;
     while k > 0 {
-        found += reach_by(kind, n, groups, bytes, parent, k, mark);
+        let more = reach_by(kind, n, groups, bytes, parent, k, mark);
+        found = std::num::wrapping_add_u64(found, more);
         k -= 1;
     }
     found
@@ -59,7 +63,6 @@ fn spread(kind: u8, n: usize, groups: u32, bytes: &mut [u8], i: usize, mark: u8)
 // What spread does where the stack at index i is at d turns. None is marked as unseen.
 fn spread_from(kind: u8, n: usize, groups: u32, bytes: &mut [u8], i: usize, d: u8) -> u64
     requires { ⌜ n ≤ 12 ⌝ }
-    ensures { λ r. ⌜ r ≤ n ⌝ }
 {
     if i >= bytes.len() {
         return 0;
@@ -75,66 +78,32 @@ fn spread_from(kind: u8, n: usize, groups: u32, bytes: &mut [u8], i: usize, d: u
 
 // Searches the level after d, and answers how many stacks it has.
 fn level(kind: u8, n: usize, groups: u32, bytes: &mut [u8], d: u8) -> u64
-    requires { ⌜ (n ≤ 12) × (length (now bytes) ≤ 1048576) ⌝ }
+    requires { ⌜ n ≤ 12 ⌝ }
 {
     let mut found: u64 = 0;
     let mut i: usize = 0;
     while i < bytes.len() {
-        found += spread_from(kind, n, groups, bytes, i, d);
+        let more = spread_from(kind, n, groups, bytes, i, d);
+        found = std::num::wrapping_add_u64(found, more);
         i += 1;
     }
     found
 }
 
-fn clear(bytes: &mut [u8]) {
-    let mut i: usize = 0;
-    while i < bytes.len() {
-        bytes[i] = UNSEEN;
-        i += 1;
-    }
-}
-
-// The last level that has a count.
-const LAST: usize = COUNT_PLACES - 1;
-
-// Fills the bytes from the stack at index goal, and answers how many stacks each level has. It ends at a level that has none.
-pub fn search(kind: u8, n: usize, groups: u32, bytes: &mut [u8], goal: usize) -> [u64; COUNT_PLACES]
-    requires { ⌜ (n ≤ 12) × (length (now bytes) ≤ 1048576) ⌝ }
+// Fills the bytes, all unseen, from the stack at index goal. It ends at a level that has none.
+pub fn search(kind: u8, n: usize, groups: u32, bytes: &mut [u8], goal: usize) -> Found
+    requires { ⌜ n ≤ 12 ⌝ }
 {
-    clear(bytes);
-    let mut counts = [0u64; COUNT_PLACES];
+    let mut counts = [0u64; 256];
     counts[0] = reach(bytes, goal, 0);
     let mut d: usize = 0;
-    while d < LAST {
+    while d < 254 {
         let next = level(kind, n, groups, bytes, d as u8);
         if next == 0 {
-            return counts;
+            return Found { counts, deepest: d };
         }
         d += 1;
         counts[d] = next;
     }
-    counts
-}
-
-// The last level that has a stack.
-pub fn deepest(counts: [u64; COUNT_PLACES]) -> usize {
-    let mut d: usize = LAST;
-    while d > 0 {
-        if counts[d] != 0 {
-            return d;
-        }
-        d -= 1;
-    }
-    0
-}
-
-// How many stacks have a road.
-pub fn roads(counts: [u64; COUNT_PLACES]) -> u64 {
-    let mut sum: u64 = 0;
-    let mut d: usize = 0;
-    while d < COUNT_PLACES {
-        sum = std::num::wrapping_add_u64(sum, counts[d]);
-        d += 1;
-    }
-    sum
+    Found { counts, deepest: d }
 }

@@ -33,14 +33,16 @@ enum Step {
 pub enum Order {
     Rising,
     Falling,
+    OddFirst,
     Shuffled,
 }
 
-// The way that a driver tells each Close; mixed, any number, so that either way comes by chance.
+// The way that a driver tells each Close: alternating, the other one than it closes; mixed, any number, so that either way comes by chance.
 #[derive(Clone, Copy, PartialEq, Debug)]
 pub enum Ways {
     Forward,
     Reverse,
+    Alternating,
     Mixed,
 }
 
@@ -230,6 +232,7 @@ impl Build {
         match order {
             Order::Rising => {}
             Order::Falling => segments.reverse(),
+            Order::OddFirst => segments.sort_by_key(|j| j % 2 == 0),
             Order::Shuffled => rng.shuffle(&mut segments),
         }
         segments
@@ -289,6 +292,8 @@ impl Build {
         let way = match ways {
             Ways::Forward => FORWARD,
             Ways::Reverse => REVERSE,
+            Ways::Alternating if self.job.way == REVERSE => FORWARD,
+            Ways::Alternating => REVERSE,
             Ways::Mixed => any_way(rng, 50),
         };
         self.accept(system.close(&self.job, way), "Close")

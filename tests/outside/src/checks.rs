@@ -9,12 +9,12 @@ use crate::rng::Rng;
 use crate::search;
 use crate::system::*;
 
-type Checked = Result<String, String>;
+pub type Checked = Result<String, String>;
 
 // The bytes of the shortest turn list that Plan takes.
-const LIST: usize = 254;
+pub const LIST: usize = 254;
 
-fn equal<T: PartialEq + std::fmt::Debug>(what: &str, got: T, right: T) -> Result<(), String> {
+pub fn equal<T: PartialEq + std::fmt::Debug>(what: &str, got: T, right: T) -> Result<(), String> {
     if got == right {
         Ok(())
     } else {
@@ -22,7 +22,7 @@ fn equal<T: PartialEq + std::fmt::Debug>(what: &str, got: T, right: T) -> Result
     }
 }
 
-fn stack(panes: &[i8]) -> Stack {
+pub fn stack(panes: &[i8]) -> Stack {
     let mut stack = NO_STACK;
     stack[..panes.len()].copy_from_slice(panes);
     stack
@@ -32,7 +32,7 @@ fn refused((refusal, call): Refused) -> String {
     format!("{call} refused {refusal}")
 }
 
-fn finished(system: &dyn System, fields: &Fields, manner: Manner, rng: &mut Rng) -> Result<Build, String> {
+pub fn finished(system: &dyn System, fields: &Fields, manner: Manner, rng: &mut Rng) -> Result<Build, String> {
     let mut build =
         Build::begin(system, fields, rng).map_err(|refusal| format!("Begin refused {refusal}: {fields:?}"))?;
     build.finish(system, manner, rng).map_err(|wrong| format!("{}: {fields:?} {manner:?}", refused(wrong)))?;
@@ -40,7 +40,7 @@ fn finished(system: &dyn System, fields: &Fields, manner: Manner, rng: &mut Rng)
 }
 
 // Fields with every turn.
-fn full(kind: u8, n: u8, wanted: Stack, size: u32, room: u32) -> Fields {
+pub fn full(kind: u8, n: u8, wanted: Stack, size: u32, room: u32) -> Fields {
     Fields { kind, n, wanted, groups: paper::full_set(kind, n), size, room }
 }
 
@@ -287,7 +287,7 @@ pub fn builds(system: &dyn System, seed: u64) -> Checked {
                     let is_short = stacks * whole.measures.segments < 100_000;
                     let is_tried = |manner: &Manner| match manner.ways {
                         Ways::Forward => true,
-                        Ways::Mixed => is_short || room == 16,
+                        Ways::Alternating | Ways::Mixed => is_short || room == 16,
                         Ways::Reverse => is_short,
                     };
                     for manner in MANNERS.into_iter().filter(is_tried) {
@@ -318,7 +318,7 @@ fn whole(system: &dyn System, fields: &Fields, rng: &mut Rng) -> Result<Build, S
 }
 
 // The plan of every stack, or of one in so many.
-fn plans_of(
+pub fn plans_of(
     system: &dyn System,
     build: &Build,
     distances: &search::Distances,

@@ -304,7 +304,7 @@ const TURN_3: Groups = 0b100;
 const BOTH: Groups = TURN_2 | TURN_3;
 
 // Two segments, of 4 and of 2 stacks, so that the last byte has spare entries.
-const SMALL: Fields =
+pub const SMALL: Fields =
     Fields { kind: PLAIN, n: 3, wanted: [1, 2, 3, 0, 0, 0, 0, 0, 0, 0, 0, 0], groups: BOTH, size: 4, room: 16 };
 const SMALL_LOGS: usize = 32;
 

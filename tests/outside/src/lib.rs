@@ -13,6 +13,8 @@ pub mod exchange;
 pub mod faulty;
 pub mod header;
 pub mod linked;
+pub mod literal;
+pub mod measured;
 pub mod ones;
 pub mod paper;
 pub mod pipe;

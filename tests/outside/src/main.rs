@@ -15,7 +15,7 @@ use outside::compare::{compare, compare_call, Tally};
 use outside::linked::{Library, LIBRARY};
 use outside::paper::PAPER;
 use outside::system::System;
-use outside::{caught, deliberate, header, ones, pipe, report_faults};
+use outside::{caught, deliberate, header, literal, measured, ones, pipe, report_faults};
 
 // A system that is held to the checks, and how far its builds go.
 struct Held {
@@ -132,6 +132,8 @@ fn main() -> ExitCode {
         fine &= report("header", header::compare);
         for Held { name, system, plain_to, coated_to, frames } in HELD {
             fine &= report(&format!("{name}, examples"), || checks::examples(system));
+            fine &= report(&format!("{name}, numbers"), || literal::rows(system));
+            fine &= report(&format!("{name}, measured builds"), || measured::rows(system));
             fine &= report(&format!("{name}, numbering"), || checks::numbering(system));
             fine &= report(&format!("{name}, builds"), || checks::builds(system, options.seed));
             fine &= report(&format!("{name}, limited sets"), || checks::limited(system, options.seed));
@@ -140,6 +142,7 @@ fn main() -> ExitCode {
             fine &= report(&format!("{name}, last level"), || checks::late(system));
             fine &= report(&format!("{name}, diameters"), || checks::diameters(system, plain_to, coated_to));
         }
+        fine &= report("library, builds of many orders", || measured::builds(&LIBRARY));
         fine &= report("comparison", || caught::by_families(options.seed));
         fine &= report("limits", caught::limits);
         fine &= report("orders", caught::orders);

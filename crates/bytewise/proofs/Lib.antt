@@ -1,2 +1,0 @@
--- What the numbers of a stack are bounded by.
-pub mod Digits
