@@ -5,9 +5,9 @@ use mathlib.Core.Bool.{Bool, true, false, cond}
 use Prim.Native.Nat.{ℕ}
 use Rattle.search.specs.PromiseCalls.{StandsAlone}
 use Rattle.search.specs.declared.Job.{Job}
-use Rattle.hokrund.specs.Mirror.{isJob, cleared, jobOf, mirrorOf}
-use Rattle.hokrund.specs.declared.mirror.HokrundJob.{HokrundJob}
-use Rattle.hokrund.proofs.MirrorLaws.{job-mirror, mirror-is, mirror-job, cleared-is, cleared-job}
+use Rattle.mirror.specs.Mirror.{isJob, cleared, jobOf, mirrorOf}
+use Rattle.mirror.specs.declared.HokrundJob.{HokrundJob}
+use Rattle.mirror.proofs.MirrorLaws.{job-mirror, mirror-is, mirror-job, cleared-is, cleared-job}
 use Rattle.exports.specs.Mirrored.{Mirrored, Given}
 
 -- what stands alone does so by any other name

@@ -3,8 +3,8 @@
 use mathlib.Core.Path.{_≡_}
 use Prim.Native.Nat.{ℕ}
 use Rattle.search.specs.declared.Job.{Job}
-use Rattle.hokrund.specs.Mirror.{cleared, mirrorOf}
-use Rattle.hokrund.specs.declared.mirror.HokrundJob.{HokrundJob}
+use Rattle.mirror.specs.Mirror.{cleared, mirrorOf}
+use Rattle.mirror.specs.declared.HokrundJob.{HokrundJob}
 
 pub record Mirrored {X : Type 0} (m : HokrundJob) (done : Job → X) (refusal : X → ℕ) (beside : ℕ → X) (r : X) : Type 0 where
   pub of-job : (job : Job) → cleared m ≡ mirrorOf job → r ≡ done job

@@ -2,11 +2,11 @@
 ghost use lib.ListN.{take, drop};
 ghost use Rattle.exports.specs.Outcomes.{Begins, Blanks, Expands, Settles, Loads, Sweeps, Looks, Closes};
 use hokrund::job_calls;
-use hokrund::mirror::HokrundAnswer;
-use hokrund::mirror::HokrundExpanded;
-use hokrund::mirror::HokrundJob;
-use hokrund::mirror::HokrundLook;
-use hokrund::mirror::HokrundStack;
+use mirror::HokrundAnswer;
+use mirror::HokrundExpanded;
+use mirror::HokrundJob;
+use mirror::HokrundLook;
+use mirror::HokrundStack;
 
 pub fn begin(
     kind: u8,

@@ -1,11 +1,11 @@
 // Index of a stack, Stack at an index and Turn.
 ghost use mathlib.Core.Path.{_≡_};
 ghost use Rattle.stacks.specs.Operations.{indexOf, stackOf, turnedOf};
-ghost use Rattle.hokrund.specs.Mirror.{indexedOf, stackedOf};
-use hokrund::mirror::HokrundIndexed;
-use hokrund::mirror::HokrundStack;
-use hokrund::mirror::HokrundStacked;
+ghost use Rattle.mirror.specs.Mirror.{indexedOf, stackedOf};
 use hokrund::stack_calls;
+use mirror::HokrundIndexed;
+use mirror::HokrundStack;
+use mirror::HokrundStacked;
 
 pub fn index_of_stack(kind: u8, n: u8, stack: HokrundStack) -> HokrundIndexed
     ensures { λ r. ⌜ r ≡ indexedOf (indexOf kind n (stack .places)) ⌝ }

@@ -1,14 +1,14 @@
 // Build the whole table, Read an entry, Plan, and Price.
 ghost use mathlib.Core.Path.{_≡_};
 ghost use Rattle.search.specs.Read.{readOf};
-ghost use Rattle.hokrund.specs.Mirror.{entryReadOf};
+ghost use Rattle.mirror.specs.Mirror.{entryReadOf};
 ghost use Rattle.exports.specs.Outcomes.{Builds, Plans, Prices};
-use hokrund::mirror::HokrundAnswer;
-use hokrund::mirror::HokrundEntry;
-use hokrund::mirror::HokrundPlanned;
-use hokrund::mirror::HokrundPriced;
-use hokrund::mirror::HokrundStack;
 use hokrund::table_calls;
+use mirror::HokrundAnswer;
+use mirror::HokrundEntry;
+use mirror::HokrundPlanned;
+use mirror::HokrundPriced;
+use mirror::HokrundStack;
 use tariff::Tariff;
 
 pub fn build_table(

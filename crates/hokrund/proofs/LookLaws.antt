@@ -10,8 +10,8 @@ use Rattle.search.specs.JobState.{waitingOf}
 use Rattle.search.specs.Look.{lookOf}
 use Rattle.search.specs.Logs.{logPart, pending}
 use Rattle.search.specs.declared.Job.{Job}
-use Rattle.hokrund.specs.Mirror.{lookedOf, lookedAt}
-use Rattle.hokrund.specs.declared.mirror.HokrundLook.{HokrundLook}
+use Rattle.mirror.specs.Mirror.{lookedOf, lookedAt}
+use Rattle.mirror.specs.declared.HokrundLook.{HokrundLook}
 
 -- as many elements as the front has are the front
 take-again : (w : ℕ) (xs : List ℕ) → take (length (take w xs)) xs ≡ take w xs

@@ -17,15 +17,15 @@ use Rattle.tariff.specs.Promise.{PriceKeeps}
 use Rattle.tariff.specs.declared.Tariff.{Tariff}
 use Rattle.tariff.proofs.PriceLaws as laws
 use Rattle.hokrund.specs.Calls.{givenBack, blankCall, expandCall, settleCall, loadCall, sweepCall, lookCall, closeCall, buildCall, planCall, priceCall}
-use Rattle.hokrund.specs.Mirror.{wayOf, isJob, cleared, jobOf, mirrorOf, answerOf, expandedOf, lookedOf, lookedAt, plannedOf, pricedOf, oneLent, twoLent, threeLent}
-use Rattle.hokrund.specs.declared.mirror.HokrundAnswer.{HokrundAnswer}
-use Rattle.hokrund.specs.declared.mirror.HokrundExpanded.{HokrundExpanded}
-use Rattle.hokrund.specs.declared.mirror.HokrundJob.{HokrundJob}
-use Rattle.hokrund.specs.declared.mirror.HokrundLook.{HokrundLook}
-use Rattle.hokrund.specs.declared.mirror.HokrundPlanned.{HokrundPlanned}
-use Rattle.hokrund.specs.declared.mirror.HokrundPriced.{HokrundPriced}
-use Rattle.hokrund.specs.declared.mirror.HokrundStack.{HokrundStack}
-use Rattle.hokrund.proofs.MirrorLaws.{mirror-job}
+use Rattle.mirror.specs.Mirror.{wayOf, isJob, cleared, jobOf, mirrorOf, answerOf, expandedOf, lookedOf, lookedAt, plannedOf, pricedOf, oneLent, twoLent, threeLent}
+use Rattle.mirror.specs.declared.HokrundAnswer.{HokrundAnswer}
+use Rattle.mirror.specs.declared.HokrundExpanded.{HokrundExpanded}
+use Rattle.mirror.specs.declared.HokrundJob.{HokrundJob}
+use Rattle.mirror.specs.declared.HokrundLook.{HokrundLook}
+use Rattle.mirror.specs.declared.HokrundPlanned.{HokrundPlanned}
+use Rattle.mirror.specs.declared.HokrundPriced.{HokrundPriced}
+use Rattle.mirror.specs.declared.HokrundStack.{HokrundStack}
+use Rattle.mirror.proofs.MirrorLaws.{mirror-job}
 
 -- of an outcome by a test, where it holds for either
 alone : {X : Type 0} (refusal : X → ℕ) (beside : ℕ → X) (t : Bool) (done none : X) → none ≡ beside (refusal none)

@@ -1,6 +1,6 @@
 -- A call that wraps an operation: the operation's answer is converted.
 use mathlib.Core.Path.{_≡_, ap, _∙_}
-use Rattle.hokrund.specs.Mirror.{oneLent, twoLent, threeLent}
+use Rattle.mirror.specs.Mirror.{oneLent, twoLent, threeLent}
 
 -- what is lent comes back as the operation leaves it, and its answer b is converted to c
 pub converted : {A B C : Type 0} (f : B → C) (s : A) (b : B) (c : C) (out : A × B) → _≡_ {A = A × B} (s, b) out → c ≡ f b → _≡_ {A = A × C} (s, c) (oneLent f out)

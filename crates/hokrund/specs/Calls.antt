@@ -15,14 +15,14 @@ use Rattle.search.specs.Settle.{settleOf}
 use Rattle.search.specs.Sweep.{sweepOf}
 use Rattle.tariff.specs.Price.{priceOf}
 use Rattle.tariff.specs.declared.Tariff.{Tariff}
-use Rattle.hokrund.specs.Mirror.{wayOf, isJob, cleared, jobOf, answerOf, expandedOf, lookedAt, plannedOf, pricedOf, oneLent, twoLent, threeLent}
-use Rattle.hokrund.specs.declared.mirror.HokrundAnswer.{HokrundAnswer}
-use Rattle.hokrund.specs.declared.mirror.HokrundExpanded.{HokrundExpanded}
-use Rattle.hokrund.specs.declared.mirror.HokrundJob.{HokrundJob}
-use Rattle.hokrund.specs.declared.mirror.HokrundLook.{HokrundLook}
-use Rattle.hokrund.specs.declared.mirror.HokrundPlanned.{HokrundPlanned}
-use Rattle.hokrund.specs.declared.mirror.HokrundPriced.{HokrundPriced}
-use Rattle.hokrund.specs.declared.mirror.HokrundStack.{HokrundStack}
+use Rattle.mirror.specs.Mirror.{wayOf, isJob, cleared, jobOf, answerOf, expandedOf, lookedAt, plannedOf, pricedOf, oneLent, twoLent, threeLent}
+use Rattle.mirror.specs.declared.HokrundAnswer.{HokrundAnswer}
+use Rattle.mirror.specs.declared.HokrundExpanded.{HokrundExpanded}
+use Rattle.mirror.specs.declared.HokrundJob.{HokrundJob}
+use Rattle.mirror.specs.declared.HokrundLook.{HokrundLook}
+use Rattle.mirror.specs.declared.HokrundPlanned.{HokrundPlanned}
+use Rattle.mirror.specs.declared.HokrundPriced.{HokrundPriced}
+use Rattle.mirror.specs.declared.HokrundStack.{HokrundStack}
 
 -- beside the refusal of a call on a job
 abbrev pub givenBack : HokrundJob → ℕ → HokrundAnswer

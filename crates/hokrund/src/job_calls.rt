@@ -4,19 +4,18 @@ ghost use mathlib.Core.Path.{_≡_};
 ghost use lib.ListN.{take, drop};
 ghost use Rattle.search.specs.Begin.{beginOf};
 ghost use Rattle.search.specs.Terms.{termsOf};
-ghost use Rattle.hokrund.specs.Mirror.{answerOf};
+ghost use Rattle.mirror.specs.Mirror.{answerOf};
 ghost use Rattle.hokrund.specs.Calls.{blankCall, expandCall, settleCall, loadCall, sweepCall, lookCall, closeCall};
-use crate::mirror;
-use crate::mirror::HokrundAnswer;
-use crate::mirror::HokrundExpanded;
-use crate::mirror::HokrundJob;
-use crate::mirror::HokrundLook;
-use crate::mirror::HokrundStack;
 use calls::blank;
 use calls::load;
 use calls::look;
 use calls::settle;
 use job::begin;
+use mirror::HokrundAnswer;
+use mirror::HokrundExpanded;
+use mirror::HokrundJob;
+use mirror::HokrundLook;
+use mirror::HokrundStack;
 use search::Terms;
 
 #[no_mangle]

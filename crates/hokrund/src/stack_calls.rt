@@ -1,10 +1,10 @@
 // Index of a stack, Stack at an index and Turn.
 ghost use mathlib.Core.Path.{_≡_};
 ghost use Rattle.stacks.specs.Operations.{indexOf, stackOf, turnedOf};
-ghost use Rattle.hokrund.specs.Mirror.{indexedOf, stackedOf};
-use crate::mirror::HokrundIndexed;
-use crate::mirror::HokrundStack;
-use crate::mirror::HokrundStacked;
+ghost use Rattle.mirror.specs.Mirror.{indexedOf, stackedOf};
+use mirror::HokrundIndexed;
+use mirror::HokrundStack;
+use mirror::HokrundStacked;
 use perm::operations;
 use stacks::Stacked;
 

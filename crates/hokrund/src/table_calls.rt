@@ -1,14 +1,13 @@
 // Build the whole table, Read an entry, Plan, and Price.
 ghost use mathlib.Core.Path.{_≡_};
 ghost use Rattle.search.specs.Read.{readOf};
-ghost use Rattle.hokrund.specs.Mirror.{entryReadOf};
+ghost use Rattle.mirror.specs.Mirror.{entryReadOf};
 ghost use Rattle.hokrund.specs.Calls.{buildCall, planCall, priceCall};
-use crate::mirror;
-use crate::mirror::HokrundAnswer;
-use crate::mirror::HokrundEntry;
-use crate::mirror::HokrundPlanned;
-use crate::mirror::HokrundPriced;
-use crate::mirror::HokrundStack;
+use mirror::HokrundAnswer;
+use mirror::HokrundEntry;
+use mirror::HokrundPlanned;
+use mirror::HokrundPriced;
+use mirror::HokrundStack;
 use search::Terms;
 use tariff::Tariff;
 

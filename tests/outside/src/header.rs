@@ -12,7 +12,8 @@ const RECORD: &str = "include/interface.txt";
 
 // What the library exports, and where the other structs and the limits that it names stand.
 const EXPORTS: &str = "crates/hokrund/src";
-const BELOW: [&str; 3] = ["crates/stacks/src/lib.rt", "crates/search/src/lib.rt", "crates/tariff/src/lib.rt"];
+const BELOW: [&str; 4] =
+    ["crates/stacks/src/lib.rt", "crates/search/src/lib.rt", "crates/tariff/src/lib.rt", "crates/mirror/src/lib.rt"];
 
 // What stands around the declarations. Anything else might hide one of them from a compiler.
 const AROUND: [&str; 6] = [

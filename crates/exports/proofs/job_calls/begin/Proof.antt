@@ -1,7 +1,7 @@
 -- `exports::job_calls::begin` meets its contract: what the export states.
 use Rattle.search.specs.Begin.{begun}
 use Rattle.search.specs.JobState.{levelOf}
-use Rattle.hokrund.specs.Mirror.{phaseNumber, wayNumber, mirrorOf}
+use Rattle.mirror.specs.Mirror.{phaseNumber, wayNumber, mirrorOf}
 use Rattle.hokrund.proofs.Refused.{begin-keeps}
 use Rattle.exports.proofs.Mirrors.{given}
 use borrow.Author.Needs.{needs}

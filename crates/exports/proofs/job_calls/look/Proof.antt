@@ -1,5 +1,5 @@
 -- `exports::job_calls::look` meets its contract: what the export states, of the job whose mirror it is given.
-use Rattle.hokrund.specs.Mirror.{jobOf}
+use Rattle.mirror.specs.Mirror.{jobOf}
 use Rattle.hokrund.specs.Calls.{lookCall}
 use Rattle.hokrund.proofs.Refused.{look-keeps}
 use Rattle.exports.proofs.Mirrors.{mirrored}

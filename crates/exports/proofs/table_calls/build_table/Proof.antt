@@ -2,7 +2,7 @@
 use Rattle.search.specs.Begin.{begun}
 use Rattle.search.specs.JobState.{levelOf}
 use Rattle.hokrund.specs.Calls.{buildCall}
-use Rattle.hokrund.specs.Mirror.{phaseNumber, wayNumber, mirrorOf}
+use Rattle.mirror.specs.Mirror.{phaseNumber, wayNumber, mirrorOf}
 use Rattle.hokrund.proofs.Refused.{build-keeps}
 use Rattle.exports.proofs.Mirrors.{given}
 use borrow.Author.Needs.{needs}

@@ -1,6 +1,6 @@
 -- `hokrund::job_calls::hokrund_begin` meets its contract: the answer of the operation, converted.
 use mathlib.Core.Path.{ap, _∙_}
-use Rattle.hokrund.specs.Mirror.{answerOf}
+use Rattle.mirror.specs.Mirror.{answerOf}
 use borrow.Author.Needs.{needs}
 use Rattle.hokrund.proofs.job_calls.hokrund_begin.Statement.{statement}
 use Rattle.hokrund.proofs.job_calls.hokrund_begin.Tie as tie

@@ -2,7 +2,7 @@
 use mathlib.Core.Path.{refl, sym, ap, ap₂, _∙_}
 use borrow.Author.Tests.{not-true, not-false}
 use Rattle.search.specs.Close.{closeOf}
-use Rattle.hokrund.specs.Mirror.{answerOf}
+use Rattle.mirror.specs.Mirror.{answerOf}
 use Rattle.hokrund.specs.Calls.{closeCall}
 use borrow.Author.Needs.{needs}
 use Rattle.hokrund.proofs.job_calls.hokrund_close.Statement.{statement}

@@ -2,7 +2,7 @@
 use mathlib.Core.Path.{refl, sym, _∙_}
 use borrow.Author.Tests.{not-true, not-false}
 use Rattle.search.specs.Expand.{expandOf}
-use Rattle.hokrund.specs.Mirror.{expandedOf}
+use Rattle.mirror.specs.Mirror.{expandedOf}
 use Rattle.hokrund.specs.Calls.{expandCall}
 use Rattle.hokrund.proofs.Wrapped.{converted-2}
 use borrow.Author.Needs.{needs}

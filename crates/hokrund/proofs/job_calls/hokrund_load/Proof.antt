@@ -2,7 +2,7 @@
 use mathlib.Core.Path.{refl, sym, _∙_}
 use borrow.Author.Tests.{not-true, not-false}
 use Rattle.search.specs.Load.{loadOf}
-use Rattle.hokrund.specs.Mirror.{answerOf}
+use Rattle.mirror.specs.Mirror.{answerOf}
 use Rattle.hokrund.specs.Calls.{loadCall}
 use Rattle.hokrund.proofs.Wrapped.{converted}
 use borrow.Author.Needs.{needs}

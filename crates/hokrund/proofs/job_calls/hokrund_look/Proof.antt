@@ -6,7 +6,7 @@ use native.Mathlib.Nat.{mul-le-mul}
 use native.Mathlib.Omega.{arith}
 use Rattle.search.specs.Look.{lookOf}
 use Rattle.search.specs.declared.Job.{Job}
-use Rattle.hokrund.specs.Mirror.{jobOf}
+use Rattle.mirror.specs.Mirror.{jobOf}
 use Rattle.hokrund.specs.Calls.{lookCall}
 use Rattle.hokrund.proofs.LookLaws.{looked, not-looked}
 use borrow.Author.Needs.{needs}

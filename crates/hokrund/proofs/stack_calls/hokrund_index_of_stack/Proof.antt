@@ -1,6 +1,6 @@
 -- `hokrund::stack_calls::hokrund_index_of_stack` meets its contract: the answer of the operation, converted.
 use mathlib.Core.Path.{ap}
-use Rattle.hokrund.specs.Mirror.{indexedOf}
+use Rattle.mirror.specs.Mirror.{indexedOf}
 use borrow.Author.Needs.{needs}
 use Rattle.hokrund.proofs.stack_calls.hokrund_index_of_stack.Statement.{statement}
 use Rattle.hokrund.proofs.stack_calls.hokrund_index_of_stack.Tie as tie

@@ -1,6 +1,6 @@
 -- `hokrund::stack_calls::hokrund_turn` meets its contract: the answer of the operation, converted.
 use mathlib.Core.Path.{ap, _∙_}
-use Rattle.hokrund.specs.Mirror.{stackedOf}
+use Rattle.mirror.specs.Mirror.{stackedOf}
 use borrow.Author.Needs.{needs}
 use Rattle.hokrund.proofs.stack_calls.hokrund_turn.Statement.{statement}
 use Rattle.hokrund.proofs.stack_calls.hokrund_turn.Tie as tie

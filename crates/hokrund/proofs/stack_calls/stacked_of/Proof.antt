@@ -1,6 +1,6 @@
 -- `hokrund::stack_calls::stacked_of` meets its contract: field by field.
 use mathlib.Core.Path.{refl}
-use Rattle.hokrund.specs.Mirror.{stackedOf}
+use Rattle.mirror.specs.Mirror.{stackedOf}
 use Rattle.hokrund.proofs.stack_calls.stacked_of.Statement.{statement}
 use Rattle.hokrund.proofs.stack_calls.stacked_of.Tie as tie
 

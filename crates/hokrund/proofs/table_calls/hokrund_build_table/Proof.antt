@@ -1,5 +1,5 @@
 -- `hokrund::table_calls::hokrund_build_table` meets its contract: the outcome of the operation, its answer converted.
-use Rattle.hokrund.specs.Mirror.{answerOf}
+use Rattle.mirror.specs.Mirror.{answerOf}
 use Rattle.hokrund.specs.Calls.{buildCall}
 use Rattle.hokrund.proofs.Wrapped.{converted-3}
 use borrow.Author.Needs.{needs}

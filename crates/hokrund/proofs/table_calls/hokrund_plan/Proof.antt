@@ -1,6 +1,6 @@
 -- `hokrund::table_calls::hokrund_plan` meets its contract: the outcome of the operation, its answer converted.
 use mathlib.Core.Path.{refl}
-use Rattle.hokrund.specs.Mirror.{plannedOf}
+use Rattle.mirror.specs.Mirror.{plannedOf}
 use Rattle.hokrund.specs.Calls.{planCall}
 use Rattle.hokrund.proofs.Wrapped.{converted}
 use borrow.Author.Needs.{needs}

@@ -1,6 +1,6 @@
 -- `hokrund::table_calls::hokrund_price` meets its contract: the outcome of the operation, its answer converted.
 use mathlib.Core.Path.{refl}
-use Rattle.hokrund.specs.Mirror.{pricedOf}
+use Rattle.mirror.specs.Mirror.{pricedOf}
 use Rattle.hokrund.specs.Calls.{priceCall}
 use Rattle.hokrund.proofs.Wrapped.{converted}
 use borrow.Author.Needs.{needs}

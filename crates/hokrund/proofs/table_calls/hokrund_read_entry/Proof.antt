@@ -1,6 +1,6 @@
 -- `hokrund::table_calls::hokrund_read_entry` meets its contract: the answer of the operation, converted.
 use mathlib.Core.Path.{ap}
-use Rattle.hokrund.specs.Mirror.{entryReadOf}
+use Rattle.mirror.specs.Mirror.{entryReadOf}
 use borrow.Author.Needs.{needs}
 use Rattle.hokrund.proofs.table_calls.hokrund_read_entry.Statement.{statement}
 use Rattle.hokrund.proofs.table_calls.hokrund_read_entry.Tie as tie

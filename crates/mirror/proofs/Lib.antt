@@ -1,0 +1,2 @@
+-- Laws of the mirror.
+pub mod MirrorLaws
