@@ -90,7 +90,7 @@ module _ (kind n : ℕ) (wanted : List ℤ) (S C : ℕ) (w : World) (f : Finishe
 begun-low : (terms : Terms) → beginRefusal terms ≡ 0 → terms .kind < 2
 begun-low terms begins = KindLaws.kind-low (terms .kind) (Coherence.begin-given begins .is-kind)
 
-module _ (kind n : ℕ) (wanted : List ℤ) (S C : ℕ) (segments : List (List ℕ)) (log changed : List ℕ) (low : kind < 2)
+module _ (kind n : ℕ) (wanted : List ℤ) (S C : ℕ) (segments : List (List ℕ)) (log changed : List ℕ)
     (begins : beginRefusal (termsOf kind n wanted (allGroups kind n) S C) ≡ 0)
     (buffers : Buffers (termsOf kind n wanted (allGroups kind n) S C) segments log) where
   abbrev terms : Terms
@@ -102,7 +102,7 @@ module _ (kind n : ℕ) (wanted : List ℤ) (S C : ℕ) (segments : List (List �
   module _ (calls : List (Call (rightLengths terms))) where
     promise : Promise terms (rightLengths terms) start calls
     unfolding WholeBuild start
-    promise = AllTurns.whole-build terms segments log changed begins (MoveLaws.undoes-itself kind low) refl buffers calls
+    promise = AllTurns.whole-build terms segments log changed begins (MoveLaws.undoes-itself kind (begun-low terms begins)) refl buffers calls
 
     by-close : isFinished (after start calls .job .phase) ≡ true → FinishedByClose start calls
     by-close = promise .by-close

@@ -2,11 +2,12 @@
 use mathlib.Core.Path.{_≡_, refl}
 use mathlib.Core.Bool.{true}
 use mathlib.Core.List.{List}
-use Prim.Native.Nat.{ℕ, _<_}
+use Prim.Native.Nat.{ℕ}
 use lib.IntN.{ℤ}
 use lib.ListN.{length}
 use Rattle.stacks.specs.Stack.{isStack}
 use Rattle.stacks.specs.Turn.{allGroups}
+use Rattle.stacks.proofs.KindLaws
 use Rattle.stacks.proofs.MoveLaws
 use Rattle.search.specs.Build.{World}
 use Rattle.search.specs.Drive.{buildRefusal, buildOf, ended, built, Builds}
@@ -51,10 +52,12 @@ module _ (kind n : ℕ) (wanted : List ℤ) (groups S C : ℕ) (table log list :
   unfolding end
   lengths = (builds .table-length, builds .log-length, builds .list-length)
 
--- by the full set of plain or coated turns, which undo themselves, it ends in a finished build
-build-finishes : (kind n : ℕ) (wanted : List ℤ) (S C : ℕ) (table log list : List ℕ) → kind < 2
+-- by the full set it ends in a finished build, as the kinds that Begin accepts have turns that undo themselves
+build-finishes : (kind n : ℕ) (wanted : List ℤ) (S C : ℕ) (table log list : List ℕ)
     → (let terms = termsOf kind n wanted (allGroups kind n) S C in
     buildRefusal terms (length table) (length log) (length list) ≡ 0
     → (let w = built terms table log list in (isFinished (w .job .phase) ≡ true) × Finishes terms w))
-build-finishes kind n wanted S C table log list low =
-    WholeTable.build-finishes (termsOf kind n wanted (allGroups kind n) S C) table log list (MoveLaws.undoes-itself kind low) refl
+build-finishes kind n wanted S C table log list accepted =
+    let terms = termsOf kind n wanted (allGroups kind n) S C in
+    let given = WholeTable.build-accepts terms (length table) (length log) (length list) accepted .given in
+    WholeTable.build-finishes terms table log list (MoveLaws.undoes-itself kind (KindLaws.kind-low kind (given .is-kind))) refl accepted

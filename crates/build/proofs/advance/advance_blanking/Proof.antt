@@ -20,8 +20,11 @@ first-open-requires : tie.Need-first-open-requires
 first-open-requires c κs = search needs
 
 -- the first open segment
+abbrev counted : tie.After-first-open → tie.After-segment-count-of
+counted c = c .before .before .before
+
 abbrev start : tie.After-first-open → tie.Start
-start c = c .before .before .before .before .before .before
+start c = counted c .before .before .before
 
 opened : (c : tie.After-first-open) → c .first-open .result ≡ firstOpen (start c .args .job)
 opened c =
@@ -44,13 +47,15 @@ same-length c = search needs
 returns : tie.Need-returns
 unfolding segmentCountOf stackCountOf
 returns c =
-    let o = c .before .before .before .before .before .before in
+    let made = c .before .before .before in
+    let found = made .before .before in
+    let o = found .before in
     let s = start o in
     let a = s .args in
-    let f = c .before .before .before .blank-part in
+    let f = made .blank-part in
     λ log list.
     advance-blanks (a .job) (a .table .now) log list (o .first-open .result) (opened o) (s .pre .2)
-    (omega (arith, opened o, o .before .before .before .segment-count-of .ensures .0, c .before .before .before .before .before .if1 .taken))
+    (omega (arith, opened o, o .before .before .before .segment-count-of .ensures .0, found .if1 .taken))
     (f .last .1 .1 .0, f .result)
     (f .ensures)
 

@@ -19,7 +19,7 @@ first-pending-requires c κs = search needs
 
 -- where the step began
 abbrev start : tie.After-first-pending → tie.Start
-start c = c .before .before .before .before .before .before
+start c = let counted = c .before .before in counted .before .before .before .before
 
 -- the first segment with entries waiting
 waited : (c : tie.After-first-pending) → c .first-pending .result ≡ firstPending (start c .args .job)
@@ -43,13 +43,15 @@ same-length-2 c = search needs
 returns : tie.Need-returns
 unfolding segmentCountOf stackCountOf
 returns c =
-    let o = c .before .before .before .before .before .before .before in
+    let made = c .before .before .before in
+    let found = made .before .before .before in
+    let o = found .before in
     let s = start o in
     let a = s .args in
-    let f = c .before .before .before .settle-part in
+    let f = made .settle-part in
     λ list.
     advance-settles (a .job) (a .table .now) (a .log .now) list (s .pre .2) (s .pre .3) (o .first-pending .result) (waited o)
-    (omega (arith, waited o, o .before .before .segment-count-of .ensures .0, c .before .before .before .before .before .before .if1 .taken))
+    (omega (arith, waited o, o .before .before .segment-count-of .ensures .0, found .if1 .taken))
     (f .last .1 .1 .0, f .result)
     (f .ensures)
 
@@ -93,13 +95,15 @@ same-length-4 c = search needs
 returns-2 : tie.Need-returns-2
 unfolding segmentCountOf stackCountOf
 returns-2 c =
-    let o = c .before .before .before .before .before .before .before .before .before in
+    let made = c .before .before .before .before .before in
+    let found = made .before .before .before in
+    let o = found .before in
     let s = start (pended o) in
     let a = s .args in
-    let f = c .before .before .before .before .before .expand-part in
+    let f = made .expand-part in
     λ list.
     advance-expands (a .job) (a .table .now) (a .log .now) list (s .pre .2) (s .pre .3) (o .first-open .result) (opened o) (settled o)
-    (omega (arith, opened o, pended o .before .before .segment-count-of .ensures .0, c .before .before .before .before .before .before .before .before .if2 .taken))
+    (omega (arith, opened o, pended o .before .before .segment-count-of .ensures .0, found .if2 .taken))
     (f .last .1 .1 .0, f .last .1 .1 .1 .0, f .result)
     (f .ensures)
 

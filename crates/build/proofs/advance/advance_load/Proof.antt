@@ -18,7 +18,7 @@ first-unswept-requires c κs = search needs
 
 -- the first segment with pairs left
 abbrev start : tie.After-first-unswept → tie.Start
-start c = c .before .before .before .before .before .before
+start c = let counted = c .before .before in counted .before .before .before .before
 
 left : (c : tie.After-first-unswept) → c .first-unswept .result ≡ firstUnswept (start c .args .job)
 left c =
@@ -38,14 +38,16 @@ same-length c = search needs
 returns : tie.Need-returns
 unfolding segmentCountOf stackCountOf
 returns c =
-    let o = c .before .before .before .before .before .before in
+    let made = c .before .before .before in
+    let found = made .before .before in
+    let o = found .before in
     let s = start o in
     let a = s .args in
     let level = s .pre .level in
-    let f = c .before .before .before .load-part in
+    let f = made .load-part in
     λ log.
     advance-loads (a .job) (a .table .now) log (a .list .now) (level .step .coherent) (level .step .bytes) (level .blanked) (level .reverse) (s .pre .none) (o .first-unswept .result) (left o)
-    (omega (arith, left o, o .before .before .segment-count-of .ensures .0, c .before .before .before .before .before .if1 .taken))
+    (omega (arith, left o, o .before .before .segment-count-of .ensures .0, found .if1 .taken))
     (f .last .1 .1 .1 .0, f .result)
     (f .ensures)
 

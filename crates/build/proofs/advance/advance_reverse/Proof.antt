@@ -78,14 +78,16 @@ same-length-4 c = search needs
 returns-2 : tie.Need-returns-2
 unfolding segmentCountOf stackCountOf
 returns-2 c =
-    let o = c .before .before .before .before .before .before .before in
+    let made = c .before .before .before in
+    let found = made .before .before .before in
+    let o = found .before in
     let s = start o in
     let a = s .args in
-    let f = c .before .before .before .sweep-part in
+    let f = made .sweep-part in
     λ log.
     advance-sweeps (a .job) (a .table .now) log (a .list .now) (s .pre .blanked) (s .pre .reverse) (loaded-some (a .job) (loaded o .if1 .left)) (o .first-pair .result)
     (paired o)
-    (omega (arith, paired o, o .before .before .segment-count-of .ensures .0, c .before .before .before .before .before .before .if2 .taken))
+    (omega (arith, paired o, o .before .before .segment-count-of .ensures .0, found .if2 .taken))
     (f .last .1 .1 .0, f .result)
     (f .ensures)
 

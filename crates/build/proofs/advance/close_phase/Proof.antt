@@ -15,7 +15,8 @@ returns : tie.Need-returns
 returns c =
     let f = c .before .close in
     let w = c .before .before .way-after in
-    closes-by (c .before .before .before .before .before .before .args .t1) (w .result) (f .result) (w .ensures) (f .ensures)
+    let told = c .before .before in
+    closes-by (told .before .before .before .before .args .t1) (w .result) (f .result) (w .ensures) (f .ensures)
 
 pub close-phase-spec : {M : Type 1} → statement M
 close-phase-spec = tie.close (tie.spec way-after-requires close-requires returns)

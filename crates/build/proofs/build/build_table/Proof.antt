@@ -19,6 +19,16 @@ Inv-loop table₀ log₀ list₀ refusal job₀ table log list job = Driving (jo
 abbrev μ-loop : tie.MeasureT-loop
 μ-loop table₀ log₀ list₀ refusal job₀ table log list job = workLeft (N (job₀ .terms)) (job₀ .terms .size) job
 
+-- where the build began; where the driver's step was made, and where it was found due
+abbrev start : tie.After-build-refusal Inv-loop μ-loop → tie.Start Inv-loop μ-loop
+start c = c .before .before .before .before
+
+abbrev stepped : tie.After-slice-known6 Inv-loop μ-loop → tie.After-advance Inv-loop μ-loop
+stepped c = c .before .before .before .before .before .before
+
+abbrev going : tie.After-advance Inv-loop μ-loop → tie.Then2 Inv-loop μ-loop
+going c = c .before .before .before .before
+
 build-refusal-requires : tie.Need-build-refusal-requires Inv-loop μ-loop
 build-refusal-requires c κs = search needs
 
@@ -27,29 +37,29 @@ no-job-requires c κs = search needs
 
 returns : tie.Need-returns Inv-loop μ-loop
 returns c =
-    let a = c .before .before .before .before .before .before .args in
+    let a = start (c .before .before) .args in
     let f = c .before .before .build-refusal in
     build-refused (a .terms) (a .table .now) (a .log .now) (a .list .now) (f .result) (f .ensures) (c .before .if1 .taken) (c .no-job .result) (c .no-job .ensures)
 
 -- what is not refused
-accepts : (c : tie.Else1 Inv-loop μ-loop) → let a = c .before .before .before .before .before .args in Accepts (a .terms) (length (a .table .now)) (length (a .log .now)) (length (a .list .now))
+accepts : (c : tie.Else1 Inv-loop μ-loop) → let a = start (c .before) .args in Accepts (a .terms) (length (a .table .now)) (length (a .log .now)) (length (a .list .now))
 accepts c =
-    let a = c .before .before .before .before .before .args in
+    let a = start (c .before) .args in
     build-accepts (a .terms) (length (a .table .now)) (length (a .log .now)) (length (a .list .now)) (sym (c .before .build-refusal .ensures) ∙ c .if1 .left)
 
 begun-job-requires : tie.Need-begun-job-requires Inv-loop μ-loop
 begun-job-requires c κs = search needs
 
 -- the job that the loop starts with
-first-job : (c : tie.After-begun-job Inv-loop μ-loop) → let a = c .before .before .before .before .before .before .args in
+first-job : (c : tie.After-begun-job Inv-loop μ-loop) → let a = start (c .before .before) .args in
     c .begun-job .result ≡ begun (a .terms)
 first-job c =
-    let a = c .before .before .before .before .before .before .args in
+    let a = start (c .before .before) .args in
     c .begun-job .ensures ∙ begin-accepted (a .terms) (a .table .now) (a .log .now) (a .list .now) (accepts (c .before))
 
 loop-holds : tie.Need-loop-holds Inv-loop μ-loop
 loop-holds c =
-    let a = c .before .before .before .before .before .before .args in
+    let a = start (c .before .before) .args in
     build-begins (a .terms) (a .table .now) (a .log .now) (a .list .now) (c .begun-job .result) (first-job c) (accepts (c .before))
 
 has-ended-requires : tie.Need-has-ended-requires Inv-loop μ-loop
@@ -65,42 +75,44 @@ goes-on c = let f = c .before .has-ended in sym (f .ensures) ∙ not-true (f .re
 
 loop-less : tie.Need-loop-less Inv-loop μ-loop
 loop-less c =
-    driving-falls (c .before .before .before .before .before .before .before .before .before .before .before .before .loop .inv) (c .before .before .before .before .before .before .advance .ensures) (goes-on (c .before .before .before .before .before .before .before .before .before .before))
+    let n = stepped c in
+    driving-falls (going n .before .before .loop .inv) (n .advance .ensures) (goes-on (going n))
 
 loop-again : tie.Need-loop-again Inv-loop μ-loop
 loop-again c =
-    driving-steps (c .before .before .before .before .before .before .before .before .before .before .before .before .loop .inv) (c .before .before .before .before .before .before .advance .ensures) (goes-on (c .before .before .before .before .before .before .before .before .before .before))
+    let n = stepped c in
+    driving-steps (going n .before .before .loop .inv) (n .advance .ensures) (goes-on (going n))
 
 -- the loop's build is that of the wanted stack
-wants : (c : tie.At-loop Inv-loop μ-loop) → let a = c .before .before .before .before .before .before .before .args in
+wants : (c : tie.At-loop Inv-loop μ-loop) → let a = start (c .before .before .before) .args in
     Driving (a .terms) (a .table .now) (a .log .now) (a .list .now)
     (storeOf (c .loop .job) (c .loop .table) (c .loop .log) (c .loop .list))
 wants c =
-    let a = c .before .before .before .before .before .before .before .args in
+    let a = start (c .before .before .before) .args in
     build-keeps (a .terms) (a .table .now) (a .log .now) (a .list .now) (first-job (c .before)) (c .loop .inv)
 
 same-length : tie.Need-same-length Inv-loop μ-loop
 same-length c =
     let l = c .before .before in
-    let a = l .before .before .before .before .before .before .before .args in
+    let a = start (l .before .before .before) .args in
     table-kept (a .terms) (a .table .now) (a .log .now) (a .list .now) (accepts (l .before .before)) (wants l)
 
 same-length-2 : tie.Need-same-length-2 Inv-loop μ-loop
 same-length-2 c =
     let l = c .before .before in
-    let a = l .before .before .before .before .before .before .before .args in
+    let a = start (l .before .before .before) .args in
     log-kept (a .terms) (a .table .now) (a .log .now) (a .list .now) (accepts (l .before .before)) (wants l)
 
 same-length-3 : tie.Need-same-length-3 Inv-loop μ-loop
 same-length-3 c =
     let l = c .before .before in
-    let a = l .before .before .before .before .before .before .before .args in
+    let a = start (l .before .before .before) .args in
     list-kept (a .terms) (a .table .now) (a .log .now) (a .list .now) (accepts (l .before .before)) (wants l)
 
 returns-2 : tie.Need-returns-2 Inv-loop μ-loop
 returns-2 c =
     let l = c .before .before in
-    let a = l .before .before .before .before .before .before .before .args in
+    let a = start (l .before .before .before) .args in
     let f = l .before .before .before .build-refusal in
     let end = c .before .has-ended in
     build-ends (a .terms) (a .table .now) (a .log .now) (a .list .now) (f .result) (f .ensures) (l .before .before .if1 .left) (wants l)

@@ -5,6 +5,10 @@ use Rattle.build.proofs.Parts.{part-small, part-within, expanded-in}
 use Rattle.build.proofs.part.expand_part.Statement.{statement}
 use Rattle.build.proofs.part.expand_part.Tie as tie
 
+-- where the part begins
+abbrev start : tie.After-part-end → tie.Start
+start c = c .before .before .before .before .before
+
 part-start-requires : tie.Need-part-start-requires
 part-start-requires c κs = let s = c .before .before .before in part-small (s .args .job) (s .args .j) (s .pre .0) (s .pre .1)
 
@@ -21,7 +25,7 @@ part-expand-start c = search needs
 
 part-expand-end : tie.Need-part-expand-end
 part-expand-end c =
-    let s = c .before .before .before .before .before in
+    let s = start c in
     part-within (s .args .job) (s .args .j) (s .pre .0) (s .pre .1) (c .before .part-start .result) (c .part-end .result) (s .args .table .now) (s .pre .2)
     (c .before .part-start .ensures)
     (c .part-end .ensures)
@@ -37,13 +41,15 @@ same-length-2 c = search needs
 
 returns : tie.Need-returns
 returns c =
-    let s = c .before .before .before .before .before .before .before .before .before .before .before .before in
+    let f = c .before .before .before .before in
+    let e = f .before .before .before in
+    let s = start e in
     let a = s .args in
-    let start = c .before .before .before .before .before .before .before .before .part-start in
-    let end = c .before .before .before .before .before .before .before .part-end in
-    let f = c .before .before .before .before .expand in
-    expanded-in (a .job) (a .j) (s .pre .0) (s .pre .1) (start .result) (end .result) (a .table .now) (s .pre .2) (start .ensures) (end .ensures)
-    (a .log .now) (f .last .1 .1 .0) (f .last .1 .1 .1 .0) (f .result) (f .ensures)
+    let first = e .before .part-start in
+    let end = e .part-end in
+    let done = f .expand in
+    expanded-in (a .job) (a .j) (s .pre .0) (s .pre .1) (first .result) (end .result) (a .table .now) (s .pre .2) (first .ensures) (end .ensures)
+    (a .log .now) (done .last .1 .1 .0) (done .last .1 .1 .1 .0) (done .result) (done .ensures)
 
 pub expand-part-spec : {M : Type 1} → statement M
 expand-part-spec =

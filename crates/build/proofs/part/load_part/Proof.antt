@@ -7,6 +7,10 @@ use borrow.Author.Needs.{needs}
 use Rattle.build.proofs.part.load_part.Statement.{statement}
 use Rattle.build.proofs.part.load_part.Tie as tie
 
+-- where the part begins
+abbrev start : tie.After-part-end → tie.Start
+start c = c .before .before .before .before .before
+
 part-start-requires : tie.Need-part-start-requires
 part-start-requires c κs = let s = c .before .before .before in part-small (s .args .job) (s .args .b) (s .pre .0) (s .pre .1)
 
@@ -26,20 +30,20 @@ part-load-start c = search needs
 
 part-load-end : tie.Need-part-load-end
 part-load-end c =
-    let s = c .before .before .before .before .before .before in
+    let s = start (c .before) in
     part-within (s .args .job) (s .args .b) (s .pre .0) (s .pre .1) (c .before .before .part-start .result) (c .before .part-end .result) (s .args .table .now) (s .pre .2)
     (c .before .before .part-start .ensures)
     (c .before .part-end .ensures)
 
 slice-relend-prefix-load : tie.Need-slice-relend-prefix-load
 slice-relend-prefix-load c =
-    let s = c .before .before .before .before .before .before .before in
+    let s = start (c .before .before) in
     let f = c .before .list-end in
     list-within (s .args .job) (s .args .b) (f .result) (f .ensures) (s .args .list .now) (s .pre .3)
 
 slice-aggregate-load : tie.Need-slice-aggregate-load
 slice-aggregate-load c =
-    let s = c .before .before .before .before .before .before .before .before in
+    let s = start (c .before .before .before) in
     let f = c .before .before .list-end in
     sym (length-take-le (f .result) (s .args .list .now)
     (list-within (s .args .job) (s .args .b) (f .result) (f .ensures) (s .args .list .now) (s .pre .3)))
@@ -52,14 +56,16 @@ same-length c = search needs
 
 returns : tie.Need-returns
 returns c =
-    let s = c .before .before .before .before .before .before .before .before .before .before .before in
+    let f = c .before .before in
+    let e = f .before .before .before .before in
+    let s = start e in
     let a = s .args in
-    let start = c .before .before .before .before .before .before .before .part-start in
-    let end = c .before .before .before .before .before .before .part-end in
-    let front = c .before .before .before .before .before .list-end in
-    let f = c .before .before .load in
-    loaded-in (a .job) (a .b) (s .pre .0) (s .pre .1) (start .result) (end .result) (a .table .now) (s .pre .2) (start .ensures) (end .ensures)
-    (a .list .now) (front .result) (f .last .1 .1 .1 .0) (f .result) (front .ensures) (f .ensures)
+    let first = e .before .part-start in
+    let end = e .part-end in
+    let front = f .before .before .before .list-end in
+    let done = f .load in
+    loaded-in (a .job) (a .b) (s .pre .0) (s .pre .1) (first .result) (end .result) (a .table .now) (s .pre .2) (first .ensures) (end .ensures)
+    (a .list .now) (front .result) (done .last .1 .1 .1 .0) (done .result) (front .ensures) (done .ensures)
 
 pub load-part-spec : {M : Type 1} → statement M
 load-part-spec =

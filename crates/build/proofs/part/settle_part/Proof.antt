@@ -7,6 +7,10 @@ use Rattle.build.proofs.Parts.{part-small, part-within, answered-in}
 use Rattle.build.proofs.part.settle_part.Statement.{statement}
 use Rattle.build.proofs.part.settle_part.Tie as tie
 
+-- where the part begins
+abbrev start : tie.After-part-end → tie.Start
+start c = c .before .before .before .before .before
+
 part-start-requires : tie.Need-part-start-requires
 part-start-requires c κs = let s = c .before .before .before in part-small (s .args .job) (s .args .j) (s .pre .0) (s .pre .1)
 
@@ -23,7 +27,7 @@ part-settle-start c = search needs
 
 part-settle-end : tie.Need-part-settle-end
 part-settle-end c =
-    let s = c .before .before .before .before .before in
+    let s = start c in
     part-within (s .args .job) (s .args .j) (s .pre .0) (s .pre .1) (c .before .part-start .result) (c .part-end .result) (s .args .table .now) (s .pre .2)
     (c .before .part-start .ensures)
     (c .part-end .ensures)
@@ -37,13 +41,15 @@ same-length c = search needs
 returns : tie.Need-returns
 unfolding settledIn
 returns c =
-    let s = c .before .before .before .before .before .before .before .before .before in
+    let f = c .before .before in
+    let e = f .before .before in
+    let s = start e in
     let a = s .args in
-    let start = c .before .before .before .before .before .part-start in
-    let end = c .before .before .before .before .part-end in
-    let f = c .before .before .settle in
-    answered-in (a .job) (a .j) (s .pre .0) (s .pre .1) (start .result) (end .result) (a .table .now) (s .pre .2) (start .ensures) (end .ensures)
-    (λ segment. settleOf (a .job) (a .j) segment (a .log .now)) (f .last .1 .1 .0) (f .result) (f .ensures)
+    let first = e .before .part-start in
+    let end = e .part-end in
+    let done = f .settle in
+    answered-in (a .job) (a .j) (s .pre .0) (s .pre .1) (first .result) (end .result) (a .table .now) (s .pre .2) (first .ensures) (end .ensures)
+    (λ segment. settleOf (a .job) (a .j) segment (a .log .now)) (done .last .1 .1 .0) (done .result) (done .ensures)
 
 pub settle-part-spec : {M : Type 1} → statement M
 settle-part-spec =

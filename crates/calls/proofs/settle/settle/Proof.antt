@@ -99,17 +99,17 @@ waits c =
 mark-all-requires : tie.Need-mark-all-requires
 unfolding countOf
 mark-all-requires c κs =
-    let found = c .before in
-    let w = found .before .before .before in
+    let o = c .before in
+    let w = o .before .before .before in
     let n = w .before in
     let v = n .before in
     let e = v .before in
     let a = start (e .before .before) .args in
     offsets-fit (a .job) (a .j) (a .segment .now) (a .log .now) (accepted e) (w .waiting-part .result .now) (waits w) (n .next-entry .result)
-    (found .found-at .result)
+    (o .found-at .result)
     (v .level-of .result)
     (rw (n .next-entry .ensures) (next-lt ((v .level-of .result - 1) % 3)))
-    (found .found-at .ensures)
+    (o .found-at .ensures)
 
 -- segment j has its place among the waiting numbers
 place : (c : tie.Else1) → let a = start (c .before .before) .args in a .j < segmentLimit
@@ -118,11 +118,18 @@ place c =
     let f = given c .called in
     segment-below (a .job) (f .coherent) (a .j) (f .inside)
 
+-- where the level's find was asked for and where nothing was refused, seen from the marks
+abbrev found : tie.After-mark-all → tie.After-found-at
+found m = m .before .before
+
+abbrev passed : tie.After-mark-all → tie.Else1
+passed m = let w = found m .before .before .before in w .before .before .before
+
 mul-next : tie.Need-mul-next
-mul-next c = omega (arith, place (c .before .before .before .before .before .before .before .before .before .before))
+mul-next c = omega (arith, place (passed (c .before .before)))
 
 element-write-next : tie.Need-element-write-next
-element-write-next c = place (c .before .before .before .before .before .before .before .before .before .before)
+element-write-next c = place (passed (c .before .before))
 
 put-found-requires : tie.Need-put-found-requires
 put-found-requires c κs = search needs
@@ -134,7 +141,7 @@ returns-2 : tie.Need-returns-2
 unfolding countOf progressed recounted
 returns-2 c =
     let m = c .before .before .before .before in
-    let o = m .before .before in
+    let o = found m in
     let w = o .before .before .before in
     let n = w .before in
     let v = n .before in

@@ -81,15 +81,15 @@ found-at-requires c κs = search needs
 expand-run-requires : tie.Need-expand-run-requires
 unfolding countOf
 expand-run-requires c κs =
-    let found = c .before .before .before in
-    let counted = found .before .before .before in
+    let o = c .before .before .before in
+    let counted = o .before .before .before in
     let scanned = counted .before in
     let leveled = scanned .before in
     let ok = leveled .before in
     let stood = ok .before .before in
     let s = start stood in
     let a = s .args in
-    run-given (a .job) (a .j) (a .segment .now) (a .log .now) (accepted ok) (leveled .level-of .ensures) (found .found-at .ensures) (scanned .scan-of .ensures)
+    run-given (a .job) (a .j) (a .segment .now) (a .log .now) (accepted ok) (leveled .level-of .ensures) (o .found-at .ensures) (scanned .scan-of .ensures)
     (counted .stack-count-at .ensures)
     (passed-is (stood .standing-of .result) (a .j) (a .job) (stands stood))
     (search (needs, s .good .0 .1 .1 .1 .1 .1 .1 .1 .0))
@@ -101,11 +101,21 @@ place c =
     let f = given c .called in
     segment-below (a .job) (f .coherent) (a .j) (f .inside)
 
+-- where the level's find and the stacks were asked for and where nothing was refused, seen from the run
+abbrev found : tie.After-expand-run → tie.After-found-at
+found ran = ran .before .before .before .before
+
+abbrev counts : tie.After-expand-run → tie.After-stack-count-at
+counts ran = found ran .before .before .before
+
+abbrev passed : tie.After-expand-run → tie.Else1
+passed ran = counts ran .before .before .before
+
 mul-next : tie.Need-mul-next
-mul-next c = omega (arith, place (c .before .before .before .before .before .before .before .before .before .before .before .before .before .before))
+mul-next c = omega (arith, place (passed (c .before .before .before .before)))
 
 element-write-next : tie.Need-element-write-next
-element-write-next c = place (c .before .before .before .before .before .before .before .before .before .before .before .before .before .before)
+element-write-next c = place (passed (c .before .before .before .before))
 
 put-found-requires : tie.Need-put-found-requires
 put-found-requires c κs = search needs
@@ -120,8 +130,7 @@ returns-2 : tie.Need-returns-2
 unfolding countOf expandedJob progressed recounted
 returns-2 c =
     let ran = c .before .before .before .before .before .before in
-    let found = ran .before .before .before .before in
-    let counted = found .before .before .before in
+    let counted = counts ran in
     let scanned = counted .before in
     let leveled = scanned .before in
     let ok = leveled .before in
@@ -131,7 +140,7 @@ returns-2 c =
     let reached = ran .expand-run .result in
     let waiting = ran .expand-run .last .1 .1 .1 .1 .1 .1 .0 in
     let left : List ℕ → Job = λ counts. progressed (recounted job counts) (job .phase) (set (job .passed) (a .j) (reached .at)) waiting in
-    answer-is job (a .j) (a .segment .now) (a .log .now) (accepted ok) (leveled .level-of .ensures) (found .found-at .ensures) (scanned .scan-of .ensures)
+    answer-is job (a .j) (a .segment .now) (a .log .now) (accepted ok) (leveled .level-of .ensures) (found ran .found-at .ensures) (scanned .scan-of .ensures)
     (counted .stack-count-at .ensures)
     (passed-is (stood .standing-of .result) (a .j) job (stands stood))
     reached

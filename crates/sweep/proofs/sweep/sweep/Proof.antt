@@ -82,8 +82,8 @@ found-at-requires c κs = search needs
 sweep-run-requires : tie.Need-sweep-run-requires
 unfolding countOf
 sweep-run-requires c κs =
-    let found = c .before in
-    let w = found .before .before .before in
+    let o = c .before in
+    let w = o .before .before .before in
     let k = w .before in
     let v = k .before .before in
     let e = v .before in
@@ -92,17 +92,27 @@ sweep-run-requires c κs =
     let s = stood .standing-of in
     run-fits (a .job) (a .j) (a .segment .now) (a .list .now) (accepted e) (s .result .loaded) (v .level-of .result) (k .next-entry .result) (w .stack-count-at .result)
     (loaded-is (s .result) (a .j) (a .job) (stands stood)) (v .level-of .ensures) (k .next-entry .ensures) (w .stack-count-at .ensures)
-    (found .found-at .result) (found .found-at .ensures)
+    (o .found-at .result) (o .found-at .ensures)
+
+-- where the level's find and the stacks were asked for and where nothing was refused, seen from the run
+abbrev found : tie.After-sweep-run → tie.After-found-at
+found m = m .before .before
+
+abbrev counted : tie.After-sweep-run → tie.After-stack-count-at
+counted m = found m .before .before .before
+
+abbrev passed : tie.After-sweep-run → tie.Else1
+passed m = counted m .before .before .before .before
 
 shl-next : tie.Need-shl-next
 shl-next c =
-    let e = c .before .before .before .before .before .before .before .before .before .before .before in
+    let e = passed (c .before .before) in
     let a = start (e .before .before) .args in
     sweep-below (a .job) (a .j) (a .segment .now) (a .list .now) (accepted e)
 
 add-next : tie.Need-add-next
 add-next c =
-    let e = c .before .before .before .before .before .before .before .before .before .before .before .before in
+    let e = passed (c .before .before .before) in
     let a = start (e .before .before) .args in
     let stood = e .before .before in
     let s = stood .standing-of in
@@ -116,7 +126,7 @@ mul-next c = search needs
 
 element-write-next : tie.Need-element-write-next
 element-write-next c =
-    let e = c .before .before .before .before .before .before .before .before .before .before .before .before in
+    let e = passed (c .before .before .before) in
     let a = start (e .before .before) .args in
     let stood = e .before .before in
     let s = stood .standing-of in
@@ -132,8 +142,7 @@ returns-2 : tie.Need-returns-2
 unfolding countOf directed progressed recounted
 returns-2 c =
     let m = c .before .before .before .before .before in
-    let found = m .before .before in
-    let w = found .before .before .before in
+    let w = counted m in
     let k = w .before in
     let v = k .before .before in
     let e = v .before in
@@ -146,8 +155,8 @@ returns-2 c =
     (v .level-of .ensures)
     (k .next-entry .ensures)
     (w .stack-count-at .ensures)
-    (found .found-at .result)
-    (found .found-at .ensures)
+    (found m .found-at .result)
+    (found m .found-at .ensures)
     (s .result .swept)
     (swept-is (s .result) (a .j) job (stands stood))
     (m .sweep-run .result)
