@@ -1,7 +1,11 @@
 // Build the whole table.
 ghost use mathlib.Core.Path.{_≡_};
+ghost use lib.ListN.{length};
+ghost use Rattle.base.specs.Words.{all};
 ghost use Rattle.search.specs.Begin.{beginOf};
 ghost use Rattle.search.specs.Drive.{hasEnded, buildRefusal, buildOf};
+ghost use Rattle.search.specs.JobState.{countFits, countPlaces};
+ghost use Rattle.job.specs.Standing.{Has};
 use crate::advance;
 use job::begin;
 use job::coherence;
@@ -9,9 +13,13 @@ use job::geometry;
 use job::phase;
 use perm::kind;
 use search::Answer;
+use search::COUNT_PLACES;
 use search::Job;
 use search::LAST_LEVEL;
+use search::Phase;
+use search::SEGMENT_LIMIT;
 use search::Terms;
+use search::Way;
 use twobit::list;
 use twobit::segment;
 
@@ -44,29 +52,37 @@ fn begun_job(terms: Terms) -> Job
     begun.job
 }
 
-// It has finished, or there is no level after the last. Close is asked at the last level alone.
-fn has_ended(job: Job) -> bool
-    ensures { λ r. ⌜ r ≡ hasEnded job ⌝ }
+// It has finished, or there is no level after the last. Close is asked at the last level alone. The job's fields are lent, so that the loop
+// copies no job to ask.
+fn has_ended<'a>(
+    terms: Terms,
+    phase: Phase,
+    way: Way,
+    loaded: u8,
+    passed: &'a [u32; SEGMENT_LIMIT],
+    waiting: &'a [u32; SEGMENT_LIMIT],
+    swept: &'a [u64; SEGMENT_LIMIT],
+    counts: &'a [u64; COUNT_PLACES],
+) -> bool
+    requires { ⌜ length (now counts) ≡ countPlaces ⌝ }
+    ensures { λ r. ⌜ ((job : Job) → Has job terms phase loaded (now (passed .entry)) (now (waiting .entry)) (now (swept .entry)) (all countFits (now (counts .entry))) → job .way ≡ way → job .counts ≡ now (counts .entry) → r ≡ hasEnded job) ⌝ }
 {
-    let phase = job.phase;
     if phase::is_finished(phase) {
         return true;
     }
     if phase::level_of(phase) != LAST_LEVEL {
         return false;
     }
-    let terms = job.terms;
-    let way = job.way;
-    let last = job.counts[LAST_LEVEL as usize];
-    let fits = coherence::counts_fit(&job.counts);
+    let last = counts[LAST_LEVEL as usize];
+    let fits = coherence::counts_fit(counts);
     let refusal = close::close::close_refusal(
         terms,
         phase,
         way,
-        job.loaded,
-        &job.passed,
-        &job.waiting,
-        &job.swept,
+        loaded,
+        passed,
+        waiting,
+        swept,
         fits,
         last,
     );
@@ -84,7 +100,16 @@ pub fn build_table(terms: Terms, table: &mut [u8], log: &mut [u32], list: &mut [
         return Answer { refusal, job: none };
     }
     let mut job = begun_job(terms);
-    while !has_ended(job) {
+    while !has_ended(
+        job.terms,
+        job.phase,
+        job.way,
+        job.loaded,
+        &job.passed,
+        &job.waiting,
+        &job.swept,
+        &job.counts,
+    ) {
         job = advance::advance(job, table, log, list);
     }
     Answer { refusal: 0, job }

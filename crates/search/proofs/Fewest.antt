@@ -1,5 +1,5 @@
--- The fewest moves from a stack to the wanted one, as a depth in the graph of indexes, of stacks that have a road; there and back, by a third
--- stack; counting them by it.
+-- The fewest moves from a stack to the wanted one, as a depth in the graph of indexes, of stacks that have a road; counting them by it; there
+-- and back, and by a third stack.
 use mathlib.Core.Path.{_≡_, _∙_, subst}
 use mathlib.Core.Bool.{Bool, true}
 use mathlib.Core.List.{List, map, reverse}

@@ -1,14 +1,15 @@
 -- `build::build::build_table` meets its contract: the loop drives the build to its end.
-use mathlib.Core.Path.{_≡_, sym, _∙_}
+use mathlib.Core.Path.{_≡_, refl, sym, _∙_}
 use mathlib.Core.Bool.{false}
 use borrow.Author.Needs.{needs}
 use borrow.Author.Tests.{not-true, not-false}
 use lib.ListN.{length}
 use Rattle.search.specs.Begin.{begun}
-use Rattle.search.specs.Drive.{hasEnded, storeOf}
+use Rattle.search.specs.Drive.{hasEnded, held, storeOf}
 use Rattle.search.specs.Terms.{N}
 use Rattle.search.proofs.WholeTable.{Accepts, build-accepts, Driving, driving-coherent, driving-bytes, driving-list, driving-steps, driving-falls}
 use Rattle.search.proofs.WorkLeft.{workLeft}
+use Rattle.job.proofs.Standings.{has-own}
 use Rattle.build.proofs.Building.{begin-accepted, build-begins, build-keeps, build-refused, build-ends, table-kept, log-kept, list-kept}
 use Rattle.build.proofs.build.build_table.Statement.{statement}
 use Rattle.build.proofs.build.build_table.Tie as tie
@@ -19,12 +20,15 @@ Inv-loop table₀ log₀ list₀ refusal job₀ table log list job = Driving (jo
 abbrev μ-loop : tie.MeasureT-loop
 μ-loop table₀ log₀ list₀ refusal job₀ table log list job = workLeft (N (job₀ .terms)) (job₀ .terms .size) job
 
--- where the build began; where the driver's step was made, and where it was found due
+-- where the build began; where the driver's step was made, the loop's head, and where the step was found due
 abbrev start : tie.After-build-refusal Inv-loop μ-loop → tie.Start Inv-loop μ-loop
 start c = c .before .before .before .before
 
 abbrev stepped : tie.After-slice-known6 Inv-loop μ-loop → tie.After-advance Inv-loop μ-loop
 stepped c = c .before .before .before .before .before .before
+
+abbrev at-loop : tie.After-has-ended-arg5 Inv-loop μ-loop → tie.At-loop Inv-loop μ-loop
+at-loop c = c .before .before .before .before .before .before
 
 abbrev going : tie.After-advance Inv-loop μ-loop → tie.Then2 Inv-loop μ-loop
 going c = c .before .before .before .before
@@ -63,25 +67,30 @@ loop-holds c =
     build-begins (a .terms) (a .table .now) (a .log .now) (a .list .now) (c .begun-job .result) (first-job c) (accepts (c .before))
 
 has-ended-requires : tie.Need-has-ended-requires Inv-loop μ-loop
-has-ended-requires c κs = search needs
+unfolding held
+has-ended-requires c κs = at-loop c .loop .inv .stored .invariant .shaped .counts-length
 
 advance-requires : tie.Need-advance-requires Inv-loop μ-loop
 advance-requires c κs =
-    let driving = c .before .before .before .before .before .loop .inv in
+    let driving = at-loop (c .before .before .before .before .before) .loop .inv in
     record { coherent = driving-coherent driving; bytes = driving-bytes driving; listed = driving-list driving }
 
-goes-on : (c : tie.Then2 Inv-loop μ-loop) → hasEnded (c .before .before .loop .job) ≡ false
-goes-on c = let f = c .before .has-ended in sym (f .ensures) ∙ not-true (f .result) (c .if2 .taken)
+-- whether the loop's job has ended
+ended : (c : tie.After-has-ended Inv-loop μ-loop) → c .has-ended .result ≡ hasEnded (at-loop (c .before) .loop .job)
+ended c = let job = at-loop (c .before) .loop .job in c .has-ended .ensures job (has-own job refl) refl refl
+
+goes-on : (c : tie.Then2 Inv-loop μ-loop) → hasEnded (at-loop (c .before .before) .loop .job) ≡ false
+goes-on c = sym (ended (c .before)) ∙ not-true (c .before .has-ended .result) (c .if2 .taken)
 
 loop-less : tie.Need-loop-less Inv-loop μ-loop
 loop-less c =
     let n = stepped c in
-    driving-falls (going n .before .before .loop .inv) (n .advance .ensures) (goes-on (going n))
+    driving-falls (at-loop (going n .before .before) .loop .inv) (n .advance .ensures) (goes-on (going n))
 
 loop-again : tie.Need-loop-again Inv-loop μ-loop
 loop-again c =
     let n = stepped c in
-    driving-steps (going n .before .before .loop .inv) (n .advance .ensures) (goes-on (going n))
+    driving-steps (at-loop (going n .before .before) .loop .inv) (n .advance .ensures) (goes-on (going n))
 
 -- the loop's build is that of the wanted stack
 wants : (c : tie.At-loop Inv-loop μ-loop) → let a = start (c .before .before .before) .args in
@@ -93,30 +102,29 @@ wants c =
 
 same-length : tie.Need-same-length Inv-loop μ-loop
 same-length c =
-    let l = c .before .before in
+    let l = at-loop (c .before .before) in
     let a = start (l .before .before .before) .args in
     table-kept (a .terms) (a .table .now) (a .log .now) (a .list .now) (accepts (l .before .before)) (wants l)
 
 same-length-2 : tie.Need-same-length-2 Inv-loop μ-loop
 same-length-2 c =
-    let l = c .before .before in
+    let l = at-loop (c .before .before) in
     let a = start (l .before .before .before) .args in
     log-kept (a .terms) (a .table .now) (a .log .now) (a .list .now) (accepts (l .before .before)) (wants l)
 
 same-length-3 : tie.Need-same-length-3 Inv-loop μ-loop
 same-length-3 c =
-    let l = c .before .before in
+    let l = at-loop (c .before .before) in
     let a = start (l .before .before .before) .args in
     list-kept (a .terms) (a .table .now) (a .log .now) (a .list .now) (accepts (l .before .before)) (wants l)
 
 returns-2 : tie.Need-returns-2 Inv-loop μ-loop
 returns-2 c =
-    let l = c .before .before in
+    let l = at-loop (c .before .before) in
     let a = start (l .before .before .before) .args in
     let f = l .before .before .before .build-refusal in
-    let end = c .before .has-ended in
     build-ends (a .terms) (a .table .now) (a .log .now) (a .list .now) (f .result) (f .ensures) (l .before .before .if1 .left) (wants l)
-    (sym (end .ensures) ∙ not-false (end .result) (c .if2 .left))
+    (sym (ended (c .before)) ∙ not-false (c .before .has-ended .result) (c .if2 .left))
 
 pub build-table-spec : {M : Type 1} → statement M
 build-table-spec =
