@@ -96,9 +96,9 @@ first r =
 
 -- ---- one behind the other
 
-infixr 5 ◌and-then◌
-pub ◌and-then◌ : {f g : ℕ → ℕ} {P Q : Type 0} → Row f P → Row g Q → Row (λ rest. f (g rest)) (P × Q)
-◌and-then◌ {f} {g} F G =
+infixr 5 ◌and_then◌
+pub ◌and_then◌ : {f g : ℕ → ℕ} {P Q : Type 0} → Row f P → Row g Q → Row (λ rest. f (g rest)) (P × Q)
+◌and_then◌ {f} {g} F G =
     record {
       says = λ rest. F.says (g rest) ∙ ap (or_else (f 0)) (G.says rest) ∙ else-else (f 0) (g 0) rest
           ∙ ap (λ (r : ℕ). or_else r rest) (sym (F.says (g 0)));

@@ -8,7 +8,7 @@ use lib.Dec.{ltb, eqb}
 use lib.ListN.{length, set}
 use borrow.Author.Tests.{eq-eqb, ne_eqb, not-true}
 use Rattle.base.specs.Words.{all}
-use Rattle.base.proofs.Rows.{Row, row_ends, check, equal, below, fails, asking, ◌and-then◌}
+use Rattle.base.proofs.Rows.{Row, row_ends, check, equal, below, fails, asking, ◌and_then◌}
 use Rattle.base.proofs.Tests.{and_left, and_right, and_both, never, eq-or-ne}
 use Rattle.search.specs.Blank.{blank_refusal, blanked, blank_of}
 use Rattle.search.specs.Close.{is_ready, is_past_last, close_refusal, next_phase, closed, close_of}

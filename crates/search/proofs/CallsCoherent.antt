@@ -36,7 +36,7 @@ use Rattle.search.specs.declared.Terms.{Terms}
 use Rattle.search.specs.declared.Way.{Way}
 use Rattle.search.proofs.Accepted.{SweepFacts, past-facts, close_facts, settle-facts, load-facts, sweep-facts, blank-accepted, blank-refused, settle-accepted, settle-refused, load-accepted, load-refused, sweep-accepted, sweep-refused, close-accepted, close-refused}
 use Rattle.search.proofs.Coherence.{Coherent, coherent-facts, facts-coherent, begin-given}
-use Rattle.search.proofs.Given as goal
+use Rattle.search.proofs.Given as Given
 use Rattle.search.proofs.PairLaws.{loaded-below, none-swept, pair_fits}
 use Rattle.search.proofs.MarkLaws.{counted-le, mark-unseen, mark-seen, mark-length, mark-other, mark-new}
 
@@ -311,7 +311,7 @@ module _ (job : Job) (coherent : is_coherent job ≡ true) where
         low = loaded-below job facts.loaded-fits f.loaded
 
         few : segment_count_of job ≤ segment_limit
-        few = goal.few (begin-given facts.begins)
+        few = Given.few (begin-given facts.begins)
 
     pub sweep-coherent : is_coherent (sweep_of job j segment list).1.job ≡ true
     sweep-coherent = go (eq-or-ne (sweep_refusal job j (length segment) (length list)) 0)

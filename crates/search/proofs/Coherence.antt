@@ -2,14 +2,14 @@
 use mathlib.Core.Path.{◌≡◌, refl}
 use mathlib.Core.Logic.{◌⊎◌, inl, inr, ◌↔◌}
 use mathlib.Core.Bool.{true, ◌&&◌, cond}
-use Prim.Native.Nat.{ℕ, ◌-◌, ◌^◌, ◌≤◌, ◌<◌}
+use Prim.Native.Nat.{ℕ, ◌^◌, ◌≤◌, ◌<◌}
 use native.Mathlib.Omega.{arith}
 use lib.Dec.{leb, ltb, eqb}
 use lib.ListN.{length, get_or, get_or-eq_default}
 use borrow.Author.Tests.{leb-true, le-leb, ltb-true, lt-ltb, eqb-true, eq-eqb}
 use Rattle.base.specs.Words.{all, from}
 use Rattle.base.proofs.Counting.{all-at, at_all, all-below, below_all}
-use Rattle.base.proofs.Rows.{row_ends, check, asking, ◌and-then◌}
+use Rattle.base.proofs.Rows.{row_ends, check, asking, ◌and_then◌}
 use Rattle.base.proofs.Tests.{and_left, and_right, and_both, lt-or-ge}
 use Rattle.stacks.specs.Turn.{is_group_set}
 use Rattle.stacks.proofs.Refusals.{stack-row}

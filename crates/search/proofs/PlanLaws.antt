@@ -10,7 +10,7 @@ use lib.IntN.{ℤ}
 use lib.ListN.{length, length-append}
 use borrow.Author.Tests.{eqb-true, eq-eqb, ne_eqb}
 use Rattle.base.specs.Words.{all, filter}
-use Rattle.base.proofs.Rows.{Row, row_on, check, equal, at_most, asking, ◌and-then◌}
+use Rattle.base.proofs.Rows.{Row, row_on, check, equal, at_most, asking, ◌and_then◌}
 use Rattle.base.proofs.Tests.{and_left, and_right, and_both, eq-or-ne, never}
 use Rattle.graph.specs.Walks.{is_move}
 use Rattle.graph.proofs.Moves.{is_move-filter, largest-move, move-largest}

@@ -84,8 +84,8 @@ module _ {terms : Terms} (given : Given terms) where
   pub after-keeps : {w : World} → Invariant terms w → (calls : List (Call (right_lengths terms)))
       → Invariant terms (after w calls)
   unfolding after
-  after-keeps invariant [] = invariant
-  after-keeps {w} invariant (call ∷ calls) = after-keeps (step_keeps invariant call) calls
+  after-keeps {w} invariant [] = invariant
+  after-keeps {w} invariant (call ∷ calls) = after-keeps {w = (outcome w call).world} (step_keeps invariant call) calls
 
 pub wrong-refused : WrongRefused
 unfolding WrongRefused

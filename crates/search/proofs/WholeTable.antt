@@ -6,7 +6,7 @@ use Prim.Native.Nat.{ℕ, ◌<◌}
 use native.Mathlib.Omega.{arith}
 use lib.ListN.{length}
 use borrow.Author.Tests.{eq-eqb}
-use Rattle.base.proofs.Rows.{first, equal, ◌and-then◌}
+use Rattle.base.proofs.Rows.{first, equal, ◌and_then◌}
 use Rattle.search.specs.Begin.{begun}
 use Rattle.search.specs.Changed.{list_bytes}
 use Rattle.search.specs.Drive.{Store, store_of, advanced, has_ended, drive, most_calls, cut, held, build_refusal, ended, built, build_of, Builds}

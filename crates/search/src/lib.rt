@@ -1,5 +1,6 @@
 // The job, its phases and what each call answers, as types: no code, only specs/ and proofs/.
 // In each answer, refusal is the refusal's number, and 0 where the call did its work.
+#![tactic(auto)]
 
 use stacks::PLACES;
 
@@ -27,7 +28,7 @@ pub const COUNT_LIMIT: u64 = 1152921504606846976;
 pub const PLAN_LIMIT: usize = 254;
 
 // A phase carries its own level: the one being searched, or the deepest.
-#[derive(Drop)]
+#[derive(Clone, Copy)]
 pub enum Phase {
     Blanking,
     Level(u8),
@@ -35,7 +36,7 @@ pub enum Phase {
 }
 
 // The way that a level is searched: from the stacks of the level before (forward, top-down), or from the unseen ones (reverse, bottom-up).
-#[derive(Drop)]
+#[derive(Clone, Copy)]
 pub enum Way {
     Forward,
     Reverse,
@@ -43,7 +44,7 @@ pub enum Way {
 
 // What Begin is given. groups is the set of group sizes that the frame lifts, size k as its bit of weight 2^(k - 1); size is document 01's S,
 // room its C.
-#[derive(Drop)]
+#[derive(Clone, Copy)]
 pub struct Terms {
     pub kind: u8,
     pub n: u8,
@@ -54,7 +55,7 @@ pub struct Terms {
 }
 
 // A build.
-#[derive(Drop)]
+#[derive(Clone, Copy)]
 pub struct Job {
     pub terms: Terms,
     pub phase: Phase,
@@ -71,21 +72,21 @@ pub struct Job {
 }
 
 // What a level has found so far: how many stacks.
-#[derive(Drop)]
+#[derive(Clone, Copy)]
 pub struct Found {
     pub count: u64,
 }
 
 // What Begin, Blank, Settle, Load, Sweep and Close answer: the job after the call. Refused, the job as it was; of Begin, a job of zeros
 // but for loaded, which is NO_SEGMENT. The job stands first: behind padding it would be copied once more.
-#[derive(Drop)]
+#[derive(Clone, Copy)]
 pub struct Answer {
     pub job: Job,
     pub refusal: u8,
 }
 
 // What Expand answers: Passed where waits is false, else Waiting with segment on. Beside a refusal stand false and 0.
-#[derive(Drop)]
+#[derive(Clone, Copy)]
 pub struct Expanded {
     pub job: Job,
     pub refusal: u8,
@@ -94,14 +95,14 @@ pub struct Expanded {
 }
 
 // What Read an entry answers: 0 stands beside a refusal.
-#[derive(Drop)]
+#[derive(Clone, Copy)]
 pub struct Entry {
     pub refusal: u8,
     pub entry: u8,
 }
 
 // What Plan answers: how many turns stand at the front of the list, 0 beside a refusal.
-#[derive(Drop)]
+#[derive(Clone, Copy)]
 pub struct Planned {
     pub refusal: u8,
     pub turns: u32,

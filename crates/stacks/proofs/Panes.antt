@@ -129,6 +129,12 @@ once-le n met (x ∷ xs) h (suc i) = once-le n (x ∷ met) xs (once-cons n met x
 from-tally : (x n : ℕ) → tally (eqb x) (from 1 n) ≡ min x n - min (x - 1) n
 from-tally x n = omega (arith, smaller-suc x (from 1 n), smaller-from (suc x) 1 n, smaller-from x 1 n)
 
+-- one more number that was not met stands in 1 to n as often as before, or once
+once-room : (n : ℕ) (met : List ℕ) (x y : ℕ) → 1 ≤ x → x ≤ n → tally (eqb x) met ≡ 0 → (y ≡ x) ⊎ (y ≡ x → ⊥)
+    → tally (eqb y) met ≤ tally (eqb y) (from 1 n) → tally (eqb y) (x ∷ met) ≤ tally (eqb y) (from 1 n)
+once-room n met x y a b c (inl e) k = rw (e, tally-true (eqb x) x met (eq-eqb x x refl), c, from-tally x n) (omega arith)
+once-room n met x y a b c (inr e) k = rw (tally-false (eqb y) x met (ne_eqb y x e)) k
+
 -- no number stands in an order of 1 to n more often than in 1 to n
 once-tally : (n : ℕ) (met xs : List ℕ) → each_once n met xs ≡ true → (y : ℕ) → tally (eqb y) met ≤ tally (eqb y) (from 1 n)
     → tally (eqb y) met + tally (eqb y) xs ≤ tally (eqb y) (from 1 n)
@@ -136,11 +142,7 @@ unfolding tally
 once-tally n met [] h y k = omega arith
 once-tally n met (x ∷ xs) h y k =
     let f = once-cons n met x xs h in
-    omega (arith, once-tally n (x ∷ met) xs f.3 y (room f.0 f.1 f.2 (eq-or-ne y x)))
-  where
-    room : 1 ≤ x → x ≤ n → tally (eqb x) met ≡ 0 → (y ≡ x) ⊎ (y ≡ x → ⊥) → tally (eqb y) (x ∷ met) ≤ tally (eqb y) (from 1 n)
-    room a b c (inl e) = rw (e, tally-true (eqb x) x met (eq-eqb x x refl), c, from-tally x n) (omega arith)
-    room a b c (inr e) = rw (tally-false (eqb y) x met (ne_eqb y x e)) k
+    omega (arith, once-tally n (x ∷ met) xs f.3 y (once-room n met x y f.0 f.1 f.2 (eq-or-ne y x) k))
 
 tally-once : (n : ℕ) (met xs : List ℕ) → ((y : ℕ) → tally (eqb y) met + tally (eqb y) xs ≤ tally (eqb y) (from 1 n)) → each_once n met xs ≡ true
 unfolding tally each_once

@@ -5,7 +5,7 @@ use mathlib.Core.List.{List}
 use Prim.Native.Nat.{ℕ, ◌<◌}
 use lib.IntN.{ℤ}
 use Rattle.base.specs.Words.{unless}
-use Rattle.base.proofs.Rows.{Row, check, below, ◌and-then◌}
+use Rattle.base.proofs.Rows.{Row, check, below, ◌and_then◌}
 use Rattle.stacks.specs.Operations.{kind_refusal, index_refusal, stack_refusal, turn_refusal}
 use Rattle.stacks.specs.Stack.{is_kind, is_pane_count, is_stack, stack_count}
 use Rattle.stacks.specs.Turn.{is_turn}

@@ -10,7 +10,7 @@ use borrow.Author.Tests.{leb-true, lt-leb}
 use Rattle.base.specs.Words.{unless, all, tally, from}
 use Rattle.base.proofs.Counting.{all-at, tally-true, tally-false}
 use Rattle.base.proofs.Lists.{from-length, get_or-from}
-use Rattle.base.proofs.Rows.{check, at_most, ◌and-then◌}
+use Rattle.base.proofs.Rows.{check, at_most, ◌and_then◌}
 use Rattle.base.proofs.Tests.{test-cases, and_left, and_right, and-fails-left, and-fails-right, lt-or-ge}
 use Rattle.tariff.specs.Promise.{OnePrice, OnePriceEach}
 use Rattle.tariff.specs.Tariffs.{line_limit, price_limit, tariff_lines, is_line, covers, lines_at, has_line, has_no_second, cover_refusal, tariff_refusal, price_at}

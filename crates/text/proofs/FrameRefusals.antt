@@ -10,7 +10,7 @@ use lib.ListN.{length, get_or, take, drop, replicate, length-append, length-map,
 use lib.Seq.{take-nil, take-take, length-take-le, get_or-take}
 use borrow.Author.Tests.{le-leb, lt-leb, eq-eqb, ne_eqb}
 use Rattle.base.specs.Words.{unless}
-use Rattle.base.proofs.Rows.{check, equal, at_most, ◌and-then◌}
+use Rattle.base.proofs.Rows.{check, equal, at_most, ◌and_then◌}
 use Rattle.stacks.specs.Operations.{kind_refusal, stacked}
 use Rattle.stacks.specs.Stack.{stack_places, is_kind, is_pane_count, is_stack, stack_count}
 use Rattle.stacks.proofs.Panes.{stack-facts}

@@ -1,4 +1,5 @@
 // The report's limits, and what its frames and its reader are, as types: no code, only specs/ and proofs/.
+#![tactic(auto)]
 
 use stacks::PLACES;
 
@@ -27,14 +28,14 @@ pub const LOG_LIMIT: usize = 1024;
 pub const LIST_LIMIT: usize = 5760;
 
 // A line in the making: its first FRAME_LIMIT characters, and its length, which stops at OVERLONG.
-#[derive(Drop)]
+#[derive(Clone, Copy)]
 pub struct Line {
     pub chars: [u8; FRAME_LIMIT],
     pub length: u32,
 }
 
 // What the first frame says: zeros stand beside a refusal.
-#[derive(Drop)]
+#[derive(Clone, Copy)]
 pub struct First {
     pub refusal: u8,
     pub kind: u8,
@@ -44,7 +45,7 @@ pub struct First {
 }
 
 // Which frame comes next: the first (Start), a later one, or none, as the first was refused and the run is over.
-#[derive(Drop)]
+#[derive(Clone, Copy)]
 pub enum Stage {
     Start,
     Later,
@@ -52,7 +53,7 @@ pub enum Stage {
 }
 
 // What was read so far. kind, n and wanted are the first frame's; line is the one in the making.
-#[derive(Drop)]
+#[derive(Clone, Copy)]
 pub struct Reader {
     pub stage: Stage,
     pub kind: u8,
@@ -62,7 +63,7 @@ pub struct Reader {
 }
 
 // The reader after a character, and how much of the lent buffer is to be printed.
-#[derive(Drop)]
+#[derive(Clone, Copy)]
 pub struct Printed {
     pub reader: Reader,
     pub length: usize,
