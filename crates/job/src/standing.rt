@@ -9,7 +9,7 @@ use search::{Phase, SEGMENT_LIMIT, Terms, Way};
 
 // Of a call on segment j: whether the job is coherent, its small fields, what is passed and waiting in that segment, and the segments that are
 // swept against the loaded one, as bits.
-#[derive(Drop)]
+#[derive(Clone, Copy)]
 pub struct Standing {
     pub coherent: bool,
     pub terms: Terms,

@@ -1,4 +1,6 @@
 // The table of ones: how many ones each 12-bit set has.
+#![tactic(auto)]
+
 ghost use Rattle.std.specs.Prelude.{◌≡◌};
 ghost use Rattle.ones.specs.Ones.{ones_table};
 

@@ -1,4 +1,6 @@
 // Code: the kinds, sets of group sizes and of panes as bits, rank, unrank, turns and moves; and the three open operations on stacks.
+#![tactic(auto)]
+
 pub mod groups;
 pub mod kind;
 pub mod moves;

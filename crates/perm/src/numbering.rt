@@ -11,7 +11,7 @@ use ones::SETS;
 use stacks::PLACES;
 
 // What ranking has met: the panes as a set, and the order and the coats as far as they are met.
-#[derive(Drop)]
+#[derive(Clone, Copy)]
 pub struct Ranking {
     pub met: u32,
     pub order: u32,

@@ -8,7 +8,7 @@ ghost use Rattle.perm.specs.Walk.{Begins, walked_on};
 use crate::kind;
 
 // k is the last size that was asked for, and rest what is left of the set after it: its lowest bit is size k + 1.
-#[derive(Drop)]
+#[derive(Clone, Copy)]
 pub struct Walk {
     pub k: u8,
     pub rest: u32,
