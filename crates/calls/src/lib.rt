@@ -1,4 +1,6 @@
 // Code: Blank, Settle, Look and Load.
+#![tactic(auto)]
+
 pub mod blank;
 pub mod load;
 pub mod look;

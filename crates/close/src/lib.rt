@@ -1,2 +1,4 @@
 // Code: Close.
+#![tactic(auto)]
+
 pub mod close;

@@ -1,13 +1,13 @@
 -- One call of Expand as its functions speak of it.
---   scan_for      what a call on segment j copies, from what Begin was given and the level; scan_of of the job
---   scan_job      the job that a scan stands for
+--   scan_for     what a call on segment j copies, from what Begin was given and the level; scan_of of the job
+--   scan_job     the job that a scan stands for
 --   ScanFits     what holds of a scan
 --   running      a call that does not wait, from what it is lent and what was found, at a stack
 --   LentFits     what holds of what is lent
 --   HasRoom      the logs have places for children
 --   ChildFits, ChildrenFit, RunFits   what placing one child, placing all and a run ask
 --   PlacesChild, PlacesAll, Runs      what each leaves of what it was lent
---   reached_with  how far a call came, with what it leaves
+--   reached_with how far a call came, with what it leaves
 use Rattle.std.specs.Prelude.{◌≡◌, true, false, List, [], ◌∷◌, ℕ, ◌+◌, ◌-◌, ◌*◌, ◌%◌, ◌^◌, ◌<◌, ◌≤◌, length, get_or, take}
 use Rattle.stacks.specs.Stack.{is_pane_count}
 use Rattle.stacks.specs.Turn.{is_group_set, turns_in}

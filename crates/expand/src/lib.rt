@@ -1,4 +1,6 @@
 // Code: Expand, with the children of a stack and the logs that they are appended to.
+#![tactic(auto)]
+
 mod children;
 pub mod expand;
 mod logs;

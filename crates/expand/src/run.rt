@@ -7,7 +7,7 @@ use search::{Found, SEGMENT_LIMIT};
 use twobit::entry;
 
 // How far a call came: the first stack not passed, whether it waits before it and for which segment, and what the level has found.
-#[derive(Drop)]
+#[derive(Clone, Copy)]
 pub(crate) struct Reached {
     pub at: u32,
     pub waits: bool,

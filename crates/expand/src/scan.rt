@@ -1,7 +1,7 @@
 // What a call of Expand does not change, copied from the job, so that no function that runs for a stack or a child takes the job.
 
 // The job's fields that Expand needs, the count of segments and of moves, this segment, the entry of the level before and this level's.
-#[derive(Drop)]
+#[derive(Clone, Copy)]
 pub(crate) struct Scan {
     pub kind: u8,
     pub n: u8,

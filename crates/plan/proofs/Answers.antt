@@ -9,7 +9,7 @@ use lib.IntN.{ℤ}
 use lib.ListN.{length, take, drop}
 use borrow.Author.Tests.{eq-eqb, ne_eqb}
 use Rattle.base.specs.Words.{unless}
-use Rattle.base.proofs.Rows.{row_on, row-refuses, equal, below, ◌and-then◌}
+use Rattle.base.proofs.Rows.{row_on, row-refuses, equal, below, ◌and_then◌}
 use Rattle.base.proofs.Tests.{and-fails-left, and-fails-right}
 use Rattle.stacks.specs.Index.{rank_of}
 use Rattle.stacks.specs.Stack.{stack_count}

@@ -1,4 +1,6 @@
 // Code: Read an entry, and Plan.
+#![tactic(auto)]
+
 pub mod plan;
 pub mod read;
 mod route;

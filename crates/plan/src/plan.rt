@@ -45,7 +45,7 @@ fn plan_refusal(
 }
 
 // A plan in a local list: its turns, and how many. Refused, there are none.
-#[derive(Drop)]
+#[derive(Clone, Copy)]
 pub struct Draft {
     pub refusal: u8,
     pub turns: [u8; PLAN_LIMIT],

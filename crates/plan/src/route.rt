@@ -15,7 +15,7 @@ use stacks::PLACES;
 use twobit::entry;
 
 // A route in the making: the stack that it has come to, its turns so far, and how many.
-#[derive(Drop)]
+#[derive(Clone, Copy)]
 pub struct Route {
     pub stack: [i8; PLACES],
     pub turns: [u8; PLAN_LIMIT],
@@ -23,7 +23,7 @@ pub struct Route {
 }
 
 // A step of a route: its turn, and the index of the stack that it leads to.
-#[derive(Drop)]
+#[derive(Clone, Copy)]
 pub struct Step {
     pub k: u8,
     pub index: u32,

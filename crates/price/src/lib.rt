@@ -1,4 +1,6 @@
 // Code: Price.
+#![tactic(auto)]
+
 mod lines;
 pub mod price;
 mod rounding;

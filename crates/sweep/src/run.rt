@@ -8,7 +8,7 @@ use twobit::entry::UNSEEN;
 use twobit::{entry, marking};
 
 // What a call does not change: the job's fields that it needs, the segment that it sweeps, the loaded one, and this level's entry.
-#[derive(Drop)]
+#[derive(Clone, Copy)]
 pub(crate) struct Pair {
     pub kind: u8,
     pub n: u8,
