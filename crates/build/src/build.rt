@@ -91,7 +91,7 @@ pub fn build_table(terms: Terms, table: &mut [u8], log: &mut [u32], list: &mut [
         &job.swept,
         &job.counts,
     ) {
-        job = advance::advance(job, table, log, list);
+        job = advance::advance(&job, table, log, list);
     }
     Answer { refusal: 0, job }
 }

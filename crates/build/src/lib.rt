@@ -1,4 +1,6 @@
 // Code: Build the whole table.
+#![tactic(auto)]
+
 mod advance;
 pub mod build;
 mod choose;

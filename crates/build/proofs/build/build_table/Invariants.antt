@@ -1,0 +1,12 @@
+-- `build::build::build_table` meets its contract: the loop drives the build to its end.
+use Rattle.search.specs.Drive.{store_of}
+use Rattle.search.specs.Terms.{N}
+use Rattle.search.proofs.WholeTable.{Driving}
+use Rattle.search.proofs.WorkLeft.{work_left}
+use Rattle.build.proofs.build.build_table.Given as goal
+
+abbrev pub invariant-loop-job : goal.invariant-loop-job
+invariant-loop-job l = Driving l.initial.job.terms l.initial.table l.initial.log l.initial.list (store_of l.job l.table l.log l.list)
+
+abbrev pub decreases-loop-job : goal.decreases-loop-job
+decreases-loop-job l = work_left (N l.initial.job.terms) l.initial.job.terms.size l.job
