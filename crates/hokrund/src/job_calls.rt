@@ -11,8 +11,7 @@ use job::begin;
 use mirror::{HokrundAnswer, HokrundExpanded, HokrundJob, HokrundLook, HokrundStack};
 use search::Terms;
 
-#[unsafe(no_mangle)]
-pub extern "C" fn hokrund_begin(
+pub fn hokrund_begin(
     kind: u8,
     n: u8,
     wanted: HokrundStack,
@@ -34,8 +33,7 @@ pub extern "C" fn hokrund_begin(
     mirror::answer_of(begin::begin(terms))
 }
 
-#[unsafe(no_mangle)]
-pub extern "C" fn hokrund_blank(job: HokrundJob, j: u32, segment: &mut [u8]) -> HokrundAnswer
+pub fn hokrund_blank(job: HokrundJob, j: u32, segment: &mut [u8]) -> HokrundAnswer
     ensures { (segment.new, result) ≡ blank_call job j segment.old }
 {
     if !mirror::is_job(job) {
@@ -47,8 +45,7 @@ pub extern "C" fn hokrund_blank(job: HokrundJob, j: u32, segment: &mut [u8]) -> 
     mirror::answer_of(blank::blank(mirror::job_of(job), j, segment))
 }
 
-#[unsafe(no_mangle)]
-pub extern "C" fn hokrund_expand(
+pub fn hokrund_expand(
     job: HokrundJob,
     j: u32,
     segment: &mut [u8],
@@ -73,13 +70,7 @@ pub extern "C" fn hokrund_expand(
     }
 }
 
-#[unsafe(no_mangle)]
-pub extern "C" fn hokrund_settle(
-    job: HokrundJob,
-    j: u32,
-    segment: &mut [u8],
-    log: &[u32],
-) -> HokrundAnswer
+pub fn hokrund_settle(job: HokrundJob, j: u32, segment: &mut [u8], log: &[u32]) -> HokrundAnswer
     ensures { (segment.new, result) ≡ settle_call job j segment.old log.now }
 {
     if !mirror::is_job(job) {
@@ -91,13 +82,7 @@ pub extern "C" fn hokrund_settle(
     mirror::answer_of(settle::settle(mirror::job_of(job), j, segment, log))
 }
 
-#[unsafe(no_mangle)]
-pub extern "C" fn hokrund_load(
-    job: HokrundJob,
-    b: u32,
-    segment: &[u8],
-    list: &mut [u8],
-) -> HokrundAnswer
+pub fn hokrund_load(job: HokrundJob, b: u32, segment: &[u8], list: &mut [u8]) -> HokrundAnswer
     ensures { (list.new, result) ≡ load_call job b segment.now list.old }
 {
     if !mirror::is_job(job) {
@@ -109,13 +94,7 @@ pub extern "C" fn hokrund_load(
     mirror::answer_of(load::load(mirror::job_of(job), b, segment, list))
 }
 
-#[unsafe(no_mangle)]
-pub extern "C" fn hokrund_sweep(
-    job: HokrundJob,
-    j: u32,
-    segment: &mut [u8],
-    list: &[u8],
-) -> HokrundAnswer
+pub fn hokrund_sweep(job: HokrundJob, j: u32, segment: &mut [u8], list: &[u8]) -> HokrundAnswer
     ensures { (segment.new, result) ≡ sweep_call job j segment.old list.now }
 {
     if !mirror::is_job(job) {
@@ -128,8 +107,7 @@ pub extern "C" fn hokrund_sweep(
 }
 
 // What start and length say is the part itself.
-#[unsafe(no_mangle)]
-pub extern "C" fn hokrund_look(job: HokrundJob, j: u32, log: &[u32]) -> HokrundLook
+pub fn hokrund_look(job: HokrundJob, j: u32, log: &[u32]) -> HokrundLook
     ensures { (take result.length (drop result.start log.now), result) ≡ look_call job j log.now }
 {
     if !mirror::is_job(job) {
@@ -156,8 +134,7 @@ pub extern "C" fn hokrund_look(job: HokrundJob, j: u32, log: &[u32]) -> HokrundL
     }
 }
 
-#[unsafe(no_mangle)]
-pub extern "C" fn hokrund_close(job: HokrundJob, way: u8) -> HokrundAnswer
+pub fn hokrund_close(job: HokrundJob, way: u8) -> HokrundAnswer
     ensures { result ≡ close_call job way }
 {
     if !mirror::is_job(job) {

@@ -17,8 +17,7 @@ fn stacked_of(stacked: Stacked) -> HokrundStacked
     }
 }
 
-#[unsafe(no_mangle)]
-pub extern "C" fn hokrund_index_of_stack(kind: u8, n: u8, stack: HokrundStack) -> HokrundIndexed
+pub fn hokrund_index_of_stack(kind: u8, n: u8, stack: HokrundStack) -> HokrundIndexed
     ensures { result ≡ indexed_of (index_of kind n stack.places) }
 {
     let places = stack.places;
@@ -29,15 +28,13 @@ pub extern "C" fn hokrund_index_of_stack(kind: u8, n: u8, stack: HokrundStack) -
     }
 }
 
-#[unsafe(no_mangle)]
-pub extern "C" fn hokrund_stack_at_index(kind: u8, n: u8, index: u32) -> HokrundStacked
+pub fn hokrund_stack_at_index(kind: u8, n: u8, index: u32) -> HokrundStacked
     ensures { result ≡ stacked_of (stack_of kind n index) }
 {
     stacked_of(operations::stack_at_index(kind, n, index))
 }
 
-#[unsafe(no_mangle)]
-pub extern "C" fn hokrund_turn(kind: u8, n: u8, stack: HokrundStack, k: u8) -> HokrundStacked
+pub fn hokrund_turn(kind: u8, n: u8, stack: HokrundStack, k: u8) -> HokrundStacked
     ensures { result ≡ stacked_of (turned_of kind n stack.places k) }
 {
     let places = stack.places;

@@ -8,8 +8,7 @@ use mirror::{HokrundAnswer, HokrundEntry, HokrundPlanned, HokrundPriced, Hokrund
 use search::Terms;
 use tariff::Tariff;
 
-#[unsafe(no_mangle)]
-pub extern "C" fn hokrund_build_table(
+pub fn hokrund_build_table(
     kind: u8,
     n: u8,
     wanted: HokrundStack,
@@ -35,8 +34,7 @@ pub extern "C" fn hokrund_build_table(
     mirror::answer_of(built)
 }
 
-#[unsafe(no_mangle)]
-pub extern "C" fn hokrund_read_entry(kind: u8, n: u8, table: &[u8], index: u32) -> HokrundEntry
+pub fn hokrund_read_entry(kind: u8, n: u8, table: &[u8], index: u32) -> HokrundEntry
     ensures { result ≡ entry_read_of (read_of kind n table.now index) }
 {
     let entry = plan::read::read_entry(kind, n, table, index);
@@ -46,8 +44,7 @@ pub extern "C" fn hokrund_read_entry(kind: u8, n: u8, table: &[u8], index: u32) 
     }
 }
 
-#[unsafe(no_mangle)]
-pub extern "C" fn hokrund_plan(
+pub fn hokrund_plan(
     kind: u8,
     n: u8,
     wanted: HokrundStack,
@@ -67,8 +64,7 @@ pub extern "C" fn hokrund_plan(
     }
 }
 
-#[unsafe(no_mangle)]
-pub extern "C" fn hokrund_price(
+pub fn hokrund_price(
     kind: u8,
     n: u8,
     wanted: HokrundStack,

@@ -5,8 +5,7 @@ ghost use Rattle.hokrund.specs.Version.{interface_version};
 // Rises with include/hokrund.h's HOKRUND_VERSION, which says when.
 pub const VERSION: u32 = 6;
 
-#[unsafe(no_mangle)]
-pub extern "C" fn hokrund_version() -> u32
+pub fn hokrund_version() -> u32
     ensures { result ≡ interface_version }
 {
     VERSION

@@ -1,4 +1,6 @@
 // Code: the job, a stack and the answers as C sees them, and the conversions to and from the operations' own types.
+#![tactic(auto)]
+
 ghost use Rattle.std.specs.Prelude.{◌≡◌};
 ghost use Rattle.mirror.specs.Mirror.{phase_number, phase_of, is_phase, way_number, way_of, is_job, cleared, job_of, mirror_of, answer_of};
 
@@ -6,16 +8,16 @@ use job::phase;
 use search::{Answer, COUNT_PLACES, Job, Phase, SEGMENT_LIMIT, Terms, Way};
 use stacks::PLACES;
 
+#[derive(Clone, Copy)]
 #[repr(C)]
-#[derive(Drop)]
 pub struct HokrundStack {
     pub places: [i8; PLACES],
 }
 
 // search's Job, its phase as two numbers: 0 Blanking with level 0, 1 Level, 2 Finished. Its way is 0 forward, 1 reverse. The reserved bytes are 0
 // in every mirror that goes out, and play no part in one that comes in; with them every byte of a mirror belongs to a field.
+#[derive(Clone, Copy)]
 #[repr(C)]
-#[derive(Drop)]
 pub struct HokrundJob {
     pub kind: u8,
     pub n: u8,
@@ -34,29 +36,29 @@ pub struct HokrundJob {
     pub counts: [u64; COUNT_PLACES],
 }
 
+#[derive(Clone, Copy)]
 #[repr(C)]
-#[derive(Drop)]
 pub struct HokrundIndexed {
     pub refusal: u8,
     pub index: u32,
 }
 
+#[derive(Clone, Copy)]
 #[repr(C)]
-#[derive(Drop)]
 pub struct HokrundStacked {
     pub refusal: u8,
     pub stack: HokrundStack,
 }
 
+#[derive(Clone, Copy)]
 #[repr(C)]
-#[derive(Drop)]
 pub struct HokrundAnswer {
     pub refusal: u8,
     pub job: HokrundJob,
 }
 
+#[derive(Clone, Copy)]
 #[repr(C)]
-#[derive(Drop)]
 pub struct HokrundExpanded {
     pub refusal: u8,
     pub waits: bool,
@@ -65,30 +67,30 @@ pub struct HokrundExpanded {
 }
 
 // The waiting part stands in the caller's log area from start on. Beside a refusal both numbers are 0.
+#[derive(Clone, Copy)]
 #[repr(C)]
-#[derive(Drop)]
 pub struct HokrundLook {
     pub refusal: u8,
     pub start: usize,
     pub length: usize,
 }
 
+#[derive(Clone, Copy)]
 #[repr(C)]
-#[derive(Drop)]
 pub struct HokrundEntry {
     pub refusal: u8,
     pub entry: u8,
 }
 
+#[derive(Clone, Copy)]
 #[repr(C)]
-#[derive(Drop)]
 pub struct HokrundPlanned {
     pub refusal: u8,
     pub turns: u32,
 }
 
+#[derive(Clone, Copy)]
 #[repr(C)]
-#[derive(Drop)]
 pub struct HokrundPriced {
     pub refusal: u8,
     pub turns: u32,
