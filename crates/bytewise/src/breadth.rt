@@ -7,7 +7,7 @@ use crate::stack;
 pub const UNSEEN: u8 = 255;
 
 // How many stacks each level has, and the last level that has some.
-#[derive(Drop)]
+#[derive(Clone, Copy)]
 pub struct Found {
     pub counts: [u64; 256],
     pub deepest: usize,

@@ -1,5 +1,7 @@
 // A plain breadth-first search on one byte a stack, compared with the library: how each build ends, each entry, each level count, and the
 // plans. Other orders of the segments and other ways of the levels are held by the tests from outside.
+#![tactic(auto)]
+
 ghost use Rattle.std.specs.Prelude.{◌≤◌};
 
 mod breadth;
@@ -7,12 +9,13 @@ mod compare;
 mod stack;
 
 use breadth::UNSEEN;
+use std::io;
 use trial::whole::Built;
 use trial::{print, whole};
 
 // Over some builds: the deepest level and the stacks with a road by the search, and how many builds and stacks were compared and how many answers
 // differ.
-#[derive(Drop)]
+#[derive(Clone, Copy)]
 struct Tally {
     deepest: u64,
     roads: u64,
@@ -149,68 +152,95 @@ fn each(kind: u8, n: u8, groups: u32, stacks: u32, size: u32) -> Tally {
     sum
 }
 
-fn line(kind: u8, n: u8, groups: u32, tally: Tally) {
-    print::kind_and_n(kind, n);
-    print::field(b"groups", groups as u64);
-    print::field(b"deepest", tally.deepest);
-    print::field(b"roads", tally.roads);
-    print::field(b"builds", tally.builds);
-    print::field(b"entries", tally.entries);
-    print::field(b"differ", tally.differ);
-    print::end();
+fn line(out: &impl Print, kind: u8, n: u8, groups: u32, tally: Tally) -> io::Result<()> {
+    print::kind_and_n(out, kind, n)?;
+    print::field(out, b"groups", groups as u64)?;
+    print::field(out, b"deepest", tally.deepest)?;
+    print::field(out, b"roads", tally.roads)?;
+    print::field(out, b"builds", tally.builds)?;
+    print::field(out, b"entries", tally.entries)?;
+    print::field(out, b"differ", tally.differ)?;
+    print::end(out)
 }
 
-fn one_wanted(kind: u8, n: u8, groups: u32, stacks: u32, goal: usize, size: u32) {
+fn one_wanted(
+    out: &impl Print,
+    kind: u8,
+    n: u8,
+    groups: u32,
+    stacks: u32,
+    goal: usize,
+    size: u32,
+) -> io::Result<()> {
     line(
+        out,
         kind,
         n,
         groups,
         compared(kind, n, groups, stacks, goal, size, 1),
-    );
+    )
 }
 
 // With the plans from every 31st stack.
-fn large(kind: u8, n: u8, groups: u32, stacks: u32, goal: usize, size: u32) {
+fn large(
+    out: &impl Print,
+    kind: u8,
+    n: u8,
+    groups: u32,
+    stacks: u32,
+    goal: usize,
+    size: u32,
+) -> io::Result<()> {
     line(
+        out,
         kind,
         n,
         groups,
         compared(kind, n, groups, stacks, goal, size, 31),
-    );
+    )
 }
 
-fn each_wanted(kind: u8, n: u8, groups: u32, stacks: u32, size: u32) {
-    line(kind, n, groups, each(kind, n, groups, stacks, size));
+fn each_wanted(
+    out: &impl Print,
+    kind: u8,
+    n: u8,
+    groups: u32,
+    stacks: u32,
+    size: u32,
+) -> io::Result<()> {
+    line(out, kind, n, groups, each(kind, n, groups, stacks, size))
 }
 
-fn all_turns() {
-    one_wanted(0, 1, 0, 1, 0, 4);
-    one_wanted(0, 6, 62, 720, 433, 12);
-    one_wanted(0, 7, 126, 5040, 4321, 1000);
-    one_wanted(1, 1, 1, 2, 1, 4);
-    one_wanted(1, 4, 15, 384, 383, 100);
-    one_wanted(1, 5, 31, 3840, 0, 60);
+fn all_turns(out: &impl Print) -> io::Result<()> {
+    one_wanted(out, 0, 1, 0, 1, 0, 4)?;
+    one_wanted(out, 0, 6, 62, 720, 433, 12)?;
+    one_wanted(out, 0, 7, 126, 5040, 4321, 1000)?;
+    one_wanted(out, 1, 1, 1, 2, 1, 4)?;
+    one_wanted(out, 1, 4, 15, 384, 383, 100)?;
+    one_wanted(out, 1, 5, 31, 3840, 0, 60)
 }
 
 // Every set of plain 4 and of coated 3, to every wanted stack.
-fn each_set() {
+fn each_set(out: &impl Print) -> io::Result<()> {
     let mut sizes: u32 = 1;
     while sizes < 8 {
-        each_wanted(0, 4, 2 * sizes, 24, 4);
-        each_wanted(1, 3, sizes, 48, 20);
+        each_wanted(out, 0, 4, 2 * sizes, 24, 4)?;
+        each_wanted(out, 1, 3, sizes, 48, 20)?;
         sizes += 1;
     }
+    Ok(())
 }
 
 // Sets by which the deepest level is above 31. By the second, half of the stacks have no road.
-fn deep() {
-    large(0, 9, 322, 362880, 0, 30240);
-    large(0, 9, 280, 362880, 100000, 60480);
-    large(1, 7, 82, 645120, 300000, 64512);
+fn deep(out: &impl Print) -> io::Result<()> {
+    large(out, 0, 9, 322, 362880, 0, 30240)?;
+    large(out, 0, 9, 280, 362880, 100000, 60480)?;
+    large(out, 1, 7, 82, 645120, 300000, 64512)
 }
 
-fn main() {
-    all_turns();
-    each_set();
-    deep();
+fn main(rt: HostRuntime) -> io::Result<()> {
+    let out = rt.stdout();
+    all_turns(&out)?;
+    each_set(&out)?;
+    deep(&out)
 }

@@ -1,4 +1,6 @@
 // The maker of the table of ones: it counts the ones of each set by itself, and does not read the constant.
+#![tactic(auto)]
+
 ghost use Rattle.std.specs.Prelude.{◌≡◌, ◌*◌, ◌<◌, take, drop};
 ghost use Rattle.ones.specs.Ones.{set_count, ones_table, clearings};
 ghost use Rattle.maker.specs.OnesText.{line_bytes, line_count, ones_text};

@@ -1,17 +1,19 @@
 // Prints the table of ones as its maker makes it: 256 lines of 16 bytes.
+#![tactic(auto)]
+
 ghost use Rattle.std.specs.Prelude.{◌≡◌};
 ghost use Rattle.maker.specs.OnesText.{ones_text};
 
-use libc::STDOUT_FILENO;
+use std::io;
 
 // Nothing but the text of the table is written.
-fn print(text: &[u8])
+fn print(out: &impl Print, text: &[u8]) -> io::Result<()>
     requires { text.now ≡ ones_text }
 {
-    io::write_all(STDOUT_FILENO, text);
+    out.write_all(text)
 }
 
-fn main() {
+fn main(rt: HostRuntime) -> io::Result<()> {
     let text = maker::table_text();
-    print(&text);
+    print(&rt.stdout(), &text)
 }

@@ -1,1 +1,2 @@
--- The program's loops, and what it lends.
+-- What the program's loops and its errors rest on.
+pub mod Feeding

@@ -1,11 +1,17 @@
 // The report: frames from standard input, one a line; levels, their total, plans and refusals to standard output, one a line.
-ghost use Rattle.std.specs.Prelude.{◌≡◌, true, false, List, ℕ, length};
+#![tactic(auto)]
+
+ghost use Rattle.std.specs.Prelude.{◌≡◌, true, false, List, ℕ, length, take, IfOk, OnErr};
 ghost use Rattle.text.specs.Frame.{table_limit};
 ghost use Rattle.text.specs.Reader.{is_over, new_reader, byte_read, end_read, read_all};
 
-use libc::{STDIN_FILENO, STDOUT_FILENO};
 use session::input;
+use std::io;
+use std::io::Read;
 use text::{Reader, TABLE_LIMIT, TEXT_LIMIT};
+
+// The most that is read at a time.
+const CHUNK: usize = 65536;
 
 // What was read, and whether there may be more.
 #[derive(Drop)]
@@ -15,23 +21,25 @@ struct Going {
 }
 
 // Nothing is written but what a character brings to its reader, by definition: the table that it was answered from may be written over by now.
-fn print_byte(reader: Reader, byte: u8, text: &[u8])
+fn print_byte(to: &impl Print, reader: Reader, byte: u8, text: &[u8]) -> io::Result<()>
     requires { (table : List ℕ) × (text.now ≡ (byte_read reader byte table).text) }
 {
-    io::write_all(STDOUT_FILENO, text);
+    to.write_all(text)
 }
 
 // And what the end brings, after some characters were read from the start.
-fn print_end(text: &[u8])
+fn print_end(to: &impl Print, text: &[u8]) -> io::Result<()>
     requires { (before : List ℕ) × (input : List ℕ) × (let a = read_all new_reader before input in text.now ≡ (end_read a.0 a.1).text) }
 {
-    io::write_all(STDOUT_FILENO, text);
+    to.write_all(text)
 }
 
-// Reads a part of the input character by character, and prints what each brings.
-fn feed(reader: Reader, table: &mut [u8], chunk: &[u8]) -> Reader
+// Reads a part of the input character by character, and prints what each brings. Where a write fails, the table is as the part up to there
+// left it.
+fn feed(to: &impl Print, reader: Reader, table: &mut [u8], chunk: &[u8]) -> io::Result<Reader>
     requires { length table.old ≡ table_limit }
-    ensures { (result, table.new) ≡ read_all reader table.old chunk.now }
+    ensures ok { IfOk result (λ r. (r, table.new) ≡ read_all reader table.old chunk.now) }
+    ensures err { OnErr result ((k : ℕ) × (table.new ≡ (read_all reader table.old (take k chunk.now)).1)) }
 {
     let mut out = [0u8; TEXT_LIMIT];
     let mut now = reader;
@@ -41,42 +49,47 @@ fn feed(reader: Reader, table: &mut [u8], chunk: &[u8]) -> Reader
         let printed = input::byte_read(now, byte, table, &mut out);
         let length = printed.length;
         if length > 0 {
-            print_byte(now, byte, &out[..length]);
+            print_byte(to, now, byte, &out[..length])?;
         }
         now = printed.reader;
         i += 1;
     }
-    now
+    Ok(now)
 }
 
 // The end of the input.
-fn finish(reader: Reader, table: &mut [u8])
+fn finish(to: &impl Print, reader: Reader, table: &mut [u8]) -> io::Result<()>
     requires table_len { length table.old ≡ table_limit }
-    requires by_index { (before : List ℕ) × (input : List ℕ) × ((reader, table.old) ≡ read_all new_reader before input) }
+    requires read_so_far { (before : List ℕ) × (input : List ℕ) × ((reader, table.old) ≡ read_all new_reader before input) }
 {
     let mut out = [0u8; TEXT_LIMIT];
     let printed = input::end_read(reader, table, &mut out);
     let length = printed.length;
-    print_end(&out[..length]);
+    print_end(to, &out[..length])
 }
 
-// Reads what is there, and answers it before more is read. Nothing, or a read that fails, is the end of the input, and a refused first
-// frame ends the run.
-fn read_some(reader: Reader, table: &mut [u8]) -> Going
+// Reads what is there, and answers it before more is read. Nothing is the end of the input, and a refused first frame ends the run.
+// Where a read or a write fails, the table is as some characters left it.
+fn read_some(
+    from: &mut impl Read,
+    to: &impl Print,
+    reader: Reader,
+    table: &mut [u8],
+) -> io::Result<Going>
     requires { length table.old ≡ table_limit }
-    ensures { (input : List ℕ) × ((result.reader, table.new) ≡ read_all reader table.old input) × (is_over result.reader.stage ≡ true → result.more ≡ false) }
+    ensures ok { IfOk result (λ r. (input : List ℕ) × ((r.reader, table.new) ≡ read_all reader table.old input) × (is_over r.reader.stage ≡ true → r.more ≡ false)) }
+    ensures err { OnErr result ((input : List ℕ) × (table.new ≡ (read_all reader table.old input).1)) }
 {
-    let mut chunk = io::large_buffer();
-    let answer = libc::read(STDIN_FILENO, &mut chunk);
-    let got = io::count(answer, &chunk);
-    let next = feed(reader, table, &chunk[..got]);
+    let mut chunk = [0u8; CHUNK];
+    let got = from.read(&mut chunk)?;
+    let next = feed(to, reader, table, &chunk[..got])?;
     let stage = next.stage;
     let more = got > 0 && !input::is_over(stage);
-    Going { more, reader: next }
+    Ok(Going { more, reader: next })
 }
 
 // A proved loop has to end, and nothing says that the input does: so the loop counts down, from a number that no run uses up.
-fn run(table: &mut [u8])
+fn run(from: &mut impl Read, to: &impl Print, table: &mut [u8]) -> io::Result<()>
     requires { length table.old ≡ table_limit }
 {
     let mut going = Going {
@@ -85,14 +98,14 @@ fn run(table: &mut [u8])
     };
     let mut left = u64::MAX;
     while left > 0 && going.more {
-        going = read_some(going.reader, table);
+        going = read_some(from, to, going.reader, table)?;
         left -= 1;
     }
-    finish(going.reader, table);
+    finish(to, going.reader, table)
 }
 
 // The table of the most stacks that a report is made of.
-fn main() {
+fn main(rt: HostRuntime) -> io::Result<()> {
     let mut table = [0u8; TABLE_LIMIT];
-    run(&mut table);
+    run(&mut rt.stdin(), &rt, &mut table)
 }

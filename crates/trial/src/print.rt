@@ -1,41 +1,41 @@
 // Lines of words and numbers on standard output.
-use libc::STDOUT_FILENO;
+use std::io;
 
-pub fn word(text: &[u8]) {
-    io::write_all(STDOUT_FILENO, text);
+pub fn word(out: &impl Print, text: &[u8]) -> io::Result<()> {
+    out.write_all(text)
 }
 
-pub fn number(n: u64) {
-    io::write_all(STDOUT_FILENO, b" ");
-    io::print_decimal(STDOUT_FILENO, n);
+pub fn number(out: &impl Print, n: u64) -> io::Result<()> {
+    out.write_all(b" ")?;
+    out.print(n)
 }
 
 // A word and its number.
-pub fn field(text: &[u8], n: u64) {
-    io::write_all(STDOUT_FILENO, b" ");
-    word(text);
-    number(n);
+pub fn field(out: &impl Print, text: &[u8], n: u64) -> io::Result<()> {
+    out.write_all(b" ")?;
+    word(out, text)?;
+    number(out, n)
 }
 
 // A line's beginning: the kind and n.
-pub fn kind_and_n(kind: u8, n: u8) {
+pub fn kind_and_n(out: &impl Print, kind: u8, n: u8) -> io::Result<()> {
     if kind == 0 {
-        word(b"plain");
+        word(out, b"plain")?;
     } else {
-        word(b"coated");
+        word(out, b"coated")?;
     }
-    number(n as u64);
+    number(out, n as u64)
 }
 
 // What became of a call.
-pub fn verdict(refusal: u8) {
+pub fn verdict(out: &impl Print, refusal: u8) -> io::Result<()> {
     if refusal == 0 {
-        word(b" accepted");
+        word(out, b" accepted")
     } else {
-        field(b"refused", refusal as u64);
+        field(out, b"refused", refusal as u64)
     }
 }
 
-pub fn end() {
-    io::write_all(STDOUT_FILENO, b"\n");
+pub fn end(out: &impl Print) -> io::Result<()> {
+    out.write_all(b"\n")
 }

@@ -11,7 +11,7 @@ use twobit::segment;
 const ROOM: u32 = 16;
 
 // What a build leaves of its job: the refusal, whether it is finished, its level and its counts.
-#[derive(Drop)]
+#[derive(Clone, Copy)]
 pub struct Built {
     pub refusal: u8,
     pub finished: bool,
