@@ -1,6 +1,6 @@
 /* Builds the table of coated 4 for the wanted stack +1 +2 +3 +4 in one call, and shows a plan from it: the stack after each turn, and the price.
  * Then the same for a frame that cannot lift three panes: the plan is longer, and from some stacks there is none.
- *   rt staticlib hokrund
+ *   tools/archive
  *   cc -std=c99 -Iinclude examples/coated.c target/staticlib/libhokrund.a -o target/coated
  *   target/coated | cmp - examples/coated.out */
 #include "hokrund.h"

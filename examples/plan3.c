@@ -1,6 +1,6 @@
 /* Builds the table of plain 3 for the wanted stack 1 2 3 call by call, in two segments of S = 4, its late levels reverse, and plans document 01's
  * frames from it.
- *   rt staticlib hokrund
+ *   tools/archive
  *   cc -std=c99 -Iinclude examples/plan3.c target/staticlib/libhokrund.a -o target/plan3
  *   target/plan3 | cmp - examples/plan3.out */
 #include "hokrund.h"

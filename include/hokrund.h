@@ -26,8 +26,8 @@
  * those of the last save apart, and after a call that was cut short go back to them all. A saved job is good for one HOKRUND_VERSION: save
  * that number with it. As bytes, copy it back into a HokrundJob, which is aligned to 8.
  *
- * The archive is target/staticlib/libhokrund.a. `rt staticlib hokrund` proves the library and makes it; the gate, .ci/run, leaves there the
- * one that it has tested. x86-64, with the System V calling convention of Linux: structs travel by value, and those over 16 bytes, as the job
+ * The archive is target/staticlib/libhokrund.a. tools/archive proves the library and makes it; the gate, .ci/run, leaves there the one that
+ * it has tested. x86-64, with the System V calling convention of Linux: structs travel by value, and those over 16 bytes, as the job
  * and its answers, in memory. C99 or later, or C++98 or later. */
 #ifndef HOKRUND_H
 #define HOKRUND_H

@@ -1,4 +1,4 @@
-// Links the proved library, which `rt staticlib hokrund` makes.
+// Links the proved library, which tools/archive makes.
 
 fn main() {
     let folder = concat!(env!("CARGO_MANIFEST_DIR"), "/../../target/staticlib");

@@ -11,9 +11,14 @@ const HEADER: &str = "include/hokrund.h";
 const RECORD: &str = "include/interface.txt";
 
 // What the library exports, and where the other structs and the limits that it names stand.
-const EXPORTS: &str = "crates/hokrund/src";
-const BELOW: [&str; 4] =
-    ["crates/stacks/src/lib.rt", "crates/search/src/lib.rt", "crates/tariff/src/lib.rt", "crates/mirror/src/lib.rt"];
+const EXPORTS: &str = "crates/hokrund_c/src";
+const BELOW: [&str; 5] = [
+    "crates/stacks/src/lib.rt",
+    "crates/search/src/lib.rt",
+    "crates/tariff/src/lib.rt",
+    "crates/mirror/src/lib.rt",
+    "crates/hokrund/src/version.rt",
+];
 
 // What stands around the declarations. Anything else might hide one of them from a compiler.
 const AROUND: [&str; 6] = [
@@ -333,7 +338,7 @@ fn recorded(header: &Interface, record: &str) -> Result<u32, String> {
         }
         Some(number) if number == version && *last == line(before, version, header) => Ok(version),
         Some(number) if number == version => Err(format!(
-            "what {HEADER} declares is not what was recorded as version {version}: raise {} there, {} in {EXPORTS} and its \
+            "what {HEADER} declares is not what was recorded as version {version}: raise {} there, {} in crate hokrund and its \
              definition, and add the line `{}` to {RECORD}",
             VERSION.0,
             VERSION.1,

@@ -244,7 +244,7 @@ fn random(rng: &mut Rng) -> Vec<u8> {
 
 // ---- The program
 
-// The report program, which `rt check report` makes.
+// The report program, which tools/programs makes.
 pub const PROGRAM: &str = concat!(env!("CARGO_MANIFEST_DIR"), "/../../target/bin/report");
 
 // What the program prints. It ends well, whatever comes in.
