@@ -8,7 +8,9 @@ use native.Mathlib.Omega.{arith}
 use borrow.Author.Tests.{ne_eqb}
 use lib.Dec.{ltb, eqb}
 use lib.ListN.{length, take, drop, take-append-drop}
+use Rattle.std.specs.Prelude.{Result, Ok, Err, Option, Some, None}
 use Rattle.base.proofs.Tests.{eq-or-ne}
+use Rattle.stacks.specs.declared.refusal.Refusal.{Refusal}
 use Rattle.search.specs.Build.{Call, own, own_list, do_blank, do_expand, do_settle, do_load, do_sweep, do_close, lent, lent_list, kept, outcome}
 use Rattle.search.specs.Close.{close_of}
 use Rattle.search.specs.Drive.{Store, first_open, first_pending, first_unswept, first_pair, way_after, list_bytes_at, next_call, cut, advanced, held, laid, store_of}
@@ -17,9 +19,10 @@ use Rattle.search.specs.Expand.{is_parent}
 use Rattle.search.specs.JobState.{is_blanking, is_coherent, is_loaded, in_reverse, level_of, segment_count_of, stack_count_at, stack_count_of}
 use Rattle.search.specs.Load.{load_refusal, changed_of, load_of}
 use Rattle.search.specs.Promise.{right_lengths}
+use Rattle.search.specs.Results.{as_expanded}
 use Rattle.search.specs.Segments.{joined}
-use Rattle.search.specs.declared.Answer.{Answer}
-use Rattle.search.specs.declared.Expanded.{Expanded}
+use Rattle.search.specs.Answers.{Answer}
+use Rattle.search.specs.Answers.{Expanded}
 use Rattle.search.specs.declared.Job.{Job}
 use Rattle.search.proofs.Accepted.{load-accepted, load-refused}
 use Rattle.search.proofs.ChangedLaws.{list_length}
@@ -61,6 +64,12 @@ loads-front job b segment list changed same = go (eq-or-ne (load_refusal job b (
         subst Fronts (sym (load-refused job b segment front ne))
         (rw (ne_eqb (load_refusal job b (length segment) (length front)) 0 ne) (take-append-drop (list_bytes_at job b) list ∙ sym same))
 
+-- the job of what Expand answers
+expanded-job : (job : Job) (r : Result (Option ℕ) Refusal) → (as_expanded job r).job ≡ job
+expanded-job job (Ok None) = refl
+expanded-job job (Ok (Some t)) = refl
+expanded-job job (Err r) = refl
+
 module _ (job : Job) (table log list : List ℕ) where
   abbrev Calls : Type 0
   Calls = Call (right_lengths job.terms)
@@ -80,39 +89,44 @@ module _ (job : Job) (table log list : List ℕ) where
   unchanged after left log' = ap (store_of after left log') (sym (front_kept (list_bytes_at job job.loaded) list))
 
   pub advance-blanks : (j : ℕ) → j ≡ first_open job → is_blanking job.phase ≡ true → first_open job < segment_count_of job
-      → (out : List ℕ × Answer) → out ≡ blanked_in job j table → store_of out.1.job out.0 log list ≡ advanced store
+      → (left : List ℕ) (after : Job) (refusal : ℕ) → (left, record { refusal = refusal; job = after }) ≡ blanked_in job j table
+      → store_of after left log list ≡ advanced store
   unfolding laid outcome lent kept held blanked_in part_of with_part
-  advance-blanks j at blanking h out e =
-      unchanged out.1.job out.0 log
+  advance-blanks j at blanking h left after refusal e =
+      unchanged after left log
       ∙ ap (λ (o : List ℕ × Answer). store_of o.1.job o.0 log ((held store).changed ++ drop (length (held store).changed) list))
       (e ∙ ap (λ (i : ℕ). blanked_in job i table) at)
       ∙ chosen (do_blank (first_open job) own) (next-blank job list blanking h)
 
   module _ (blanked : is_blanking job.phase ≡ false) (forward : in_reverse job ≡ false) where
     pub advance-settles : (j : ℕ) → j ≡ first_pending job → first_pending job < segment_count_of job
-        → (out : List ℕ × Answer) → out ≡ settled_in job j table log → store_of out.1.job out.0 log list ≡ advanced store
+        → (left : List ℕ) (after : Job) (refusal : ℕ) → (left, record { refusal = refusal; job = after }) ≡ settled_in job j table log
+        → store_of after left log list ≡ advanced store
     unfolding laid outcome lent kept held settled_in part_of with_part
-    advance-settles j at h out e =
-        unchanged out.1.job out.0 log
+    advance-settles j at h left after refusal e =
+        unchanged after left log
         ∙ ap (λ (o : List ℕ × Answer). store_of o.1.job o.0 log ((held store).changed ++ drop (length (held store).changed) list))
         (e ∙ ap (λ (i : ℕ). settled_in job i table log) at)
         ∙ chosen (do_settle (first_pending job) own own) (next-settle job list blanked forward h)
 
     pub advance-expands : (j : ℕ) → j ≡ first_open job → segment_count_of job ≤ first_pending job → first_open job < segment_count_of job
-        → (out : List ℕ × List ℕ × Expanded) → out ≡ expanded_in job j table log → store_of out.2.job out.0 out.1 list ≡ advanced store
+        → (left log' : List ℕ) (after : Job) (r : Result (Option ℕ) Refusal) → (left, log', as_expanded after r) ≡ expanded_in job j table log
+        → store_of after left log' list ≡ advanced store
     unfolding laid outcome lent kept held expanded_in part_of with_part
-    advance-expands j at h l out e =
-        unchanged out.2.job out.0 out.1
+    advance-expands j at h l left log' after r e =
+        ap (λ (x : Job). store_of x left log' list) (sym (expanded-job after r))
+        ∙ unchanged (as_expanded after r).job left log'
         ∙ ap (λ (o : List ℕ × List ℕ × Expanded). store_of o.2.job o.0 o.1 ((held store).changed ++ drop (length (held store).changed) list))
         (e ∙ ap (λ (i : ℕ). expanded_in job i table log) at)
         ∙ chosen (do_expand (first_open job) own own) (next-expand job list blanked forward h l)
 
   pub advance-sweeps : is_blanking job.phase ≡ false → in_reverse job ≡ true → is_loaded job ≡ true
       → (j : ℕ) → j ≡ first_pair job → first_pair job < segment_count_of job
-      → (out : List ℕ × Answer) → out ≡ swept_in job j table list → store_of out.1.job out.0 log list ≡ advanced store
+      → (left : List ℕ) (after : Job) (refusal : ℕ) → (left, record { refusal = refusal; job = after }) ≡ swept_in job j table list
+      → store_of after left log list ≡ advanced store
   unfolding laid outcome lent lent_list kept held swept_in part_of with_part
-  advance-sweeps blanked reverse loaded j at h out e =
-      unchanged out.1.job out.0 log
+  advance-sweeps blanked reverse loaded j at h left after refusal e =
+      unchanged after left log
       ∙ ap (λ (o : List ℕ × Answer). store_of o.1.job o.0 log ((held store).changed ++ drop (length (held store).changed) list))
       (e ∙ ap (λ (i : ℕ). swept_in job i table list) at)
       ∙ chosen (do_sweep (first_pair job) own own_list) (next-sweep job list blanked reverse loaded h)
@@ -125,9 +139,10 @@ module _ (job : Job) (table log list : List ℕ) where
     pub advance-loads : is_blanking job.phase ≡ false → in_reverse job ≡ true
         → (is_loaded job && ltb (first_pair job) (segment_count_of job)) ≡ false
         → (b : ℕ) → b ≡ first_unswept job → first_unswept job < segment_count_of job
-        → (out : List ℕ × Answer) → out ≡ loaded_in job b table list → store_of out.1.job table log out.0 ≡ advanced store
+        → (left : List ℕ) (after : Job) (refusal : ℕ) → (left, record { refusal = refusal; job = after }) ≡ loaded_in job b table list
+        → store_of after table log left ≡ advanced store
     unfolding laid outcome lent held loaded_in part_of
-    advance-loads blanked reverse none b at h out e =
+    advance-loads blanked reverse none b at h left after refusal e =
         let first = first_unswept job in
         let segment = part_of job first table in
         let call = load_of job first segment (take (list_bytes_at job first) list) in
@@ -159,3 +174,6 @@ module _ (job : Job) (table log list : List ℕ) where
           → (is_loaded job && ltb (first_pair job) (segment_count_of job)) ≡ false → segment_count_of job ≤ first_unswept job
           → store_of after table log list ≡ advanced store
       advance-done blanked reverse none h = closed (next-done job list blanked reverse none h)
+
+-- with nothing left to do in a phase
+pub ruleset phase_closes = (advance-opens, advance-closes, advance-done)

@@ -1,73 +1,61 @@
--- The loop that drives a build, from its start to its end.
+-- What Begin answers, and the loop that drives a build from its start to its end.
 use mathlib.Core.Path.{◌≡◌, sym, ap, ◌∙◌, subst}
-use mathlib.Core.Bool.{Bool, true, cond}
+use mathlib.Core.Bool.{true, false, cond}
 use mathlib.Core.List.{List}
 use Prim.Native.Nat.{ℕ}
 use lib.Dec.{eqb}
 use lib.ListN.{length}
 use borrow.Author.Tests.{ne_eqb}
+use Rattle.std.specs.Prelude.{Ok, Err}
+use Rattle.stacks.specs.Refusals.{number}
+use Rattle.stacks.specs.declared.refusal.Refusal.{Refusal}
+use Rattle.stacks.proofs.Numbers.{number-some}
 use Rattle.search.specs.Begin.{begun, no_job, begin_of}
-use Rattle.search.specs.Drive.{Store, has_ended, held, build_refusal, ended, build_of, store_of}
-use Rattle.search.specs.Promise.{right_words}
-use Rattle.search.specs.declared.Answer.{Answer}
+use Rattle.search.specs.Close.{close_refusal}
+use Rattle.search.specs.JobState.{is_finished, last_level, level_of}
+use Rattle.search.proofs.Advancing.{unfinished-ended, earlier-ended}
+use Rattle.search.specs.Drive.{Store, has_ended, build_refusal, build_of, store_of}
+use Rattle.search.specs.Results.{as_begun}
+use Rattle.search.specs.Terms.{begin_refusal}
+use Rattle.search.specs.Answers.{Answer}
 use Rattle.search.specs.declared.Job.{Job}
 use Rattle.search.specs.declared.Terms.{Terms}
-use Rattle.search.proofs.Coherence.{given-begin}
-use Rattle.search.proofs.WholeTable.{Accepts, Driving, driving-begins, driving-ends}
+use Rattle.search.proofs.WholeTable.{build-accepts, Driving, driving-begins, driving-ends}
 
-module _ (terms : Terms) (table₀ log₀ list₀ : List ℕ) where
-  -- what is not refused
-  abbrev pub Accepted : Type 0
-  Accepted = Accepts terms (length table₀) (length log₀) (length list₀)
+-- Close answers 14 at the last level alone
+pub last_alone : (job : Job) → is_finished job.phase ≡ false → (level_of job.phase ≡ last_level → ⊥) → eqb (close_refusal job) 14 ≡ false
+last_alone job on earlier = unfinished-ended job on ∙ earlier-ended job on earlier
 
-  -- what it leaves and answers where t says whether r, its refusal, is 0, and it ends with the store `end`
-  abbrev answered : Bool → ℕ → Store → List ℕ × List ℕ × List ℕ × Answer
-  answered t r end =
-      cond t (end.table, end.log, end.list, record { refusal = 0; job = end.job })
-      (table₀, log₀, list₀, record { refusal = r; job = no_job })
-
-  -- the job that an accepted Begin answers
-  pub begin-accepted : Accepted → (begin_of terms).job ≡ begun terms
+module _ (terms : Terms) where
+  pub begin-refused : (r : Refusal) → as_begun (Err r) ≡ begin_of terms → number r ≡ begin_refusal terms
   unfolding begin_of
-  begin-accepted accepts =
-      ap (λ (r : ℕ). cond (eqb r 0) (begun terms) no_job) (given-begin terms accepts.given)
+  begin-refused r e = ap (λ (a : Answer). a.refusal) e
 
-  pub build_begins : (job : Job) → job ≡ begun terms → Accepted → Driving job.terms table₀ log₀ list₀ (store_of job table₀ log₀ list₀)
-  unfolding begun
-  build_begins job e accepts =
-      subst (λ (x : Job). Driving x.terms table₀ log₀ list₀ (store_of x table₀ log₀ list₀)) (sym e) (driving-begins accepts)
+  pub begin-accepted : (job : Job) → as_begun (Ok job) ≡ begin_of terms → (begin_refusal terms ≡ 0) × (job ≡ begun terms)
+  unfolding begin_of
+  begin-accepted job e =
+      let none : 0 ≡ begin_refusal terms = ap (λ (a : Answer). a.refusal) e in
+      (sym none, ap (λ (a : Answer). a.job) e ∙ ap (λ (r : ℕ). cond (eqb r 0) (begun terms) no_job) (sym none))
 
-  -- the job that it begins with has what it was given
-  pub build-keeps : {first : Job} {s : Store} → first ≡ begun terms → Driving first.terms table₀ log₀ list₀ s → Driving terms table₀ log₀ list₀ s
-  unfolding begun
-  build-keeps {s = s} e driving = subst (λ (t : Terms). Driving t table₀ log₀ list₀ s) (ap (λ (x : Job). x.terms) e) driving
+  -- Begin's refusals are those of the build
+  pub begin-refuses : (bytes words listed : ℕ) (r : Refusal) → number r ≡ begin_refusal terms → number r ≡ build_refusal terms bytes words listed
+  unfolding build_refusal
+  begin-refuses bytes words listed r e = rw (← e, ne_eqb (number r) 0 (number-some r))
 
-  -- the buffers keep their lengths
-  module _ {s : Store} (accepts : Accepted) (driving : Driving terms table₀ log₀ list₀ s) where
-    pub table_kept : length s.table ≡ length table₀
-    table_kept = driving.stored.table-long ∙ sym accepts.bytes_fit
+  module _ (table₀ log₀ list₀ : List ℕ) where
+    pub build_begins : (job : Job) → job ≡ begun terms → 0 ≡ build_refusal terms (length table₀) (length log₀) (length list₀)
+        → Driving terms table₀ log₀ list₀ (store_of job table₀ log₀ list₀)
+    build_begins job e accepted =
+        subst (λ (x : Job). Driving terms table₀ log₀ list₀ (store_of x table₀ log₀ list₀)) (sym e)
+        (driving-begins (build-accepts terms (length table₀) (length log₀) (length list₀) (sym accepted)))
 
-    pub log-kept : length s.log ≡ length log₀
-    unfolding held right_words
-    log-kept = driving.stored.invariant.shaped.log_length ∙ sym accepts.words-fit
-
-    pub list-kept : length s.list ≡ length list₀
-    list-kept = driving.stored.list-long ∙ sym accepts.list-fits
-
-  module _ (r : ℕ) (e : r ≡ build_refusal terms (length table₀) (length log₀) (length list₀)) where
-    pub build-refused : (r ≡ 0 → ⊥) → (job : Job) → job ≡ no_job
-        → (table₀, log₀, list₀, record { refusal = r; job = job }) ≡ build_of terms table₀ log₀ list₀
+    pub build-refused : (r : Refusal) → number r ≡ build_refusal terms (length table₀) (length log₀) (length list₀)
+        → (table₀, log₀, list₀, as_begun (Err r)) ≡ build_of terms table₀ log₀ list₀
     unfolding build_of
-    build-refused h job q =
-        let end = ended terms table₀ log₀ list₀ in
-        ap (λ (x : Job). (table₀, log₀, list₀, record { refusal = r; job = x })) q
-        ∙ ap (λ (t : Bool). answered t r end) (sym (ne_eqb r 0 h))
-        ∙ ap (λ (x : ℕ). answered (eqb x 0) x end) e
+    build-refused r e = rw (← e, ne_eqb (number r) 0 (number-some r))
 
-    module _ (h : r ≡ 0) {s : Store} (driving : Driving terms table₀ log₀ list₀ s) where
-      pub build_ends : has_ended s.job ≡ true
-          → (s.table, s.log, s.list, record { refusal = 0; job = s.job }) ≡ build_of terms table₀ log₀ list₀
-      unfolding build_of
-      build_ends end =
-          ap (λ (x : Store). (x.table, x.log, x.list, record { refusal = 0; job = x.job })) (sym (driving-ends driving end))
-          ∙ ap (λ (x : ℕ). answered (eqb x 0) x (ended terms table₀ log₀ list₀)) (sym h ∙ e)
+    pub build_ends : 0 ≡ build_refusal terms (length table₀) (length log₀) (length list₀)
+        → {s : Store} → Driving terms table₀ log₀ list₀ s → has_ended s.job ≡ true
+        → (s.table, s.log, s.list, as_begun (Ok s.job)) ≡ build_of terms table₀ log₀ list₀
+    unfolding build_of
+    build_ends accepted driving end = rw (← accepted, driving-ends driving end)

@@ -1,64 +1,58 @@
 -- A loop that looks for the first segment that passes a test, and those that the driver has.
-use mathlib.Core.Path.{◌≡◌, ap, ◌∙◌}
+use mathlib.Core.Path.{◌≡◌, ap}
 use mathlib.Core.Bool.{Bool, true, false, not}
-use Prim.Native.Nat.{ℕ, ◌+◌, ◌/◌, ◌%◌, ◌^◌, ◌≤◌, ◌<◌}
+use Prim.Native.Nat.{ℕ, ◌≤◌, ◌<◌}
 use native.Mathlib.Omega.{arith}
-use borrow.Author.Count.{below_more}
-use borrow.Author.Tests.{eq-eqb, ne_eqb}
-use lib.Dec.{ltb, eqb}
-use lib.ListN.{get_or}
-use Rattle.close.specs.Ready.{row_whole}
-use Rattle.search.specs.Close.{is_swept_whole}
-use Rattle.search.specs.Drive.{is_open, is_pending, is_unswept, first_open, first_pending, first_unswept, first_pair}
-use Rattle.search.specs.JobState.{stack_count_of, segment_count_of, stack_count_at, passed_of, waiting_of, swept_of, is_swept, is_loaded, is_coherent, no_segment}
-use Rattle.search.specs.Segments.{segment_limit, stack_count_in}
-use Rattle.search.specs.Terms.{N, G}
+use borrow.Author.Tests.{eq-eqb, ne_eqb, le-ltb}
+use Rattle.base.proofs.Tests.{and-fails-right}
+use lib.Dec.{ltb}
+use Rattle.search.specs.Drive.{first_pair}
+use Rattle.search.specs.JobState.{segment_count_of, is_loaded, is_coherent, no_segment}
+use Rattle.search.specs.Segments.{segment_limit}
 use Rattle.search.specs.declared.Job.{Job}
 use Rattle.search.proofs.Coherence.{coherent-facts}
 use Rattle.search.proofs.PairLaws.{loaded-below}
 use Rattle.job.proofs.Bounds.{coherent-bounds}
 use Rattle.expand.proofs.Lowest.{first-is}
 use Rattle.base.specs.Words.{first_from}
+use Rattle.std.specs.Prelude.{Option, Some, None, MatchOption}
+use Rattle.std.specs.Bool.{⊤}
+use Rattle.std.specs.declared.ops.Range.{Range}
+use Rattle.std.specs.Fn.{CalledAt}
+use Rattle.std.specs.Iterator.{YieldsThen}
+use Rattle.std.specs.List.{FoldsTo}
+use Rattle.std.proofs.iter.Yields.{nat_range_steps}
+use Rattle.std.proofs.lemmas.Iterator.{first_from_Range}
+use denote.Param.Members.{Mut}
+use denote.Ref.{Bor}
+use mathlib.Core.List.{List}
+use mathlib.Core.Path.{sym}
+use Rattle.build.specs.First.{IsFirst, IsPair}
 
--- no number below j passes, and n numbers are tried
-pub record Seeks (p : ℕ → Bool) (n j : ℕ) : Type 0 where
-  pub within : j ≤ n
-  pub none : (k : ℕ) → k < j → p k ≡ false
+-- of so many segments, the first that passes
+first : (p : ℕ → Bool) (n : ℕ) (r : Option ℕ)
+    → MatchOption r ((k : ℕ) → k < n → p k ≡ false) (λ j. (j < n) × (p j ≡ true) × ((k : ℕ) → k < j → p k ≡ false)) → IsFirst (first_from p 0 n) n r
+first p n None none = omega (arith, first-is p n n (omega arith) none (λ h. absurd (omega arith)))
+first p n (Some j) at = let is : j ≡ first_from p 0 n = first-is p n j (omega (arith, at.0)) at.2 (λ h. at.1) in (is, omega (arith, at.0))
 
-module _ (p : ℕ → Bool) (n : ℕ) where
-  pub seek-starts : Seeks p n 0
-  seek-starts = record { within = omega arith; none = λ k h. absurd (omega arith) }
+-- what `find` answers over the segments, where the closure tells whether p holds
+pub found : {F : Type 0} {g : Mut F (Bor ℕ × Unit {0}) Bool} (p : ℕ → Bool) (n : ℕ) (s u : Range ℕ) (f : F) (r : Option ℕ)
+    → (xs : List ℕ) × (j : F) × YieldsThen nat_range_steps s xs r u × FoldsTo (λ p x q. CalledAt g p x false q) f xs j × MatchOption r ⊤ (λ x. (h : F) × CalledAt g j x true h)
+    → ((x : ℕ) (b : Bool) (q : F) → CalledAt g f x b q → (q ≡ f) × (b ≡ p x)) → s.start ≡ 0 → s.end ≡ n
+    → IsFirst (first_from p 0 n) n r
+found {F = F} {g = g} p n s u f r ran tells starts ends = first p n r (plain r (first_from_Range s u f r (λ j. p j ≡ true) (λ j. p j ≡ false) ran yes no))
+  where
+    yes : (x : ℕ) (q : F) → CalledAt g f x true q → p x ≡ true
+    yes x q k = sym (tells x true q k).1
 
-  pub seek-on : (j : ℕ) → j < n → Seeks p n j → p j ≡ false → Seeks p n (j + 1)
-  seek-on j h s fails = record { within = omega arith; none = below_more (λ k. p k ≡ false) j s.none fails }
+    no : (x : ℕ) (q : F) → CalledAt g f x false q → (q ≡ f) × (p x ≡ false)
+    no x q k = ((tells x false q k).0, sym (tells x false q k).1)
 
-  pub seek_finds : (j : ℕ) → Seeks p n j → p j ≡ true → j ≡ first_from p 0 n
-  seek_finds j s passes = first-is p n j s.within s.none (λ h. passes)
-
-  pub seek-ends : (j : ℕ) → n ≤ j → Seeks p n j → j ≡ first_from p 0 n
-  seek-ends j h s = first-is p n j s.within s.none (λ l. absurd (omega arith))
-
--- the driver's searches, by what the code goes by
-module _ (job : Job) (segments : ℕ) (e : segments ≡ G job.terms) where
-  pub open_is : (count r : ℕ) → count ≡ N job.terms
-      → r ≡ first_from (λ j. ltb (get_or job.passed j 0) (stack_count_in count job.terms.size j)) 0 segments → r ≡ first_open job
-  unfolding first_open is_open passed_of stack_count_at segment_count_of stack_count_of
-  open_is count r c f =
-      f
-      ∙ ap (λ (m : ℕ). first_from (λ j. ltb (get_or job.passed j 0) (stack_count_in m job.terms.size j)) 0 segments) c
-      ∙ ap (first_from (is_open job) 0) e
-
-  pub pending-is : (r : ℕ) → r ≡ first_from (λ t. ltb 0 (get_or job.waiting t 0)) 0 segments → r ≡ first_pending job
-  unfolding first_pending is_pending waiting_of segment_count_of stack_count_of
-  pending-is r f = f ∙ ap (first_from (is_pending job) 0) e
-
-  pub unswept-is : (r : ℕ) → r ≡ first_from (λ b. not (row_whole segments (get_or job.swept b 0))) 0 segments → r ≡ first_unswept job
-  unfolding first_unswept is_unswept is_swept_whole is_swept swept_of segment_count_of stack_count_of
-  unswept-is r f = f ∙ ap (λ (g : ℕ). first_from (λ b. not (row_whole g (get_or job.swept b 0))) 0 g) e
-
-  pub pair_is : (r : ℕ) → r ≡ first_from (λ j. not (eqb (get_or job.swept job.loaded 0 / 2 ^ j % 2) 1)) 0 segments → r ≡ first_pair job
-  unfolding first_pair is_swept swept_of segment_count_of stack_count_of
-  pair_is r f = f ∙ ap (first_from (λ j. not (is_swept job job.loaded j)) 0) e
+    plain : (r : Option ℕ) → MatchOption r ((k : ℕ) → s.start ≤ k → k < s.end → p k ≡ false)
+        (λ i. (s.start ≤ i) × (i < s.end) × (p i ≡ true) × ((k : ℕ) → s.start ≤ k → k < i → p k ≡ false))
+        → MatchOption r ((k : ℕ) → k < n → p k ≡ false) (λ j. (j < n) × (p j ≡ true) × ((k : ℕ) → k < j → p k ≡ false))
+    plain None none = λ k h. none k (omega (arith, starts)) (omega (arith, ends))
+    plain (Some i) at = (omega (arith, at.1, ends), at.2, λ k h. at.3 k (omega (arith, starts)) h)
 
 -- whether a segment is loaded, as the code asks it
 module _ (job : Job) where
@@ -74,3 +68,8 @@ module _ (job : Job) where
   pub loaded-inside : is_coherent job ≡ true → (job.loaded ≡ no_segment → ⊥) → job.loaded < segment_limit
   loaded-inside coherent ne =
       omega (arith, loaded-below job (coherent-facts job coherent).loaded-fits (loaded-some ne), (coherent-bounds job coherent).few)
+
+  -- with one loaded, what is found is the pair to sweep
+  pub paired : is_loaded job ≡ true → (r : Option ℕ) → IsFirst (first_pair job) (segment_count_of job) r → IsPair job r
+  paired loaded None none = and-fails-right (is_loaded job) (ltb (first_pair job) (segment_count_of job)) (le-ltb (first_pair job) (segment_count_of job) none)
+  paired loaded (Some j) at = (loaded, at.0, at.1)

@@ -2,6 +2,5 @@
 pub mod Choosing
 pub mod Ways
 pub mod Parts
-pub mod Refusing
 pub mod Advances
 pub mod Building

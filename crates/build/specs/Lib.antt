@@ -1,4 +1,4 @@
--- What a call on one segment leaves in the whole table, and the driver's rule.
+-- What a call on one segment leaves in the whole table.
+pub mod First
 pub mod Part
 pub mod Step
-pub mod Way

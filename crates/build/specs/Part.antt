@@ -1,18 +1,31 @@
 -- A call on segment j of a job, made in the whole table; Load and Sweep have the front of the changed list.
-use Rattle.std.specs.Prelude.{List, [], ◌++◌, ℕ, get_or, set, take, drop}
+use Rattle.std.specs.Prelude.{◌≡◌, ◌≤◌, ◌<◌, true, List, [], ◌++◌, ℕ, ◌+◌, ◌*◌, ◌/◌, length, get_or, set, take, drop}
 use Rattle.search.specs.Blank.{blank_of}
 use Rattle.search.specs.Drive.{cut, list_bytes_at}
+use Rattle.search.specs.Entries.{bytes_for}
 use Rattle.search.specs.Expand.{expand_of}
-use Rattle.search.specs.JobState.{stack_count_of}
+use Rattle.search.specs.JobState.{is_coherent, segment_count_of, stack_count_at, stack_count_of}
 use Rattle.search.specs.Load.{load_of}
 use Rattle.search.specs.Segments.{joined}
 use Rattle.search.specs.Settle.{settle_of}
 use Rattle.search.specs.Sweep.{sweep_of}
-use Rattle.search.specs.declared.Answer.{Answer}
-use Rattle.search.specs.declared.Expanded.{Expanded}
+use Rattle.search.specs.Answers.{Answer}
+use Rattle.search.specs.Answers.{Expanded}
 use Rattle.search.specs.declared.Job.{Job}
 
+-- segment j lies in the table from byte `start` to below byte `end`
+pub record LiesAt (job : Job) (j start end : ℕ) : Type 0 where
+  pub starts : start ≡ j * (job.terms.size / 4)
+  pub ends : end ≡ j * (job.terms.size / 4) + bytes_for (stack_count_at job j)
+  pub within : end ≤ bytes_for (stack_count_of job)
+
 module _ (job : Job) (j : ℕ) (table : List ℕ) where
+  -- what each asks of the job, the segment and the table
+  pub record PartFits : Type 0 where
+    pub coherent : is_coherent job ≡ true
+    pub inside : j < segment_count_of job
+    pub bytes : length table ≡ bytes_for (stack_count_of job)
+
   -- segment j, and the table with another one
   unfoldable pub part_of : List ℕ
   part_of = get_or (cut (stack_count_of job) job.terms.size table) j []

@@ -1,97 +1,57 @@
 // Build the whole table.
-ghost use Rattle.std.specs.Prelude.{◌≡◌, length};
-ghost use Rattle.base.specs.Words.{all};
-ghost use Rattle.search.specs.Begin.{begin_of};
+ghost use Rattle.std.specs.Prelude.{◌≡◌};
 ghost use Rattle.search.specs.Drive.{has_ended, build_refusal, build_of};
-ghost use Rattle.search.specs.JobState.{count_in_limit, count_places};
-ghost use Rattle.job.specs.Standing.{Has};
+ghost use Rattle.search.specs.Results.{as_begun};
+ghost use Rattle.search.specs.Terms.{begin_refusal};
+ghost use Rattle.stacks.specs.Refusals.{refusal_of};
 
 use crate::advance;
-use job::{begin, coherence, geometry, phase};
-use perm::kind;
-use search::{Answer, COUNT_PLACES, Job, LAST_LEVEL, Phase, SEGMENT_LIMIT, Terms, Way};
+use job::{begin, geometry};
+use search::{Job, LAST_LEVEL, Terms};
+use stacks::Refusal;
 use twobit::{list, segment};
 
-fn build_refusal(terms: Terms, bytes: usize, words: usize, listed: usize) -> u8
-    ensures { result ≡ build_refusal terms bytes words listed }
+// Behind Begin's refusals, 10 for the table, the log area and the list.
+#[tactic(auto, unfolding(search::specs::Drive::build_refusal, search::specs::Promise::right_words, stacks::specs::Refusals::number), using(job::proofs::Begun::begun_terms))]
+fn check_lent(terms: Terms, bytes: usize, words: usize, listed: usize) -> Result<(), Refusal>
+    requires { begin_refusal terms ≡ 0 }
+    ensures { refusal_of result ≡ build_refusal terms bytes words listed }
 {
-    let refusal = coherence::begin_refusal(terms);
-    if refusal != 0 {
-        return refusal;
-    }
-    let count = kind::stack_count(terms.kind, terms.n);
-    if bytes != segment::bytes_for(count) as usize {
-        return 10;
-    }
-    if words != geometry::log_length(terms) {
-        return 10;
-    }
+    let count = geometry::panes_of(terms).stack_count();
     let longest = geometry::stack_count_at(terms, 0);
-    if listed != list::list_bytes(longest) as usize {
-        return 10;
+    if bytes != segment::bytes_for(count) as usize
+        || words != geometry::log_length(terms)
+        || listed != list::list_bytes(longest) as usize
+    {
+        return Err(Refusal::Length);
     }
-    0
+    Ok(())
 }
 
-// The job that Begin answers: a new one, or where it refuses the one that no call accepts.
-fn begun_job(terms: Terms) -> Job
-    ensures { result ≡ (begin_of terms).job }
+// It has finished, or there is no level after the last. Close is asked at the last level alone.
+#[tactic(auto, unfolding(search::specs::Drive::has_ended, stacks::specs::Refusals::number), using(crate::proofs::Building::last_alone))]
+fn has_ended(job: &Job) -> bool
+    ensures { result ≡ has_ended job.now }
 {
-    let begun = begin::begin(terms);
-    begun.job
+    job.phase.is_finished()
+        || job.phase.level() == LAST_LEVEL
+            && matches!(close::close::check_close(job), Err(Refusal::LastLevel))
 }
 
-// It has finished, or there is no level after the last. Close is asked at the last level alone. The job's fields are lent, so that the loop
-// copies no job to ask.
-fn has_ended<'a>(
+// A build from Begin to its end, in a table, a log area and a changed list of the right lengths. Refused, they are as they were.
+pub fn build_table(
     terms: Terms,
-    phase: Phase,
-    way: Way,
-    loaded: u8,
-    passed: &'a [u32; SEGMENT_LIMIT],
-    waiting: &'a [u32; SEGMENT_LIMIT],
-    swept: &'a [u64; SEGMENT_LIMIT],
-    counts: &'a [u64; COUNT_PLACES],
-) -> bool
-    requires { length counts.now ≡ count_places }
-    ensures { (job : Job) → Has job terms phase loaded passed.now waiting.now swept.now (all count_in_limit counts.now) → job.way ≡ way → job.counts ≡ counts.now → result ≡ has_ended job }
+    table: &mut [u8],
+    log: &mut [u32],
+    list: &mut [u8],
+) -> Result<Job, Refusal>
+    ensures { (table.new, log.new, list.new, as_begun result) ≡ build_of terms table.old log.old list.old }
 {
-    if phase::is_finished(phase) {
-        return true;
+    let mut job = begin::begin(terms)?;
+    check_lent(terms, table.len(), log.len(), list.len())?;
+    // It counts nothing, and ends where the build has.
+    while !has_ended(&job) {
+        advance::advance(&mut job, table, log, list);
     }
-    if phase::level_of(phase) != LAST_LEVEL {
-        return false;
-    }
-    let last = counts[LAST_LEVEL as usize];
-    let fits = coherence::counts_fit(counts);
-    let refusal = close::close::close_refusal(
-        terms, phase, way, loaded, passed, waiting, swept, fits, last,
-    );
-    refusal == 14
-}
-
-// A build from Begin to its end, in a table, a log area and a changed list of the right lengths. Refused, they are as they were, and the job is
-// that of a refused Begin.
-pub fn build_table(terms: Terms, table: &mut [u8], log: &mut [u32], list: &mut [u8]) -> Answer
-    ensures { (table.new, log.new, list.new, result) ≡ build_of terms table.old log.old list.old }
-{
-    let refusal = build_refusal(terms, table.len(), log.len(), list.len());
-    if refusal != 0 {
-        let none = begin::no_job();
-        return Answer { refusal, job: none };
-    }
-    let mut job = begun_job(terms);
-    while !has_ended(
-        job.terms,
-        job.phase,
-        job.way,
-        job.loaded,
-        &job.passed,
-        &job.waiting,
-        &job.swept,
-        &job.counts,
-    ) {
-        job = advance::advance(&job, table, log, list);
-    }
-    Answer { refusal: 0, job }
+    Ok(job)
 }

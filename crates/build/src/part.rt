@@ -1,93 +1,93 @@
 // Calls on one segment, each lent that segment's part of the whole table, and Load and Sweep the front of the changed list.
-ghost use Rattle.std.specs.Prelude.{true, ◌≡◌, ◌+◌, ◌*◌, ◌/◌, ◌≤◌, ◌<◌, length};
+ghost use Rattle.std.specs.Prelude.{true, ◌≡◌, ◌≤◌, ◌<◌, length};
 ghost use Rattle.search.specs.Changed.{list_bytes};
-ghost use Rattle.search.specs.Entries.{bytes_for};
-ghost use Rattle.search.specs.JobState.{is_coherent, segment_count_of, stack_count_at, stack_count_of};
-ghost use Rattle.search.specs.Segments.{segment_limit, most_size};
-ghost use Rattle.search.specs.Terms.{m, begin_refusal};
-ghost use Rattle.build.specs.Part.{blanked_in, settled_in, expanded_in, loaded_in, swept_in};
+ghost use Rattle.search.specs.Drive.{list_bytes_at};
+ghost use Rattle.search.specs.JobState.{is_coherent, segment_count_of, stack_count_at};
+ghost use Rattle.search.specs.Results.{as_answer, as_expanded};
+ghost use Rattle.build.specs.Part.{LiesAt, PartFits, blanked_in, settled_in, expanded_in, loaded_in, swept_in};
 
 use calls::{blank, load, settle};
 use job::geometry;
-use search::{Answer, Expanded, Job, Terms};
+use search::Job;
+use stacks::Refusal;
+use std::ops::Range;
 use twobit::{list, segment};
 
-// Where segment j starts in the table. Every segment before it is full.
-fn part_start(size: u32, j: u32) -> usize
-    requires { (size ≤ most_size) × (j ≤ segment_limit) }
-    ensures { result ≡ j * (size / 4) }
+// Where segment j lies in the table. Every segment before it is full.
+#[tactic(auto, using(job::proofs::Bounds::coherent_rows))]
+fn part_of(job: &Job, j: u32) -> Range<usize>
+    requires { (is_coherent job.now ≡ true) × (j < segment_count_of job.now) }
+    ensures { LiesAt job.now j result.start result.end }
 {
-    (j as usize) * ((size / 4) as usize)
-}
-
-// Where it ends.
-fn part_end(terms: Terms, j: u32) -> usize
-    requires { (begin_refusal terms ≡ 0) × (j ≤ segment_limit) }
-    ensures { result ≡ j * (terms.size / 4) + bytes_for (m terms j) }
-{
-    let start = part_start(terms.size, j);
-    let stacks = geometry::stack_count_at(terms, j);
-    start + (segment::bytes_for(stacks) as usize)
+    let start = j as usize * (job.terms.size / 4) as usize;
+    let stacks = geometry::stack_count_at(job.terms, j);
+    start..start + segment::bytes_for(stacks) as usize
 }
 
 // Where the changed list of segment b ends.
-fn list_end(terms: Terms, b: u32) -> usize
-    requires { begin_refusal terms ≡ 0 }
-    ensures { result ≡ list_bytes (m terms b) }
+#[tactic(auto, using(job::proofs::Bounds::coherent_rows))]
+fn list_end(job: &Job, b: u32) -> usize
+    requires { is_coherent job.now ≡ true }
+    ensures { (result ≡ list_bytes_at job.now b) × (result ≤ list_bytes (stack_count_at job.now 0)) }
 {
-    let stacks = geometry::stack_count_at(terms, b);
+    let stacks = geometry::stack_count_at(job.terms, b);
     list::list_bytes(stacks) as usize
 }
 
-pub(crate) fn blank_part(job: Job, j: u32, table: &mut [u8]) -> Answer
-    requires { (is_coherent job ≡ true) × (j < segment_count_of job) × (length table.old ≡ bytes_for (stack_count_of job)) }
-    ensures { (table.new, result) ≡ blanked_in job j table.old }
+pub(crate) fn blank_part(job: &mut Job, j: u32, table: &mut [u8]) -> Result<(), Refusal>
+    requires { PartFits job.old j table.old }
+    ensures { (table.new, as_answer job.new result) ≡ blanked_in job.old j table.old }
 {
-    let terms = job.terms;
-    let start = part_start(terms.size, j);
-    let end = part_end(terms, j);
-    blank::blank(job, j, &mut table[start..end])
+    let part = part_of(job, j);
+    blank::blank(job, j, &mut table[part])
 }
 
-pub(crate) fn settle_part(job: Job, j: u32, table: &mut [u8], log: &[u32]) -> Answer
-    requires { (is_coherent job ≡ true) × (j < segment_count_of job) × (length table.old ≡ bytes_for (stack_count_of job)) }
-    ensures { (table.new, result) ≡ settled_in job j table.old log.now }
+pub(crate) fn settle_part(
+    job: &mut Job,
+    j: u32,
+    table: &mut [u8],
+    log: &[u32],
+) -> Result<(), Refusal>
+    requires { PartFits job.old j table.old }
+    ensures { (table.new, as_answer job.new result) ≡ settled_in job.old j table.old log.now }
 {
-    let terms = job.terms;
-    let start = part_start(terms.size, j);
-    let end = part_end(terms, j);
-    settle::settle(job, j, &mut table[start..end], log)
+    let part = part_of(job, j);
+    settle::settle(job, j, &mut table[part], log)
 }
 
-pub(crate) fn expand_part(job: Job, j: u32, table: &mut [u8], log: &mut [u32]) -> Expanded
-    requires { (is_coherent job ≡ true) × (j < segment_count_of job) × (length table.old ≡ bytes_for (stack_count_of job)) }
-    ensures { (table.new, log.new, result) ≡ expanded_in job j table.old log.old }
+pub(crate) fn expand_part(
+    job: &mut Job,
+    j: u32,
+    table: &mut [u8],
+    log: &mut [u32],
+) -> Result<Option<u32>, Refusal>
+    requires { PartFits job.old j table.old }
+    ensures { (table.new, log.new, as_expanded job.new result) ≡ expanded_in job.old j table.old log.old }
 {
-    let terms = job.terms;
-    let start = part_start(terms.size, j);
-    let end = part_end(terms, j);
-    expand::expand::expand(job, j, &mut table[start..end], log)
+    let part = part_of(job, j);
+    expand::expand::expand(job, j, &mut table[part], log)
 }
 
-pub(crate) fn load_part(job: Job, b: u32, table: &[u8], list: &mut [u8]) -> Answer
-    requires { (is_coherent job ≡ true) × (b < segment_count_of job) × (length table.now ≡ bytes_for (stack_count_of job)) × (length list.old ≡ list_bytes (stack_count_at job 0)) }
-    ensures { (list.new, result) ≡ loaded_in job b table.now list.old }
+pub(crate) fn load_part(job: &mut Job, b: u32, table: &[u8], list: &mut [u8]) -> Result<(), Refusal>
+    requires { PartFits job.old b table.now × (length list.old ≡ list_bytes (stack_count_at job.old 0)) }
+    ensures { (list.new, as_answer job.new result) ≡ loaded_in job.old b table.now list.old }
 {
-    let terms = job.terms;
-    let start = part_start(terms.size, b);
-    let end = part_end(terms, b);
-    let front = list_end(terms, b);
-    load::load(job, b, &table[start..end], &mut list[..front])
+    let part = part_of(job, b);
+    let front = list_end(job, b);
+    load::load(job, b, &table[part], &mut list[..front])
 }
 
 // The list is that of the loaded segment.
-pub(crate) fn sweep_part(job: Job, j: u32, table: &mut [u8], list: &[u8]) -> Answer
-    requires { (is_coherent job ≡ true) × (j < segment_count_of job) × (length table.old ≡ bytes_for (stack_count_of job)) × (length list.now ≡ list_bytes (stack_count_at job 0)) }
-    ensures { (table.new, result) ≡ swept_in job j table.old list.now }
+pub(crate) fn sweep_part(
+    job: &mut Job,
+    j: u32,
+    table: &mut [u8],
+    list: &[u8],
+) -> Result<(), Refusal>
+    requires { PartFits job.old j table.old × (length list.now ≡ list_bytes (stack_count_at job.old 0)) }
+    ensures { (table.new, as_answer job.new result) ≡ swept_in job.old j table.old list.now }
 {
-    let terms = job.terms;
-    let start = part_start(terms.size, j);
-    let end = part_end(terms, j);
-    let front = list_end(terms, job.loaded as u32);
-    sweep::sweep::sweep(job, j, &mut table[start..end], &list[..front])
+    let part = part_of(job, j);
+    let front = list_end(job, u32::from(job.loaded));
+    sweep::sweep::sweep(job, j, &mut table[part], &list[..front])
 }

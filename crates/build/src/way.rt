@@ -1,49 +1,31 @@
 // The way that the driver tells Close: reverse where few stacks are unseen.
-ghost use Rattle.std.specs.Prelude.{◌≡◌, ◌-◌, length};
+ghost use Rattle.std.specs.Prelude.{◌≡◌, ◌-◌};
 ghost use Rattle.base.specs.Words.{total};
-ghost use Rattle.build.specs.Way.{way_by};
-ghost use Rattle.search.specs.JobState.{count_places};
+ghost use Rattle.search.specs.Drive.{way_after};
 ghost use Rattle.search.specs.Terms.{begin_refusal};
 
-use job::{geometry, phase};
-use perm::kind;
-use search::{COUNT_PLACES, Phase, Terms, Way};
-
-// What is left of a number when a count is taken off.
-fn less(left: u64, count: u64) -> u64
-    ensures { result ≡ left - count }
-{
-    if left < count {
-        return 0;
-    }
-    left - count
-}
+use job::geometry;
+use search::{Job, Way};
 
 // The stacks that no level has counted. The sum of the counts might not fit, so that each is taken off by itself.
-fn unseen_of(stacks: u32, counts: &[u64; COUNT_PLACES]) -> u64
-    requires { length counts.now ≡ count_places }
+fn unseen_of(stacks: u32, counts: &[u64]) -> u64
     ensures { result ≡ stacks - total counts.now }
 {
-    let mut left = stacks as u64;
-    let mut d: usize = 0;
-    while d < COUNT_PLACES {
-        left = less(left, counts[d]);
-        d += 1;
-    }
-    left
+    counts.iter().fold(u64::from(stacks), |left, count| left.saturating_sub(*count))
 }
 
 // An unseen stack is tried once for each segment that is loaded, a stack of the level that closes is expanded once.
-pub(crate) fn way_after(terms: Terms, phase: Phase, counts: &[u64; COUNT_PLACES]) -> Way
-    requires { (begin_refusal terms ≡ 0) × (length counts.now ≡ count_places) }
-    ensures { result ≡ way_by terms phase counts.now }
+#[tactic(auto, unfolding(search::specs::Drive::way_after, search::specs::Drive::is_few, search::specs::JobState::stack_count_of, search::specs::JobState::segment_count_of, search::specs::JobState::count_of), using(job::proofs::Begun::begun_terms))]
+pub(crate) fn way_after(job: &Job) -> Way
+    requires { begin_refusal job.now.terms ≡ 0 }
+    ensures { result ≡ way_after job.now }
 {
-    let stacks = kind::stack_count(terms.kind, terms.n);
-    let unseen = unseen_of(stacks, counts);
+    let terms = job.terms;
+    let unseen = unseen_of(geometry::panes_of(terms).stack_count(), &job.counts);
     let segments = geometry::segment_count_of(terms);
-    let level = phase::level_of(phase);
-    if unseen * (segments as u64) <= counts[level as usize] {
-        return Way::Reverse;
+    if unseen * u64::from(segments) <= job.counts[job.phase.level() as usize] {
+        Way::Reverse
+    } else {
+        Way::Forward
     }
-    Way::Forward
 }

@@ -9,13 +9,15 @@ mod compare;
 mod stack;
 
 use breadth::UNSEEN;
+use search::{COUNT_PLACES, Job};
+use stacks::Refusal;
 use std::io;
-use trial::whole::Built;
-use trial::{print, whole};
+use trial::frame::Frame;
+use trial::whole;
 
 // Over some builds: the deepest level and the stacks with a road by the search, and how many builds and stacks were compared and how many answers
 // differ.
-#[derive(Clone, Copy)]
+#[derive(Clone, Copy, Default)]
 struct Tally {
     deepest: u64,
     roads: u64,
@@ -24,218 +26,138 @@ struct Tally {
     differ: u64,
 }
 
-fn nothing() -> Tally {
-    Tally {
-        deepest: 0,
-        roads: 0,
-        builds: 0,
-        entries: 0,
-        differ: 0,
-    }
-}
-
-fn larger(a: u64, b: u64) -> u64 {
-    if a < b { b } else { a }
-}
-
-fn both(a: Tally, b: Tally) -> Tally {
-    Tally {
-        deepest: larger(a.deepest, b.deepest),
-        roads: std::num::wrapping_add_u64(a.roads, b.roads),
-        builds: std::num::wrapping_add_u64(a.builds, b.builds),
-        entries: std::num::wrapping_add_u64(a.entries, b.entries),
-        differ: std::num::wrapping_add_u64(a.differ, b.differ),
+impl Tally {
+    fn and(self, other: Tally) -> Tally {
+        Tally {
+            deepest: self.deepest.max(other.deepest),
+            roads: self.roads.wrapping_add(other.roads),
+            builds: self.builds.wrapping_add(other.builds),
+            entries: self.entries.wrapping_add(other.entries),
+            differ: self.differ.wrapping_add(other.differ),
+        }
     }
 }
 
 // Searches the bytes, and compares with the build of that table, with the plans from every step-th stack.
 fn searched(
-    kind: u8,
-    n: u8,
-    groups: u32,
+    frame: Frame,
     goal: usize,
-    built: Built,
+    built: &Result<Job, Refusal>,
     step: usize,
     table: &[u8],
     bytes: &mut [u8],
 ) -> Tally
-    requires { (n ≤ 12) × (1 ≤ step) }
+    requires { (frame.n ≤ 12) × (1 ≤ step) }
 {
-    let found = breadth::search(kind, n as usize, groups, bytes, goal);
-    let deepest = found.deepest;
-    let counts = found.counts;
-    let kept = built.counts;
-    let ends = compare::build_differs(built, deepest);
-    let levels = compare::counts(counts, kept);
-    let others = compare::stacks(kind, n, groups, goal, table, bytes, step);
+    let found = breadth::search(frame, bytes, goal);
+    let kept = match built {
+        Ok(job) => job.counts,
+        Err(_) => [0; COUNT_PLACES],
+    };
+    let ends = u64::from(compare::build_differs(built, &found));
+    let levels = compare::counts(&found.counts, &kept);
+    let others = compare::stacks(frame, goal, table, bytes, step);
     Tally {
-        deepest: deepest as u64,
-        roads: whole::total(counts),
+        deepest: found.deepest as u64,
+        roads: whole::total(&found.counts),
         builds: 1,
         entries: bytes.len() as u64,
-        differ: std::num::wrapping_add_u64(ends, std::num::wrapping_add_u64(levels, others)),
+        differ: others.wrapping_add(levels).wrapping_add(ends),
     }
 }
 
 // The same on as much of the table and of the bytes as so many stacks take.
 fn searched_in(
-    kind: u8,
-    n: u8,
-    groups: u32,
+    frame: Frame,
     goal: usize,
-    built: Built,
+    built: &Result<Job, Refusal>,
     step: usize,
     stacks: u32,
     table: &[u8],
     bytes: &mut [u8],
 ) -> Tally
-    requires { (n ≤ 12) × (1 ≤ step) }
+    requires { (frame.n ≤ 12) × (1 ≤ step) }
 {
     let all = stacks as usize;
-    let quarter = (all + 3) / 4;
-    if quarter > table.len() {
-        return nothing();
-    }
-    if all > bytes.len() {
-        return nothing();
+    let quarter = all.div_ceil(4);
+    if quarter > table.len() || all > bytes.len() {
+        return Tally::default();
     }
     searched(
-        kind,
-        n,
-        groups,
+        frame,
         goal,
         built,
         step,
-        &table[0..quarter],
-        &mut bytes[0..all],
+        &table[..quarter],
+        &mut bytes[..all],
     )
 }
 
 // A build of so many stacks to the one at index goal, beside the search.
-fn compared(
-    kind: u8,
-    n: u8,
-    groups: u32,
-    stacks: u32,
-    goal: usize,
-    size: u32,
-    step: usize,
-) -> Tally {
-    if n > 12 {
-        return nothing();
+fn compared(frame: Frame, stacks: u32, goal: usize, size: u32, step: usize) -> Tally {
+    if frame.n > 12 || step < 1 {
+        return Tally::default();
     }
-    if step < 1 {
-        return nothing();
-    }
-    let mut table = [0u8; 161280];
-    let mut log = [0u32; 1024];
-    let mut list = [0u8; 80640];
+    let mut table = [0; 161280];
+    let mut log = [0; 1024];
+    let mut list = [0; 80640];
     let mut bytes = [UNSEEN; 645120];
-    let wanted = stack::places(stack::unrank(kind, n as usize, goal));
-    let built = whole::build(
-        kind, n, wanted, groups, stacks, size, &mut table, &mut log, &mut list,
-    );
-    searched_in(
-        kind, n, groups, goal, built, step, stacks, &table, &mut bytes,
-    )
+    let wanted = stack::places(&stack::unrank(frame.kind, frame.n as usize, goal));
+    let built = whole::build(frame, wanted, stacks, size, &mut table, &mut log, &mut list);
+    searched_in(frame, goal, &built, step, stacks, &table, &mut bytes)
 }
 
 // Builds to every stack.
-fn each(kind: u8, n: u8, groups: u32, stacks: u32, size: u32) -> Tally {
-    let mut sum = nothing();
-    let mut goal: u32 = 0;
-    while goal < stacks {
-        let more = compared(kind, n, groups, stacks, goal as usize, size, 1);
-        sum = both(sum, more);
-        goal += 1;
+fn each(frame: Frame, stacks: u32, size: u32) -> Tally {
+    let mut sum = Tally::default();
+    for goal in 0..stacks as usize {
+        sum = sum.and(compared(frame, stacks, goal, size, 1));
     }
     sum
 }
 
-fn line(out: &impl Print, kind: u8, n: u8, groups: u32, tally: Tally) -> io::Result<()> {
-    print::kind_and_n(out, kind, n)?;
-    print::field(out, b"groups", groups as u64)?;
-    print::field(out, b"deepest", tally.deepest)?;
-    print::field(out, b"roads", tally.roads)?;
-    print::field(out, b"builds", tally.builds)?;
-    print::field(out, b"entries", tally.entries)?;
-    print::field(out, b"differ", tally.differ)?;
-    print::end(out)
+fn line(out: &impl Print, frame: Frame, tally: Tally) -> io::Result<()> {
+    println!(out;
+        "{frame} groups {} deepest {} roads {} builds {} entries {} differ {}",
+        frame.groups, tally.deepest, tally.roads, tally.builds, tally.entries, tally.differ,
+    )
 }
 
-fn one_wanted(
-    out: &impl Print,
-    kind: u8,
-    n: u8,
-    groups: u32,
-    stacks: u32,
-    goal: usize,
-    size: u32,
-) -> io::Result<()> {
-    line(
-        out,
-        kind,
-        n,
-        groups,
-        compared(kind, n, groups, stacks, goal, size, 1),
-    )
+// With the plans from every stack.
+fn small(out: &impl Print, frame: Frame, stacks: u32, goal: usize, size: u32) -> io::Result<()> {
+    line(out, frame, compared(frame, stacks, goal, size, 1))
 }
 
 // With the plans from every 31st stack.
-fn large(
-    out: &impl Print,
-    kind: u8,
-    n: u8,
-    groups: u32,
-    stacks: u32,
-    goal: usize,
-    size: u32,
-) -> io::Result<()> {
-    line(
-        out,
-        kind,
-        n,
-        groups,
-        compared(kind, n, groups, stacks, goal, size, 31),
-    )
-}
-
-fn each_wanted(
-    out: &impl Print,
-    kind: u8,
-    n: u8,
-    groups: u32,
-    stacks: u32,
-    size: u32,
-) -> io::Result<()> {
-    line(out, kind, n, groups, each(kind, n, groups, stacks, size))
+fn large(out: &impl Print, frame: Frame, stacks: u32, goal: usize, size: u32) -> io::Result<()> {
+    line(out, frame, compared(frame, stacks, goal, size, 31))
 }
 
 fn all_turns(out: &impl Print) -> io::Result<()> {
-    one_wanted(out, 0, 1, 0, 1, 0, 4)?;
-    one_wanted(out, 0, 6, 62, 720, 433, 12)?;
-    one_wanted(out, 0, 7, 126, 5040, 4321, 1000)?;
-    one_wanted(out, 1, 1, 1, 2, 1, 4)?;
-    one_wanted(out, 1, 4, 15, 384, 383, 100)?;
-    one_wanted(out, 1, 5, 31, 3840, 0, 60)
+    small(out, Frame::plain(1, 0), 1, 0, 4)?;
+    small(out, Frame::plain(6, 62), 720, 433, 12)?;
+    small(out, Frame::plain(7, 126), 5040, 4321, 1000)?;
+    small(out, Frame::coated(1, 1), 2, 1, 4)?;
+    small(out, Frame::coated(4, 15), 384, 383, 100)?;
+    small(out, Frame::coated(5, 31), 3840, 0, 60)
 }
 
 // Every set of plain 4 and of coated 3, to every wanted stack.
 fn each_set(out: &impl Print) -> io::Result<()> {
-    let mut sizes: u32 = 1;
-    while sizes < 8 {
-        each_wanted(out, 0, 4, 2 * sizes, 24, 4)?;
-        each_wanted(out, 1, 3, sizes, 48, 20)?;
-        sizes += 1;
+    for sizes in 1..8 {
+        let plain = Frame::plain(4, 2 * sizes);
+        let coated = Frame::coated(3, sizes);
+        line(out, plain, each(plain, 24, 4))?;
+        line(out, coated, each(coated, 48, 20))?;
     }
     Ok(())
 }
 
 // Sets by which the deepest level is above 31. By the second, half of the stacks have no road.
 fn deep(out: &impl Print) -> io::Result<()> {
-    large(out, 0, 9, 322, 362880, 0, 30240)?;
-    large(out, 0, 9, 280, 362880, 100000, 60480)?;
-    large(out, 1, 7, 82, 645120, 300000, 64512)
+    large(out, Frame::plain(9, 322), 362880, 0, 30240)?;
+    large(out, Frame::plain(9, 280), 362880, 100000, 60480)?;
+    large(out, Frame::coated(7, 82), 645120, 300000, 64512)
 }
 
 fn main(rt: HostRuntime) -> io::Result<()> {

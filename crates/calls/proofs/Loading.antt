@@ -1,15 +1,31 @@
--- A changed list as code fills it: byte by byte, and each byte bit by bit.
+-- Load, refused and accepted, and a changed list as code fills it: byte by byte, and each byte bit by bit.
 use mathlib.Core.Path.{◌≡◌, refl, sym, ap, ◌∙◌}
 use mathlib.Core.Bool.{Bool, true, false}
 use mathlib.Core.List.{List, [], ◌∷◌, ◌++◌, map, append-nil}
-use Prim.Native.Nat.{ℕ, suc, ◌+◌, ◌*◌, ◌%◌, ◌^◌, ◌<◌, ◌≤◌}
+use Prim.Native.Nat.{ℕ, suc, ◌+◌, ◌-◌, ◌*◌, ◌%◌, ◌^◌, ◌<◌, ◌≤◌}
 use native.Mathlib.Nat.{add-zero, zero-add, one-mul, pow-suc}
 use native.Mathlib.Numerals.{add-one}
 use native.Mathlib.Omega.{arith}
+use lib.Dec.{eqb}
 use lib.ListN.{length, get_or, set, drop, length-map, drop_of_length-le}
 use lib.Pow.{pow_mono, shl_exact}
 use lib.Seq.{drop-cons, set_at, append_snoc}
 use Rattle.base.specs.Words.{from}
+use Rattle.stacks.specs.Refusals.{number}
+use Rattle.stacks.specs.declared.refusal.Refusal.{Refusal}
+use Rattle.stacks.proofs.Numbers.{number-some}
+use Rattle.search.specs.Changed.{list_bytes, list_of}
+use Rattle.search.specs.Entries.{bytes_for, entry_at}
+use Rattle.search.specs.Expand.{is_parent}
+use Rattle.search.specs.JobState.{level_of, stack_count_of, stack_count_at, directed}
+use Rattle.search.specs.Load.{load_refusal, changed_of, load_of}
+use Rattle.search.specs.Segments.{segment_limit, most_size}
+use Rattle.search.specs.Terms.{begin_refusal}
+use Rattle.search.specs.declared.Job.{Job}
+use Rattle.search.proofs.Accepted.{LoadFacts, load-facts, load-accepted, load-refused}
+use Rattle.search.proofs.SegmentLaws.{stack_count_in-le}
+use Rattle.job.proofs.Bounds.{Bounds, coherent-begins, coherent-bounds, reverse-least, segment-below}
+use Rattle.calls.proofs.Rows.{stacks_are}
 use Rattle.search.proofs.ChangedLaws.{bits_to, bits-more, bits-lt}
 use Rattle.base.proofs.Lists.{map-append, from-length, from_more}
 
@@ -56,3 +72,45 @@ module _ (f : ℕ → ℕ) (d : List ℕ) where
       ap (λ (xs : List ℕ). map f (from 0 k) ++ xs) (drop_of_length-le d (let l : length d ≤ k = omega arith in l))
       ∙ append-nil (map f (from 0 k))
       ∙ ap (λ (n : ℕ). map f (from 0 n)) h
+
+-- ---- Load, refused and accepted
+
+module _ (job : Job) (b : ℕ) (segment list : List ℕ) where
+  pub load_errs : (r : Refusal) → number r ≡ load_refusal job b (length segment) (length list)
+      → load_of job b segment list ≡ (list, record { refusal = number r; job = job })
+  load_errs r e = rw e (load-refused job b segment list (λ z. number-some r (e ∙ z)))
+
+  module _ (h : 0 ≡ load_refusal job b (length segment) (length list)) where
+    facts : LoadFacts job b (length segment) (length list)
+    facts = load-facts job b (length segment) (length list) (sym h)
+
+    bounds : Bounds job
+    bounds = coherent-bounds job facts.called.coherent
+
+    pub load_begins : begin_refusal job.terms ≡ 0
+    load_begins = coherent-begins job facts.called.coherent
+
+    pub load_below : b < segment_limit
+    load_below = segment-below job facts.called.coherent b facts.called.inside
+
+    pub load_level : 1 ≤ level_of job.phase
+    load_level = reverse-least job facts.called.coherent facts.called.in-phase
+
+    pub load_long : length segment ≡ bytes_for (stack_count_at job b)
+    load_long = facts.long
+
+    pub load_wide : length list ≡ list_bytes (stack_count_at job b)
+    load_wide = facts.wide
+
+    pub load_few : stack_count_at job b ≤ most_size
+    unfolding stack_count_at stack_count_of
+    load_few = omega (arith, bounds.small, stack_count_in-le (stack_count_of job) job.terms.size bounds.some b)
+
+    pub load_oks : load_of job b segment list ≡ (
+      list_of (stack_count_at job b) (λ i. eqb (entry_at segment i) ((level_of job.phase - 1) % 3)),
+      record { refusal = 0; job = directed job job.way b job.swept },
+    )
+    unfolding changed_of is_parent
+    load_oks = load-accepted job b segment list (sym h)
+
+pub ruleset load_rows = (load_errs, load_begins, load_below, load_level, load_long, load_wide, load_few, load_oks, stacks_are)

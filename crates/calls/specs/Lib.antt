@@ -1,2 +1,2 @@
--- What the helpers of the calls ask of what they are given, and what they leave of it.
+-- What the helpers of the calls ask of what they are given.
 pub mod Lent

@@ -1,76 +1,49 @@
 // Blank a segment.
-ghost use Rattle.std.specs.Prelude.{◌≡◌};
-ghost use Rattle.job.specs.Standing.{Stands, Tells};
-ghost use Rattle.calls.specs.Lent.{BlankFits, blanked_by};
-ghost use Rattle.search.specs.Blank.{blank_refusal, blank_of};
+ghost use Rattle.std.specs.Prelude.{true, ◌≡◌, length};
+ghost use Rattle.stacks.specs.Refusals.{refusal_of};
+ghost use Rattle.search.specs.Blank.{blank_refusal, blanked, blank_of};
+ghost use Rattle.search.specs.Entries.{bytes_for};
+ghost use Rattle.search.specs.JobState.{is_coherent, stack_count_at};
+ghost use Rattle.search.specs.Results.{as_answer};
 
-use job::standing::Standing;
-use job::{coherence, geometry, phase, refusals, standing};
-use perm::numbering;
-use search::{Answer, Job, Terms};
+use job::{geometry, refusals};
+use search::Job;
+use stacks::Refusal;
 use twobit::entry;
 
-fn blank_refusal(standing: Standing, j: u32, bytes: usize) -> u8
-    requires { Stands standing j }
-    ensures { Tells standing j (λ job. blank_refusal job j bytes) result }
+#[tactic(auto, unfolding(search::specs::Blank::blank_refusal, stacks::specs::Refusals::number), using(crate::proofs::Rows::segment_rows))]
+fn check_blank(job: &Job, j: u32, bytes: usize) -> Result<(), Refusal>
+    ensures { refusal_of result ≡ blank_refusal job.now j bytes }
 {
-    let phase = standing.phase;
-    let in_blanking = phase::is_blanking(phase);
-    let refusal = refusals::segment_refusal(standing, in_blanking, j, bytes);
-    if refusal != 0 {
-        return refusal;
+    refusals::check_segment(job, job.phase.is_blanking(), j, bytes)?;
+    if geometry::stack_count_at(job.terms, j) <= job.passed[j as usize] {
+        return Err(Refusal::Passed);
     }
-    let terms = standing.terms;
-    let stacks = geometry::stack_count_at(terms, j);
-    if stacks <= standing.passed {
-        return 11;
-    }
-    0
+    Ok(())
 }
 
 // All entries become 3, and that of the wanted stack, if here, 0.
-fn blank_entries(terms: Terms, j: u32, segment: &mut [u8])
-    requires { BlankFits terms j segment.old }
-    ensures { segment.new ≡ blanked_by terms j }
+#[tactic(auto, unfolding(search::specs::Blank::blanked, search::specs::Blank::goal_of), using(crate::proofs::Blanking::wanted_rows))]
+fn blank_entries(job: &Job, j: u32, segment: &mut [u8])
+    requires coherent { is_coherent job.now ≡ true }
+    requires long { length segment.old ≡ bytes_for (stack_count_at job.now j) }
+    ensures { segment.new ≡ blanked job.now j }
 {
     entry::blank_bytes(segment);
-    let lookup = ones::table();
-    let wanted = terms.wanted;
-    let goal = numbering::rank(terms.kind, terms.n, wanted, &lookup);
-    if goal / terms.size != j {
-        return;
+    let terms = job.terms;
+    let goal = geometry::panes_of(terms).rank(terms.wanted);
+    if goal / terms.size == j {
+        entry::set_entry(segment, goal % terms.size, 0);
     }
-    entry::set_entry(segment, goal % terms.size, 0);
 }
 
-// Blank. next is the one copy of the job, changed in place.
-pub fn blank(job: Job, j: u32, segment: &mut [u8]) -> Answer
-    ensures { (segment.new, result) ≡ blank_of job j segment.old }
+// Blank.
+#[tactic(auto, unfolding(search::specs::JobState::progressed), using(crate::proofs::Blanking::blank_rows))]
+pub fn blank(job: &mut Job, j: u32, segment: &mut [u8]) -> Result<(), Refusal>
+    ensures { (segment.new, as_answer job.new result) ≡ blank_of job.old j segment.old }
 {
-    let mut next = job;
-    let terms = job.terms;
-    let phase = job.phase;
-    let way = job.way;
-    let fits = coherence::counts_fit(&next.counts);
-    let standing = standing::standing_of(
-        terms,
-        phase,
-        way,
-        job.loaded,
-        &next.passed,
-        &next.waiting,
-        &next.swept,
-        fits,
-        j,
-    );
-    let refusal = blank_refusal(standing, j, segment.len());
-    if refusal != 0 {
-        return Answer { refusal, job: next };
-    }
-    blank_entries(terms, j, segment);
-    next.passed[j as usize] = geometry::stack_count_at(terms, j);
-    Answer {
-        refusal: 0,
-        job: next,
-    }
+    check_blank(job, j, segment.len())?;
+    blank_entries(job, j, segment);
+    job.passed[j as usize] = geometry::stack_count_at(job.terms, j);
+    Ok(())
 }

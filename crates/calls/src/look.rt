@@ -1,63 +1,42 @@
 // Look at a log.
-ghost use Rattle.std.specs.Prelude.{◌≡◌, ◌+◌, ◌*◌, ◌≤◌, length};
-ghost use Rattle.job.specs.Standing.{Stands, Tells};
+ghost use Rattle.std.specs.Prelude.{true, ◌≡◌, ◌<◌, [], length, MatchResult};
+ghost use Rattle.stacks.specs.Refusals.{number, refusal_of};
+ghost use Rattle.search.specs.JobState.{is_coherent, segment_count_of, log_length};
 ghost use Rattle.search.specs.Look.{look_refusal, look_of};
-ghost use Rattle.search.specs.Logs.{log_part};
-ghost use Rattle.search.specs.Segments.{segment_limit, most_room};
+ghost use Rattle.search.specs.Logs.{pending};
 
-use job::standing::Standing;
-use job::{coherence, geometry, refusals, standing};
+use job::{geometry, refusals};
 use search::Job;
+use stacks::Refusal;
 
-fn look_refusal(standing: Standing, j: u32, words: usize) -> u8
-    requires { Stands standing j }
-    ensures { Tells standing j (λ job. look_refusal job j words) result }
+#[tactic(auto, unfolding(search::specs::Look::look_refusal, stacks::specs::Refusals::number), using(crate::proofs::Rows::call_rows))]
+fn check_look(job: &Job, j: u32, words: usize) -> Result<(), Refusal>
+    ensures { refusal_of result ≡ look_refusal job.now j words }
 {
-    let refusal = refusals::call_refusal(standing, true, j);
-    if refusal != 0 {
-        return refusal;
+    refusals::check_call(job, true, j)?;
+    if words != geometry::log_length(job.terms) {
+        return Err(Refusal::Length);
     }
-    let terms = standing.terms;
-    let area = geometry::log_length(terms);
-    if words != area {
-        return 10;
-    }
-    0
+    Ok(())
 }
 
 // What waits in segment j's log: a part of the log area itself, from j × C on.
-pub(crate) fn waiting_part<'a>(room: u32, j: u32, waiting: u32, log: &'a [u32]) -> &'a [u32]
-    requires { (j * room + waiting ≤ length log.now) × (length log.now ≤ segment_limit * most_room) }
-    ensures { result.now ≡ log_part room j waiting log.now }
+#[tactic(auto, unfolding(search::specs::Logs::pending, search::specs::Logs::log_part), using(crate::proofs::Looking::part_rows))]
+pub(crate) fn waiting_part<'a>(job: &Job, j: u32, log: &'a [u32]) -> &'a [u32]
+    requires coherent { is_coherent job.now ≡ true }
+    requires inside { j < segment_count_of job.now }
+    requires wide { length log.now ≡ log_length job.now }
+    ensures { result.now ≡ pending job.now j log.now }
 {
-    let start = (j as usize) * (room as usize);
-    let end = start + (waiting as usize);
-    &log[start..end]
+    let start = (j as usize) * (job.terms.room as usize);
+    &log[start..start + job.waiting[j as usize] as usize]
 }
 
-// Look: the waiting part, in the caller's own log area; refused, an empty part and the refusal's number.
-pub fn look<'a, 'b>(job: Job, j: u32, log: &'a [u32], number: &'b mut u8) -> &'a [u32]
-    ensures { (result.now, number.new) ≡ look_of job j log.now }
+// Look: the waiting part, in the caller's own log area.
+#[tactic(auto, using(crate::proofs::Looking::look_rows))]
+pub fn look<'a>(job: &Job, j: u32, log: &'a [u32]) -> Result<&'a [u32], Refusal>
+    ensures { MatchResult result (λ part. (part.now, 0) ≡ look_of job.now j log.now) (λ r. ([], number r) ≡ look_of job.now j log.now) }
 {
-    let terms = job.terms;
-    let phase = job.phase;
-    let way = job.way;
-    let fits = coherence::counts_fit(&job.counts);
-    let standing = standing::standing_of(
-        terms,
-        phase,
-        way,
-        job.loaded,
-        &job.passed,
-        &job.waiting,
-        &job.swept,
-        fits,
-        j,
-    );
-    let refusal = look_refusal(standing, j, log.len());
-    *number = refusal;
-    if refusal != 0 {
-        return &log[..0];
-    }
-    waiting_part(terms.room, j, standing.waiting, log)
+    check_look(job, j, log.len())?;
+    Ok(waiting_part(job, j, log))
 }

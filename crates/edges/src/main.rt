@@ -9,91 +9,86 @@ use job::begin;
 use perm::operations;
 use search::{Job, Terms};
 use std::io;
-use trial::{print, whole};
+use trial::frame::{Frame, Verdict};
+use trial::whole;
 
 // The first six counts of a build in segments of 4 stacks, and all counts together.
-fn levels(out: &impl Print, n: u8, groups: u32, stacks: u32) -> io::Result<()> {
-    let mut table = [0u8; 30];
-    let mut log = [0u32; 480];
-    let mut list = [0u8; 1];
-    let wanted = whole::ordered(0, n);
-    let built = whole::build(
-        0, n, wanted, groups, stacks, 4, &mut table, &mut log, &mut list,
-    );
-    let counts = built.counts;
-    print::kind_and_n(out, 0, n)?;
-    print::verdict(out, built.refusal)?;
-    print::field(out, b"deepest", built.deepest as u64)?;
-    print::word(out, b" counts")?;
-    print::number(out, counts[0])?;
-    print::number(out, counts[1])?;
-    print::number(out, counts[2])?;
-    print::number(out, counts[3])?;
-    print::number(out, counts[4])?;
-    print::number(out, counts[5])?;
-    print::field(out, b"stacks", whole::total(counts))?;
-    print::end(out)
+fn levels(out: &impl Print, frame: Frame, stacks: u32) -> io::Result<()> {
+    let mut table = [0; 30];
+    let mut log = [0; 480];
+    let mut list = [0; 1];
+    let wanted = whole::ordered(frame);
+    match whole::build(frame, wanted, stacks, 4, &mut table, &mut log, &mut list) {
+        Ok(job) => {
+            let [a, b, c, d, e, f] = [
+                job.counts[0],
+                job.counts[1],
+                job.counts[2],
+                job.counts[3],
+                job.counts[4],
+                job.counts[5],
+            ];
+            println!(out;
+                "{frame} accepted deepest {} counts {a} {b} {c} {d} {e} {f} stacks {}",
+                job.phase.level(),
+                whole::total(&job.counts),
+            )
+        }
+        Err(refusal) => println!(out; "{frame} {}", Verdict(Err(refusal))),
+    }
 }
 
 // Index of the ordered stack. Where there is none, n is refused before the places are looked at.
-fn panes(out: &impl Print, kind: u8, n: u8) -> io::Result<()> {
-    let indexed = operations::index_of_stack(kind, n, whole::ordered(kind, n));
-    print::kind_and_n(out, kind, n)?;
-    print::verdict(out, indexed.refusal)?;
-    print::end(out)
+fn panes(out: &impl Print, frame: Frame) -> io::Result<()> {
+    let indexed = operations::index_of_stack(frame.kind.into(), frame.n, whole::ordered(frame));
+    println!(out; "{frame} {}", Verdict(indexed.map(|_| ())))
 }
 
-// A segment that is lent no byte: refused 10 where the job has it, else 9.
-fn segment(out: &impl Print, job: Job, j: u32) -> io::Result<()> {
-    let mut none = [0u8; 0];
-    let blanked = blank::blank(job, j, &mut none);
-    print::field(out, b"segment", j as u64)?;
-    print::verdict(out, blanked.refusal)
+// A segment that is lent no byte: refused for its length where the job has it, else for its number.
+fn blanked(mut job: Job, j: u32) -> Verdict {
+    Verdict(blank::blank(&mut job, j, &mut []))
 }
 
 // Begin for the ordered stack and every turn, and the segments on both sides of the last.
-fn begins(
-    out: &impl Print,
-    n: u8,
-    groups: u32,
-    stacks: u32,
-    size: u32,
-    room: u32,
-) -> io::Result<()> {
-    let wanted = whole::ordered(0, n);
+fn begins(out: &impl Print, frame: Frame, stacks: u32, size: u32, room: u32) -> io::Result<()> {
     let begun = begin::begin(Terms {
-        kind: 0,
-        n,
-        wanted,
-        groups,
+        kind: frame.kind.into(),
+        n: frame.n,
+        wanted: whole::ordered(frame),
+        groups: frame.groups,
         size,
         room,
     });
     let segments = whole::segments_for(stacks, size);
-    print::kind_and_n(out, 0, n)?;
-    print::field(out, b"S", size as u64)?;
-    print::field(out, b"C", room as u64)?;
-    print::field(out, b"segments", segments as u64)?;
-    print::verdict(out, begun.refusal)?;
-    if begun.refusal == 0 && segments > 0 {
-        segment(out, begun.job, segments - 1)?;
-        segment(out, begun.job, segments)?;
+    print!(out;
+        "{frame} S {size} C {room} segments {segments} {}",
+        Verdict(begun.map(|_| ()))
+    )?;
+    if let Ok(job) = begun
+        && segments > 0
+    {
+        let last = segments - 1;
+        print!(out;
+            " segment {last} {} segment {segments} {}",
+            blanked(job, last),
+            blanked(job, segments)
+        )?;
     }
-    print::end(out)
+    println!(out;)
 }
 
 fn main(rt: HostRuntime) -> io::Result<()> {
     let out = rt.stdout();
-    levels(&out, 4, 14, 24)?;
-    levels(&out, 5, 30, 120)?;
-    panes(&out, 0, 12)?;
-    panes(&out, 0, 13)?;
-    panes(&out, 1, 10)?;
-    panes(&out, 1, 11)?;
-    begins(&out, 3, 6, 6, 4, 16)?;
-    begins(&out, 3, 6, 6, 6, 16)?;
-    begins(&out, 6, 62, 720, 12, 16)?;
-    begins(&out, 6, 62, 720, 8, 16)?;
-    begins(&out, 3, 6, 6, 4, 15)?;
+    levels(&out, Frame::plain(4, 14), 24)?;
+    levels(&out, Frame::plain(5, 30), 120)?;
+    panes(&out, Frame::plain(12, 0))?;
+    panes(&out, Frame::plain(13, 0))?;
+    panes(&out, Frame::coated(10, 0))?;
+    panes(&out, Frame::coated(11, 0))?;
+    begins(&out, Frame::plain(3, 6), 6, 4, 16)?;
+    begins(&out, Frame::plain(3, 6), 6, 6, 16)?;
+    begins(&out, Frame::plain(6, 62), 720, 12, 16)?;
+    begins(&out, Frame::plain(6, 62), 720, 8, 16)?;
+    begins(&out, Frame::plain(3, 6), 6, 4, 15)?;
     diameters::lines(&out)
 }

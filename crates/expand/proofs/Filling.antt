@@ -38,10 +38,6 @@ module _ {all xs : List ℕ} {i : ℕ} {ahead : List ℕ} (filled : Filled all x
           few = filled.few;
         }
 
-  pub filled_on : {rest : List ℕ} → ahead ≡ rest → Filled all xs i rest
-  filled_on {rest} e =
-      record { front = filled.front; long = filled.long; array = filled.array; all_are = filled.all_are ∙ ap (λ (ys : List ℕ). filled.front ++ ys) e; few = filled.few }
-
   pub filled-all : ahead ≡ [] → xs ≡ all ++ replicate (most_moves - length all) 0
   filled-all e =
       let whole : all ≡ filled.front = filled.all_are ∙ ap (λ (ys : List ℕ). filled.front ++ ys) e ∙ append-nil filled.front in

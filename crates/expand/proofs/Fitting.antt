@@ -5,10 +5,15 @@ use Rattle.stacks.proofs.KindLaws.{count_fits}
 use Rattle.search.specs.JobState.{stack_count_of}
 use Rattle.search.specs.Segments.{segment_limit, most_size, most_room}
 use Rattle.search.proofs.SegmentLaws.{SegmentSizeFacts, LogRoomFacts, segment-size-facts, log-room-facts}
-use Rattle.search.proofs.Turning.{set-turns}
+use Rattle.search.proofs.Turning.{Moves, set-turns}
 use Rattle.perm.specs.Moves.{most_moves}
-use Rattle.expand.specs.Scan.{ScanFits, scan_job}
+use Rattle.perm.specs.Panes.{kind_of}
+use Rattle.expand.specs.Scan.{ScanFits, scan_job, moves_in}
 use Rattle.expand.specs.declared.scan.Scan.{Scan}
+
+-- the moves of a scan are moves, and few
+pub scan-moves : (scan : Scan) → Moves (kind_of scan.set.panes) scan.set.panes.n (moves_in scan.set)
+scan-moves scan = set-turns (kind_of scan.set.panes) scan.set.panes.n scan.set.panes.in_range scan.set.groups scan.set.named
 
 pub record ScanFacts (scan : Scan) : Type 0 where
   pub some : 0 < scan.size
@@ -28,6 +33,6 @@ scan-facts scan fit =
       panes-most = sizes.most;
       few = omega arith;
       room_most = rooms.most;
-      turns-few = omega (arith, (set-turns scan.kind scan.n fit.is_pane_count scan.groups fit.set_fits).few);
-      count_fits = count_fits scan.kind scan.n fit.is_pane_count;
+      turns-few = omega (arith, (scan-moves scan).few);
+      count_fits = count_fits (kind_of scan.set.panes) scan.set.panes.n scan.set.panes.in_range;
     }

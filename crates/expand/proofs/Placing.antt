@@ -8,8 +8,8 @@ use native.Mathlib.Nat.{suc-mul, mul-le-mul_right, mul-le-mul}
 use native.Mathlib.Numerals.{add-one}
 use native.Mathlib.Omega.{arith}
 use borrow.Rule.Slice.PartMut.{mid_of, put_mid, set_mid_at}
-use lib.ListN.{length, get_or, set, take, drop, length-set, length-take, length-drop, drop_of_length-le}
-use lib.Seq.{get_or-set_same, get_or-set_other, set_out, get_or-take, drop-cons}
+use lib.ListN.{length, get_or, set, drop, length-set, length-take, length-drop, drop_of_length-le}
+use lib.Seq.{get_or-set_same, get_or-set_other, set_out, drop-cons}
 use Rattle.base.proofs.Tests.{lt-or-ge, eq-or-ne}
 use Rattle.search.specs.Expand.{Expansion, place_child, place_all}
 use Rattle.search.specs.JobState.{level_of, stack_count_of, stack_count_at}
@@ -23,8 +23,8 @@ use Rattle.search.proofs.SegmentLaws.{stack-segment, stack-offset}
 use Rattle.twobit.specs.Mark.{marks_of, AtMost, MarkFits}
 use Rattle.search.specs.declared.Found.{Found}
 use Rattle.twobit.proofs.LeafMarks.{at_most, mark-at-most, mark-level}
-use Rattle.perm.specs.Moves.{most_moves}
-use Rattle.expand.specs.Scan.{LentFits, HasRoom, ChildFits, ChildrenFit, PlacesChild, PlacesAll, running, scan_job}
+use Rattle.expand.specs.Scan.{LentFits, HasRoom, ChildFits, ChildrenFit, PlacesChild, PlacesAll, SameLent, running, scan_job}
+use Rattle.expand.specs.declared.place.Running.{Running}
 use Rattle.expand.specs.declared.scan.Scan.{Scan}
 use Rattle.expand.proofs.Fitting.{ScanFacts, scan-facts}
 
@@ -36,7 +36,12 @@ pub record LogPlace (scan : Scan) (child : ℕ) (log waiting : List ℕ) : Type 
   pub free : get_or waiting (child / scan.size) 0 < scan.room
   pub place-within : get_or waiting (child / scan.size) 0 < length log - child / scan.size * scan.room
 
-module _ {scan : Scan} {child : ℕ} {found : Found} {segment log waiting : List ℕ} (g : ChildFits scan child found segment log waiting) where
+-- a call's state at a stack, by what it consists of
+abbrev pub state : List ℕ → Found → List ℕ → List ℕ → ℕ → Expansion
+state segment found log waiting at =
+    record { at = at; waits = false; on = 0; marks = marks_of segment found; logs = record { log = log; waiting = waiting } }
+
+module _ {scan : Scan} {child : ℕ} {r : Running} (g : ChildFits scan child r) where
   facts : ScanFacts scan
   facts = scan-facts scan g.fit
 
@@ -44,14 +49,14 @@ module _ {scan : Scan} {child : ℕ} {found : Found} {segment log waiting : List
   child-segment = rw g.fit.segments_are (stack-segment (stack_count_of (scan_job scan)) scan.size facts.some child g.below)
 
   -- a child of this segment has its entry in the segment's bytes
-  child-byte : child / scan.size ≡ scan.j → child % scan.size / 4 < length segment
+  child-byte : child / scan.size ≡ scan.j → child % scan.size / 4 < length r.segment.now
   unfolding stack_count_of stack_count_at scan_job
   child-byte e =
       rw (g.lent.bytes, ← e)
       (byte_inside (child % scan.size) (stack_count_in (stack_count_of (scan_job scan)) scan.size (child / scan.size))
       (stack-offset (stack_count_of (scan_job scan)) scan.size facts.some child g.below))
 
-  pub child-marks : child / scan.size ≡ scan.j → MarkFits segment (child % scan.size) scan.mark found
+  pub child-marks : child / scan.size ≡ scan.j → MarkFits r.segment.now (child % scan.size) scan.mark r.found
   child-marks e =
       record {
         below = omega (arith, g.fit.mark_is);
@@ -59,13 +64,13 @@ module _ {scan : Scan} {child : ℕ} {found : Found} {segment log waiting : List
         few = g.few;
       }
 
-  pub log-place : (child / scan.size ≡ scan.j → ⊥) → LogPlace scan child log waiting
+  pub log-place : (child / scan.size ≡ scan.j → ⊥) → LogPlace scan child r.log.now r.waiting.now
   log-place ne =
       let t = child / scan.size in
       let here = falling-here scan.size t child [] refl in
       let most = mul-le-mul_right scan.room child-segment in
       let more = suc-mul t scan.room in
-      let free : get_or waiting t 0 < scan.room = omega (arith, g.room t ne) in
+      let free : get_or r.waiting.now t 0 < scan.room = omega (arith, g.room t ne) in
       record {
         listed = omega (arith, child-segment, facts);
         start_small = omega (arith, mul-le-mul {n₂ = segment_limit} {m₂ = most_room} (let l : t ≤ segment_limit = omega (arith, child-segment, facts) in l) facts.room_most);
@@ -76,33 +81,33 @@ module _ {scan : Scan} {child : ℕ} {found : Found} {segment log waiting : List
 
   -- the leaf that marks and counts
   pub placed-here : {after : List ℕ} {next : Found} → child / scan.size ≡ scan.j
-      → marks_of after next ≡ mark_one (scan_job scan).terms scan.mark child (marks_of segment found)
-      → PlacesChild scan child (running segment found log waiting) (running after next log waiting)
+      → marks_of after next ≡ mark_one (scan_job scan).terms scan.mark child (marks_of r.segment.now r.found)
+      → (at : ℕ) → state after next r.log.now r.waiting.now at ≡ place_child (scan_job scan) scan.j child (running r at)
   unfolding scan_job level_of
   placed-here e m at =
-      ap (λ (marks : Marks). record { at = at; waits = false; on = 0; marks = marks; logs = record { log = log; waiting = waiting } })
-      (m ∙ rw g.fit.mark_is (mark-level (scan_job scan).terms scan.level child (marks_of segment found)))
-      ∙ sym (place_here (scan_job scan) scan.j child (running segment found log waiting at) e)
+      ap (λ (marks : Marks). record { at = at; waits = false; on = 0; marks = marks; logs = record { log = r.log.now; waiting = r.waiting.now } })
+      (m ∙ rw g.fit.mark_is (mark-level (scan_job scan).terms scan.level child (marks_of r.segment.now r.found)))
+      ∙ sym (place_here (scan_job scan) scan.j child (running r at) e)
 
   -- a place of the log's own stretch, and one more waits
   pub placed-elsewhere : {after : List ℕ} (ne : child / scan.size ≡ scan.j → ⊥)
       → (let t = child / scan.size in
       let start = t * scan.room in
-      let k = length log - start in
-      after ≡ set (mid_of start k log) (get_or waiting t 0) (child % scan.size)
-      → PlacesChild scan child (running segment found log waiting)
-      (running segment found (put_mid start k log after) (set waiting t (get_or waiting t 0 + 1))))
+      let k = length r.log.now - start in
+      after ≡ set (mid_of start k r.log.now) (get_or r.waiting.now t 0) (child % scan.size)
+      → (at : ℕ) → state r.segment.now r.found (put_mid start k r.log.now after) (set r.waiting.now t (get_or r.waiting.now t 0 + 1)) at
+      ≡ place_child (scan_job scan) scan.j child (running r at))
   unfolding scan_job log_one
   placed-elsewhere ne e at =
       let t = child / scan.size in
       let start = t * scan.room in
-      let k = length log - start in
-      let w = get_or waiting t 0 in
+      let k = length r.log.now - start in
+      let w = get_or r.waiting.now t 0 in
       let p = log-place ne in
-      ap (λ (xs : List ℕ). running segment found xs (set waiting t (w + 1)) at)
-      (ap (put_mid start k log) e
-      ∙ set_mid_at start k w log (child % scan.size) (simp (length-take, length-drop) (omega arith)))
-      ∙ sym (place-elsewhere (scan_job scan) scan.j child (running segment found log waiting at) ne)
+      ap (λ (xs : List ℕ). state r.segment.now r.found xs (set r.waiting.now t (w + 1)) at)
+      (ap (put_mid start k r.log.now) e
+      ∙ set_mid_at start k w r.log.now (child % scan.size) (simp (length-take, length-drop) (omega arith)))
+      ∙ sym (place-elsewhere (scan_job scan) scan.j child (running r at) ne)
 
 set-most : (xs : List ℕ) (i v : ℕ) → get_or xs i 0 ≤ v → get_or (set xs i v) i 0 ≤ v
 set-most xs i v h = go (lt-or-ge i (length xs))
@@ -198,99 +203,81 @@ module _ (scan : Scan) where
 
 -- ---- a stack's children, one after the other
 
--- the children of an array
-abbrev pub children_in : Scan → List ℕ → List ℕ
-children_in scan array = take scan.turns array
-
 -- a call that has placed the first i children, from what it was given
-pub record PlacedTo (scan : Scan) (array : List ℕ) (segment₀ : List ℕ) (found₀ : Found) (log₀ waiting₀ : List ℕ) (segment : List ℕ) (found : Found)
-    (log waiting : List ℕ) (i : ℕ) : Type 0 where
-  pub given : ChildrenFit scan array found₀ segment₀ log₀ waiting₀
-  pub long : scan.turns ≤ length array
-  pub within : i ≤ scan.turns
-  pub fits : LentFits scan segment log waiting
-  pub room : HasRoom scan waiting (drop i (children_in scan array))
-  pub few : AtMost found (2 ^ 61 + i)
-  pub placed : (at : ℕ) → place_all (scan_job scan) scan.j (children_in scan array) (running segment₀ found₀ log₀ waiting₀ at)
-      ≡ place_all (scan_job scan) scan.j (drop i (children_in scan array)) (running segment found log waiting at)
+pub record PlacedTo (scan : Scan) (children : List ℕ) (r₀ r : Running) (i : ℕ) : Type 0 where
+  pub given : ChildrenFit scan children r₀
+  pub same : SameLent r₀ r
+  pub fits : LentFits scan r.segment.now r.log.now r.waiting.now
+  pub room : HasRoom scan r.waiting.now (drop i children)
+  pub few : AtMost r.found (2 ^ 61 + i)
+  pub placed : (at : ℕ) → place_all (scan_job scan) scan.j children (running r₀ at) ≡ place_all (scan_job scan) scan.j (drop i children) (running r at)
 
-module _ {scan : Scan} {array : List ℕ} {segment₀ : List ℕ} {found₀ : Found} {log₀ waiting₀ : List ℕ} where
-  pub placed-none : ChildrenFit scan array found₀ segment₀ log₀ waiting₀ → length array ≡ most_moves
-      → PlacedTo scan array segment₀ found₀ log₀ waiting₀ segment₀ found₀ log₀ waiting₀ 0
-  placed-none given all =
+module _ {scan : Scan} {children : List ℕ} {r₀ : Running} where
+  pub placed-none : ChildrenFit scan children r₀ → PlacedTo scan children r₀ r₀ 0
+  placed-none given =
       record {
         given = given;
-        long = omega (arith, scan-facts scan given.fit);
-        within = omega arith;
+        same = (refl, refl, refl);
         fits = given.lent;
         room = given.room;
         few = at_most given.few (omega arith);
         placed = λ at. refl;
       }
 
-  module _ {segment : List ℕ} {found : Found} {log waiting : List ℕ} {i : ℕ}
-      (p : PlacedTo scan array segment₀ found₀ log₀ waiting₀ segment found log waiting i) where
-    pub placed_end : scan.turns ≤ i
-        → PlacesAll scan array (running segment₀ found₀ log₀ waiting₀) (running segment found log waiting)
+  module _ {r : Running} {i : ℕ} (p : PlacedTo scan children r₀ r i) where
+    pub placed_end : length children ≤ i → PlacesAll scan children r₀ r
     unfolding place_all
     placed_end h at =
-        let all : length (children_in scan array) ≤ i = omega (arith, length-take scan.turns array) in
         sym
         (p.placed at
-        ∙ ap (λ (xs : List ℕ). place_all (scan_job scan) scan.j xs (running segment found log waiting at))
-        (drop_of_length-le (children_in scan array) all))
+        ∙ ap (λ (xs : List ℕ). place_all (scan_job scan) scan.j xs (running r at)) (drop_of_length-le children h))
 
-    module _ (inside : i < scan.turns) where
-      left : drop i (children_in scan array) ≡ get_or array i 0 ∷ drop (i + 1) (children_in scan array)
-      left =
-          rw (add-one i, ← (get_or-take scan.turns array i 0 inside))
-          (drop-cons (children_in scan array) i 0 (omega (arith, p.long, length-take scan.turns array)))
+    module _ (inside : i < length children) where
+      left : drop i children ≡ get_or children i 0 ∷ drop (i + 1) children
+      left = rw (add-one i) (drop-cons children i 0 inside)
 
-      room-left : HasRoom scan waiting (get_or array i 0 ∷ drop (i + 1) (children_in scan array))
+      room-left : HasRoom scan r.waiting.now (get_or children i 0 ∷ drop (i + 1) children)
       room-left = rw left at p.room
 
-      room_next : HasRoom scan waiting (get_or array i 0 ∷ [])
-      room_next t ne = go (eq-or-ne (get_or array i 0 / scan.size) t)
+      room_next : HasRoom scan r.waiting.now (get_or children i 0 ∷ [])
+      room_next t ne = go (eq-or-ne (get_or children i 0 / scan.size) t)
         where
-          go : (get_or array i 0 / scan.size ≡ t) ⊎ (get_or array i 0 / scan.size ≡ t → ⊥)
-              → get_or waiting t 0 + falling_in scan.size t (get_or array i 0 ∷ []) ≤ scan.room
+          go : (get_or children i 0 / scan.size ≡ t) ⊎ (get_or children i 0 / scan.size ≡ t → ⊥)
+              → get_or r.waiting.now t 0 + falling_in scan.size t (get_or children i 0 ∷ []) ≤ scan.room
           go (inl e) =
               omega (
                 arith,
-                falling-here scan.size t (get_or array i 0) [] e,
-                falling-here scan.size t (get_or array i 0) (drop (i + 1) (children_in scan array)) e,
+                falling-here scan.size t (get_or children i 0) [] e,
+                falling-here scan.size t (get_or children i 0) (drop (i + 1) children) e,
                 falling-le scan.size t [],
                 room-left t ne,
               )
           go (inr e) =
-              omega (arith, falling-elsewhere scan.size t (get_or array i 0) [] e, falling-le scan.size t [], room-left t ne)
+              omega (arith, falling-elsewhere scan.size t (get_or children i 0) [] e, falling-le scan.size t [], room-left t ne)
 
-      pub placed-child : ChildFits scan (get_or array i 0) found segment log waiting
+      pub placed-child : ChildFits scan (get_or children i 0) r
       placed-child =
           record {
             fit = p.given.fit;
             lent = p.fits;
-            below = p.given.below i;
+            below = p.given.below i inside;
             room = room_next;
-            few = at_most p.few (omega (arith, scan-facts scan p.given.fit));
+            few = at_most p.few (omega (arith, p.given.many));
           }
 
-      pub placed-more : {segment' : List ℕ} {found' : Found} {log' waiting' : List ℕ}
-          → PlacesChild scan (get_or array i 0) (running segment found log waiting) (running segment' found' log' waiting')
-          → PlacedTo scan array segment₀ found₀ log₀ waiting₀ segment' found' log' waiting' (i + 1)
+      pub placed-more : {r' : Running} → SameLent r r' → PlacesChild scan (get_or children i 0) r r' → PlacedTo scan children r₀ r' (i + 1)
       unfolding place_all
-      placed-more step =
-          let before = running segment found log waiting 0 in
-          let rest = drop (i + 1) (children_in scan array) in
-          let next = place-fits scan (get_or array i 0) rest before p.fits room-left in
+      placed-more same step =
+          let before = running r 0 in
+          let rest = drop (i + 1) children in
+          let next = place-fits scan (get_or children i 0) rest before p.fits room-left in
           record {
             given = p.given;
-            long = p.long;
-            within = omega arith;
+            same = (same.0 ∙ p.same.0, same.1 ∙ p.same.1, same.2 ∙ p.same.2);
             fits = subst (Fits scan) (sym (step 0)) next.0;
             room = subst (λ (e : Expansion). HasRoom scan e.logs.waiting rest) (sym (step 0)) next.1;
-            few = at_most (subst (λ (e : Expansion). AtMost e.marks.found (2 ^ 61 + i + 1)) (sym (step 0)) (place-most scan (get_or array i 0) before p.few)) (omega arith);
+            few = at_most (subst (λ (e : Expansion). AtMost e.marks.found (2 ^ 61 + i + 1)) (sym (step 0)) (place-most scan (get_or children i 0) before p.few)) (omega arith);
             placed = λ at. p.placed at
-                ∙ ap (λ (xs : List ℕ). place_all (scan_job scan) scan.j xs (running segment found log waiting at)) left
+                ∙ ap (λ (xs : List ℕ). place_all (scan_job scan) scan.j xs (running r at)) left
                 ∙ ap (place_all (scan_job scan) scan.j rest) (sym (step at));
           }

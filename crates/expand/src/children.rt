@@ -1,37 +1,24 @@
 // The children of a stack.
-ghost use Rattle.std.specs.Prelude.{true, ◌++◌, ◌≡◌, ◌-◌, ◌<◌, length, replicate};
-ghost use Rattle.ones.specs.Ones.{ones_table};
+ghost use Rattle.std.specs.Prelude.{◌++◌, ◌≡◌, ◌-◌, ◌<◌, length, replicate};
 ghost use Rattle.search.specs.Expand.{children_of};
-ghost use Rattle.stacks.specs.Stack.{is_pane_count, stack_count};
-ghost use Rattle.stacks.specs.Turn.{is_group_set, turns_in};
+ghost use Rattle.stacks.specs.Stack.{stack_count};
+ghost use Rattle.stacks.specs.Turn.{turns_in};
 ghost use Rattle.perm.specs.Moves.{most_moves};
+ghost use Rattle.perm.specs.Panes.{kind_of};
 
-use ones::SETS;
-use perm::groups::MOST_MOVES;
-use perm::{moves, numbering, walk};
+use perm::groups::{MOST_MOVES, TurnSet};
 
-// The indexes of the children of the stack at an index, by rising k, and zeros after them.
-pub(crate) fn children_of(
-    kind: u8,
-    n: u8,
-    groups: u32,
-    index: u32,
-    lookup: &[u8; SETS],
-) -> [u32; MOST_MOVES]
-    requires { (is_pane_count kind n ≡ true) × (index < stack_count kind n) × (is_group_set kind n groups ≡ true) × (lookup.now ≡ ones_table) }
-    ensures { result ≡ children_of kind n (turns_in kind n groups) index ++ replicate (most_moves - length (turns_in kind n groups)) 0 }
+// The indexes of the children of the stack at an index, by rising k, and zeros after them: there is no heap, so the caller lends on the front
+// of the array that has them.
+pub(crate) fn children_of(set: TurnSet, index: u32) -> [u32; MOST_MOVES]
+    requires { index < stack_count (kind_of set.panes) set.panes.n }
+    ensures { result ≡ children_of (kind_of set.panes) set.panes.n (turns_in (kind_of set.panes) set.panes.n set.groups) index
+        ++ replicate (most_moves - length (turns_in (kind_of set.panes) set.panes.n set.groups)) 0 }
 {
-    let stack = numbering::unrank(kind, n, index, lookup);
+    let stack = set.panes.unrank(index);
     let mut children = [0u32; MOST_MOVES];
-    let mut walk = walk::begin(kind, n, groups);
-    let mut i: usize = 0;
-    while walk.rest != 0 {
-        let k = walk.k + 1;
-        if walk.rest % 2 == 1 {
-            children[i] = moves::rank_moved(kind, n, &stack, index, k, lookup);
-            i += 1;
-        }
-        walk = walk::next(walk);
+    for (i, k) in set.turns().enumerate() {
+        children[i] = set.panes.rank_moved(&stack, index, k);
     }
     children
 }

@@ -1,12 +1,9 @@
 // The log area: which segment lacks room for a stack's children, and how an offset is appended.
-ghost use Rattle.std.specs.Prelude.{not, ◌&&◌, ◌≡◌, ◌≤◌, ◌<◌, ltb, eqb, length, set, take};
-ghost use Rattle.base.specs.Words.{first_from};
+ghost use Rattle.std.specs.Prelude.{◌≡◌, ◌≤◌, ◌<◌, length, set, MatchOption};
 ghost use Rattle.search.specs.Logs.{falling_in, lacks_room};
-ghost use Rattle.perm.specs.Moves.{most_moves};
-ghost use Rattle.expand.specs.Scan.{ScanFits, WaitingFits};
+ghost use Rattle.expand.specs.Scan.{ScanFits, WaitingFits, first_full};
 
 use crate::scan::Scan;
-use perm::groups::MOST_MOVES;
 use search::SEGMENT_LIMIT;
 
 // An offset becomes the entry at a place of a log. The log is lent from its own start on.
@@ -18,58 +15,40 @@ pub(crate) fn append(stretch: &mut [u32], at: usize, offset: u32)
 }
 
 // How many of the children fall in segment t.
-fn falling_in(size: u32, children: [u32; MOST_MOVES], turns: u32, t: u32) -> u32
-    requires { (0 < size) × (turns ≤ most_moves) }
-    ensures { result ≡ falling_in size t (take turns children) }
+fn falling_in(size: u32, children: &[u32], t: u32) -> usize
+    requires { 0 < size }
+    ensures { result ≡ falling_in size t children.now }
 {
-    let mut falling: u32 = 0;
-    let mut i: u32 = 0;
-    while i < turns {
-        if children[i as usize] / size == t {
-            falling += 1;
-        }
-        i += 1;
-    }
-    falling
+    children.iter().filter(|child| **child / size == t).count()
 }
 
 // Whether more children fall in segment t than its log has free places. Where it has a place for each child, none need be counted.
-fn lacks_room(scan: Scan, children: [u32; MOST_MOVES], free: u32, t: u32) -> bool
-    requires { ScanFits scan }
-    ensures { result ≡ (not (eqb t scan.j) && ltb free (falling_in scan.size t (take scan.turns children))) }
+fn lacks_room(scan: Scan, children: &[u32], waiting: &[u32; SEGMENT_LIMIT], t: u32) -> bool
+    requires { ScanFits scan × WaitingFits scan waiting.now × (t < scan.segments) }
+    ensures { result ≡ lacks_room scan.size scan.room scan.j waiting.now children.now t }
 {
-    if t == scan.j {
-        return false;
-    }
-    if scan.turns <= free {
-        return false;
-    }
-    free < falling_in(scan.size, children, scan.turns, t)
+    let free = (scan.room - waiting[t as usize]) as usize;
+    t != scan.j && free < children.len() && free < falling_in(scan.size, children, t)
 }
 
-// The lowest segment that lacks room for the children, and the count of segments where none does. Only a segment in which a child falls
-// can lack room.
+// The lowest segment that lacks room for the children, if one does. Only a segment in which a child falls can lack room. It is a loop, as a chain
+// of filter and min would test the segments above one that was found too.
 pub(crate) fn full_segment(
     scan: Scan,
-    children: [u32; MOST_MOVES],
+    children: &[u32],
     waiting: &[u32; SEGMENT_LIMIT],
-) -> u32
+) -> Option<u32>
     requires { ScanFits scan × WaitingFits scan waiting.now }
-    ensures { result ≡ first_from (lacks_room scan.size scan.room scan.j waiting.now (take scan.turns children)) 0 scan.segments }
+    ensures { MatchOption result
+        (scan.segments ≤ first_full scan waiting.now children.now)
+        (λ t. (t ≡ first_full scan waiting.now children.now) × (t < scan.segments)) }
 {
-    let size = scan.size;
-    let room = scan.room;
-    let turns = scan.turns;
     let mut lowest = scan.segments;
-    let mut i: u32 = 0;
-    while i < turns {
-        let t = children[i as usize] / size;
-        if t < lowest {
-            if lacks_room(scan, children, room - waiting[t as usize], t) {
-                lowest = t;
-            }
+    for child in children {
+        let t = child / scan.size;
+        if t < lowest && lacks_room(scan, children, waiting, t) {
+            lowest = t;
         }
-        i += 1;
     }
-    lowest
+    (lowest < scan.segments).then_some(lowest)
 }

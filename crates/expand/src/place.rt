@@ -1,59 +1,47 @@
-// A stack's children, each to its place: marked in this segment, or logged for another.
-ghost use Rattle.expand.specs.Scan.{ChildFits, ChildrenFit, PlacesChild, PlacesAll, running};
+// What a call changes, and a stack's children, each to its place: marked in this segment, or logged for another.
+ghost use Rattle.expand.specs.Scan.{ChildFits, ChildrenFit, PlacesChild, PlacesAll, SameLent};
 
 use crate::logs;
 use crate::scan::Scan;
-use perm::groups::MOST_MOVES;
 use search::{Found, SEGMENT_LIMIT};
 use twobit::marking;
 
-// A child of this segment is marked and counted if it is unseen; a child elsewhere is appended to its segment's log, seen or not.
-fn place_child(
-    scan: Scan,
-    child: u32,
-    found: Found,
-    segment: &mut [u8],
-    log: &mut [u32],
-    waiting: &mut [u32; SEGMENT_LIMIT],
-) -> Found
-    requires { ChildFits scan child found segment.old log.old waiting.old }
-    ensures { PlacesChild scan child
-        (running segment.old found log.old waiting.old)
-        (running segment.new result log.new waiting.new) }
-{
-    let size = scan.size;
-    let t = child / size;
-    let offset = child % size;
-    if t == scan.j {
-        return marking::mark_stack(segment, child, offset, scan.mark, found);
-    }
-    let start = (t as usize) * (scan.room as usize);
-    let at = waiting[t as usize];
-    logs::append(&mut log[start..], at as usize, offset);
-    waiting[t as usize] = at + 1;
-    found
+// What a call is lent, and what its level has found.
+#[derive(Drop)]
+pub(crate) struct Running<'a> {
+    pub segment: &'a mut [u8],
+    pub log: &'a mut [u32],
+    pub waiting: &'a mut [u32; SEGMENT_LIMIT],
+    pub found: Found,
 }
 
-// Each child of a stack, by rising k. There is room for them all.
-pub(crate) fn place_all(
-    scan: Scan,
-    children: [u32; MOST_MOVES],
-    found: Found,
-    segment: &mut [u8],
-    log: &mut [u32],
-    waiting: &mut [u32; SEGMENT_LIMIT],
-) -> Found
-    requires { ChildrenFit scan children found segment.old log.old waiting.old }
-    ensures { PlacesAll scan children
-        (running segment.old found log.old waiting.old)
-        (running segment.new result log.new waiting.new) }
-{
-    let turns = scan.turns;
-    let mut found = found;
-    let mut i: u32 = 0;
-    while i < turns {
-        found = place_child(scan, children[i as usize], found, segment, log, waiting);
-        i += 1;
+impl<'a> Running<'a> {
+    // A child of this segment is marked and counted if it is unseen; a child elsewhere is appended to its segment's log, seen or not.
+    fn place_child(&mut self, scan: Scan, child: u32)
+        requires { ChildFits scan child self.old }
+        ensures same { SameLent self.old self.new }
+        ensures placed { PlacesChild scan child self.old self.new }
+    {
+        let t = child / scan.size;
+        let offset = child % scan.size;
+        if t == scan.j {
+            self.found = marking::mark_stack(self.segment, child, offset, scan.mark, self.found);
+            return;
+        }
+        let start = (t as usize) * (scan.room as usize);
+        let at = self.waiting[t as usize];
+        logs::append(&mut self.log[start..], at as usize, offset);
+        self.waiting[t as usize] = at + 1;
     }
-    found
+
+    // Each child of a stack, by rising k. There is room for them all.
+    pub(crate) fn place_all(&mut self, scan: Scan, children: &[u32])
+        requires { ChildrenFit scan children.now self.old }
+        ensures same { SameLent self.old self.new }
+        ensures placed { PlacesAll scan children.now self.old self.new }
+    {
+        for &child in children {
+            self.place_child(scan, child);
+        }
+    }
 }

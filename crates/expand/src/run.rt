@@ -1,66 +1,52 @@
 // A run of Expand over the stacks of a segment.
-ghost use Rattle.expand.specs.Scan.{RunFits, Runs, running, reached_with};
+ghost use Rattle.std.specs.Prelude.{◌≡◌, ◌/◌, ◌<◌, length};
+ghost use Rattle.search.specs.Entries.{entry_at};
+ghost use Rattle.expand.specs.Scan.{RunFits, Runs, SameLent};
 
+use crate::place::Running;
 use crate::scan::Scan;
-use crate::{children, logs, place};
-use search::{Found, SEGMENT_LIMIT};
+use crate::{children, logs};
 use twobit::entry;
 
-// How far a call came: the first stack not passed, whether it waits before it and for which segment, and what the level has found.
+// How far a call came: the first stack not passed, and the segment that it waits for before that stack, if it waits.
 #[derive(Clone, Copy)]
 pub(crate) struct Reached {
     pub at: u32,
-    pub waits: bool,
-    pub on: u32,
-    pub found: Found,
+    pub waits_for: Option<u32>,
 }
 
-// From the first stack not passed to the last, or to the first whose children lack room.
-pub(crate) fn expand_run(
-    scan: Scan,
-    first: u32,
-    stacks: u32,
-    found: Found,
-    segment: &mut [u8],
-    log: &mut [u32],
-    waiting: &mut [u32; SEGMENT_LIMIT],
-) -> Reached
-    requires { RunFits scan first stacks found segment.old log.old waiting.old }
-    ensures { Runs scan first stacks
-        (running segment.old found log.old waiting.old)
-        (reached_with result segment.new log.new waiting.new) }
-{
-    let lookup = ones::table();
-    let base = scan.j * scan.size;
-    let segments = scan.segments;
-    let mut found = found;
-    let mut at = first;
-    while at < stacks {
-        if entry::get_entry(segment, at) == scan.from {
-            let children = children::children_of(
-                scan.kind,
-                scan.n,
-                scan.groups,
-                base + at,
-                &lookup,
-            );
-            let full = logs::full_segment(scan, children, waiting);
-            if full < segments {
-                return Reached {
-                    at,
-                    waits: true,
-                    on: full,
-                    found,
-                };
-            }
-            found = place::place_all(scan, children, found, segment, log, waiting);
-        }
-        at += 1;
+impl<'a> Running<'a> {
+    // The entry of a stack of the segment.
+    fn entry(&self, at: u32) -> u8
+        requires { at / 4 < length self.now.segment.now }
+        ensures { result ≡ entry_at self.now.segment.now at }
+    {
+        entry::get_entry(self.segment, at)
     }
-    Reached {
-        at,
-        waits: false,
-        on: 0,
-        found,
+
+    // From the first stack not passed to the last, or to the first whose children lack room.
+    pub(crate) fn run(&mut self, scan: Scan, first: u32, stacks: u32) -> Reached
+        requires { RunFits scan first stacks self.old }
+        ensures same { SameLent self.old self.new }
+        ensures ran { Runs scan first stacks self.old self.new result }
+    {
+        let base = scan.j * scan.size;
+        for at in first..stacks {
+            if self.entry(at) == scan.from {
+                let children = children::children_of(scan.set, base + at);
+                let children = &children[..scan.turns as usize];
+                if let Some(full) = logs::full_segment(scan, children, self.waiting) {
+                    return Reached {
+                        at,
+                        waits_for: Some(full),
+                    };
+                }
+                self.place_all(scan, children);
+            }
+        }
+        Reached {
+            at: stacks,
+            waits_for: None,
+        }
     }
 }

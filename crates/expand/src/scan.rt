@@ -1,11 +1,12 @@
 // What a call of Expand does not change, copied from the job, so that no function that runs for a stack or a child takes the job.
 
-// The job's fields that Expand needs, the count of segments and of moves, this segment, the entry of the level before and this level's.
+use perm::groups::TurnSet;
+
+// The job's fields that Expand needs, the count of segments and of moves, this segment, the entry of the level before and this level's. The count of moves
+// says how many children stand at the front of their array, as there is no heap.
 #[derive(Clone, Copy)]
 pub(crate) struct Scan {
-    pub kind: u8,
-    pub n: u8,
-    pub groups: u32,
+    pub set: TurnSet,
     pub size: u32,
     pub room: u32,
     pub segments: u32,

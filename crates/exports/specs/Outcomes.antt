@@ -12,7 +12,7 @@ use Rattle.search.specs.Plan.{plan_of}
 use Rattle.search.specs.Settle.{settle_of}
 use Rattle.search.specs.Sweep.{sweep_of}
 use Rattle.search.specs.Terms.{terms_of}
-use Rattle.search.specs.declared.Answer.{Answer}
+use Rattle.search.specs.Answers.{Answer}
 use Rattle.search.specs.declared.Job.{Job}
 use Rattle.tariff.specs.Price.{price_of}
 use Rattle.tariff.specs.declared.Tariff.{Tariff}

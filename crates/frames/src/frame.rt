@@ -1,29 +1,28 @@
 // Frames: what a line says, or its first refusal in document 01's order.
-ghost use Rattle.std.specs.Prelude.{◌≡◌, ◌+◌, ◌≤◌, true, take, drop};
-ghost use Rattle.stacks.specs.Stack.{stack_places, is_pane_count};
-ghost use Rattle.text.specs.Frame.{frame_bytes, is_frame, pane_of, places_of, fields_refusal, first_refusal, first_of, later_refusal, later_of};
+ghost use Rattle.std.specs.Prelude.{◌≡◌, ◌+◌, ◌*◌, ◌≤◌, true, false, length, take, drop, MatchResult};
+ghost use Rattle.stacks.specs.Refusals.{as_stacked};
+ghost use Rattle.stacks.specs.Stack.{stack_places};
+ghost use Rattle.stacks.specs.declared.refusal.Refusal.TheVariants.{Frame};
+ghost use Rattle.perm.specs.Panes.{kind_of};
+ghost use Rattle.text.specs.Frame.{frame_limit, is_frame, pane_of, places_of, kind_in, panes_in, fields_refusal, first_with, first_of, as_first, later_of};
 ghost use Rattle.text.specs.Hex.{bytes_of};
 ghost use Rattle.text.specs.Kept.{text_of};
 
 use crate::hex;
-use perm::{kind, operations, valid};
-use stacks::{PLACES, Stacked};
-use text::{FRAME_LIMIT, First, Line, OVERLONG, STACK_LIMIT};
+use perm::panes::Panes;
+use perm::valid;
+use stacks::{PLACES, Refusal};
+use text::{FirstFrame, Line, STACK_LIMIT};
 use twobit::segment;
 
-// Within the limit, and pairs of digits.
-pub(crate) fn is_frame(line: Line) -> bool
-    ensures { result ≡ is_frame (text_of line) }
+// The characters of a frame: within the limit, and pairs of digits.
+pub(crate) fn frame_text(line: &Line) -> Result<&[u8], Refusal>
+    ensures { MatchResult result (λ text. (text.now ≡ text_of line.now) × (length text.now ≤ frame_limit) × (is_frame (text_of line.now) ≡ true)) (λ r. (r ≡ Frame) × (is_frame (text_of line.now) ≡ false)) }
 {
-    let length = line.length;
-    if length >= OVERLONG {
-        return false;
+    match line.text() {
+        Some(text) if hex::is_pairs(text) => Ok(text),
+        _ => Err(Refusal::Frame),
     }
-    if length % 2 != 0 {
-        return false;
-    }
-    let chars = line.chars;
-    hex::all_digits(chars, length)
 }
 
 // The pane that a byte says: its number, coat down from 80 hexadecimal on.
@@ -35,130 +34,77 @@ pub(crate) fn pane_of(byte: u8) -> i8
 }
 
 // The places of the n panes that the bytes from byte i on say.
-pub(crate) fn places_at(chars: [u8; FRAME_LIMIT], i: usize, n: u8) -> [i8; PLACES]
-    requires { (n ≤ stack_places) × (i + n ≤ frame_bytes) }
-    ensures { result ≡ places_of (take n (drop i (bytes_of chars))) }
+pub(crate) fn places_at(text: &[u8], i: usize, n: u8) -> [i8; PLACES]
+    requires { (n ≤ stack_places) × (2 * (i + n) ≤ length text.now) }
+    ensures { result ≡ places_of (take n (drop i (bytes_of text.now))) }
 {
-    let top = n as usize;
-    let mut places = [0i8; PLACES];
-    let mut p: usize = 0;
-    while p < top {
-        places[p] = pane_of(hex::byte_at(chars, i + p));
-        p += 1;
+    let mut places = [0; PLACES];
+    for p in 0..n as usize {
+        places[p] = pane_of(hex::byte_at(text, i + p));
     }
     places
 }
 
-// What is left to refuse in the first frame's bytes, of which there are count, after 1 and 2.
-pub(crate) fn fields_refusal(kind: u8, n: u8, chars: [u8; FRAME_LIMIT], count: u32) -> u8
-    requires { (is_pane_count kind n ≡ true) × (count ≤ frame_bytes) }
-    ensures { result ≡ fields_refusal kind n (take count (bytes_of chars)) }
+// What the first frame's characters say after the kind and n, or what is left to refuse.
+pub(crate) fn fields(panes: Panes, text: &[u8]) -> Result<FirstFrame, Refusal>
+    requires { (kind_of panes ≡ kind_in (bytes_of text.now)) × (panes.n ≡ panes_in (bytes_of text.now)) }
+    ensures { as_first result ≡ first_with (fields_refusal (kind_of panes) panes.n (bytes_of text.now)) (bytes_of text.now) }
 {
-    let panes = n as u32;
-    if count != panes + 6 {
-        return 16;
+    let n = panes.n;
+    if text.len() / 2 != n as usize + 6 {
+        return Err(Refusal::Frame);
     }
-    let stacks = kind::stack_count(kind, n);
+    let stacks = panes.stack_count();
     if stacks > STACK_LIMIT {
-        return 16;
+        return Err(Refusal::Frame);
     }
-    let wanted = places_at(chars, 2, n);
-    if !valid::is_stack(kind, n, wanted) {
-        return 3;
+    let wanted = places_at(text, 2, n);
+    if !panes.is_stack(wanted) {
+        return Err(Refusal::Stack);
     }
-    let size = hex::number_at(chars, n as usize + 2);
+    let size = hex::number_at(text, n as usize + 2);
     if !segment::is_segment_size(stacks, size) {
-        return 5;
+        return Err(Refusal::Size);
     }
-    0
-}
-
-// The first frame's refusal, 0 for none.
-pub(crate) fn first_refusal(line: Line) -> u8
-    ensures { result ≡ first_refusal (text_of line) }
-{
-    if !is_frame(line) {
-        return 16;
-    }
-    let count = line.length / 2;
-    if count < 2 {
-        return 16;
-    }
-    let chars = line.chars;
-    let kind = hex::byte_at(chars, 0);
-    let n = hex::byte_at(chars, 1);
-    let refusal = operations::kind_refusal(kind, n);
-    if refusal != 0 {
-        return refusal;
-    }
-    fields_refusal(kind, n, chars, count)
-}
-
-// The first frame.
-pub fn first_frame(line: Line) -> First
-    ensures { result ≡ first_of (text_of line) }
-{
-    let refusal = first_refusal(line);
-    if refusal != 0 {
-        let none = [0i8; PLACES];
-        return First {
-            refusal,
-            kind: 0,
-            n: 0,
-            wanted: none,
-            size: 0,
-        };
-    }
-    let chars = line.chars;
-    let kind = hex::byte_at(chars, 0);
-    let n = hex::byte_at(chars, 1);
-    let wanted = places_at(chars, 2, n);
-    let size = hex::number_at(chars, n as usize + 2);
-    First {
-        refusal: 0,
-        kind,
+    Ok(FirstFrame {
+        kind: hex::byte_at(text, 0),
         n,
         wanted,
         size,
-    }
+    })
 }
 
-// A later frame's refusal, 0 for none. With more panes than places there is no stack.
-pub(crate) fn later_refusal(kind: u8, n: u8, line: Line) -> u8
-    ensures { result ≡ later_refusal kind n (text_of line) }
+// The first frame.
+pub fn first_frame(line: &Line) -> Result<FirstFrame, Refusal>
+    ensures { as_first result ≡ first_of (text_of line.now) }
 {
-    if !is_frame(line) {
-        return 16;
+    let text = frame_text(line)?;
+    let count = text.len() / 2;
+    if count < 2 {
+        return Err(Refusal::Frame);
     }
-    let count = line.length / 2;
-    let panes = n as u32;
-    if count != panes {
-        return 16;
+    let kind = hex::byte_at(text, 0);
+    let n = hex::byte_at(text, 1);
+    let panes = Panes::new(kind, n)?;
+    fields(panes, text)
+}
+
+// The stack of a later frame. With more panes than places there is none. The stack's test is the one by numbers, as later_refusal of
+// text/specs/Frame.antt asks is_stack of every kind and n, also of those that are no Panes (a kind of 7, no panes, 12 coated ones).
+pub fn later_frame(kind: u8, n: u8, line: &Line) -> Result<[i8; PLACES], Refusal>
+    ensures { as_stacked result ≡ later_of kind n (text_of line.now) }
+{
+    let text = frame_text(line)?;
+    let panes = n as usize;
+    if text.len() / 2 != panes {
+        return Err(Refusal::Frame);
     }
-    if n as usize > PLACES {
-        return 3;
+    if panes > PLACES {
+        return Err(Refusal::Stack);
     }
-    let chars = line.chars;
-    let stack = places_at(chars, 0, n);
+    let stack = places_at(text, 0, n);
     if !valid::is_stack(kind, n, stack) {
-        return 3;
+        return Err(Refusal::Stack);
     }
-    0
-}
-
-// A later frame.
-pub fn later_frame(kind: u8, n: u8, line: Line) -> Stacked
-    ensures { result ≡ later_of kind n (text_of line) }
-{
-    let refusal = later_refusal(kind, n, line);
-    if refusal != 0 {
-        let none = [0i8; PLACES];
-        return Stacked {
-            refusal,
-            stack: none,
-        };
-    }
-    let chars = line.chars;
-    let stack = places_at(chars, 0, n);
-    Stacked { refusal: 0, stack }
+    Ok(stack)
 }

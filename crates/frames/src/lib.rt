@@ -3,5 +3,4 @@
 
 pub mod frame;
 mod hex;
-pub mod lines;
 pub mod output;

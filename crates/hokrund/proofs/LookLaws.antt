@@ -44,3 +44,8 @@ module _ (job : Job) (j : ℕ) (log part : List ℕ) (n : ℕ) (e : ◌≡◌ {A
   not-looked h =
       let none : part ≡ [] = part-is ∙ rw (ne_eqb n 0 h) refl in
       same _ n 0 (rw none refl) refl (rw (ne_eqb n 0 h) refl)
+
+-- an empty part at 0, as stands beside a refusal
+pub no_part : (log : List ℕ) {n : ℕ} {r : HokrundLook} → r.refusal ≡ n → r.start ≡ 0 → r.length ≡ 0
+    → ◌≡◌ {A = List ℕ × HokrundLook} (take r.length (drop r.start log), r) ([], record { refusal = n; start = 0; length = 0 })
+no_part log e s l = λ i. (take (l i) (drop (s i) log), record { refusal = e i; start = s i; length = l i })

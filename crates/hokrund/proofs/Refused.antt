@@ -10,7 +10,7 @@ use Rattle.search.specs.Look.{look_of}
 use Rattle.search.specs.PromiseCalls.{StandsAlone}
 use Rattle.search.specs.PromiseCalls as calls
 use Rattle.search.specs.Terms.{terms_of}
-use Rattle.search.specs.declared.Answer.{Answer}
+use Rattle.search.specs.Answers.{Answer}
 use Rattle.search.specs.declared.Terms.{Terms}
 use Rattle.search.proofs.Refused.{refused-keeps}
 use Rattle.tariff.specs.Promise.{PriceKeeps}

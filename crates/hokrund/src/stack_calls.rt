@@ -5,38 +5,21 @@ ghost use Rattle.mirror.specs.Mirror.{indexed_of, stacked_of};
 
 use mirror::{HokrundIndexed, HokrundStack, HokrundStacked};
 use perm::operations;
-use stacks::Stacked;
-
-fn stacked_of(stacked: Stacked) -> HokrundStacked
-    ensures { result ≡ stacked_of stacked }
-{
-    let places = stacked.stack;
-    HokrundStacked {
-        refusal: stacked.refusal,
-        stack: HokrundStack { places },
-    }
-}
 
 pub fn hokrund_index_of_stack(kind: u8, n: u8, stack: HokrundStack) -> HokrundIndexed
     ensures { result ≡ indexed_of (index_of kind n stack.places) }
 {
-    let places = stack.places;
-    let indexed = operations::index_of_stack(kind, n, places);
-    HokrundIndexed {
-        refusal: indexed.refusal,
-        index: indexed.index,
-    }
+    operations::index_of_stack(kind, n, stack.places).into()
 }
 
 pub fn hokrund_stack_at_index(kind: u8, n: u8, index: u32) -> HokrundStacked
     ensures { result ≡ stacked_of (stack_of kind n index) }
 {
-    stacked_of(operations::stack_at_index(kind, n, index))
+    operations::stack_at_index(kind, n, index).into()
 }
 
 pub fn hokrund_turn(kind: u8, n: u8, stack: HokrundStack, k: u8) -> HokrundStacked
     ensures { result ≡ stacked_of (turned_of kind n stack.places k) }
 {
-    let places = stack.places;
-    stacked_of(operations::turn(kind, n, places, k))
+    operations::turn(kind, n, stack.places, k).into()
 }

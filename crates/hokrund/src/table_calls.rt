@@ -21,27 +21,22 @@ pub fn hokrund_build_table(
 ) -> HokrundAnswer
     ensures { (table.new, log.new, list.new, result) ≡ build_call kind n wanted groups size room table.old log.old list.old }
 {
-    let places = wanted.places;
+    let wanted = wanted.places;
     let terms = Terms {
         kind,
         n,
-        wanted: places,
+        wanted,
         groups,
         size,
         room,
     };
-    let built = build::build::build_table(terms, table, log, list);
-    mirror::answer_of(built)
+    build::build::build_table(terms, table, log, list).into()
 }
 
 pub fn hokrund_read_entry(kind: u8, n: u8, table: &[u8], index: u32) -> HokrundEntry
     ensures { result ≡ entry_read_of (read_of kind n table.now index) }
 {
-    let entry = plan::read::read_entry(kind, n, table, index);
-    HokrundEntry {
-        refusal: entry.refusal,
-        entry: entry.entry,
-    }
+    plan::read::read_entry(kind, n, table, index).into()
 }
 
 pub fn hokrund_plan(
@@ -55,13 +50,7 @@ pub fn hokrund_plan(
 ) -> HokrundPlanned
     ensures { (list.new, result) ≡ plan_call kind n wanted given groups table.now list.old }
 {
-    let from = given.places;
-    let to = wanted.places;
-    let planned = plan::plan::plan(kind, n, to, from, groups, table, list);
-    HokrundPlanned {
-        refusal: planned.refusal,
-        turns: planned.turns,
-    }
+    plan::plan::plan(kind, n, wanted.places, given.places, groups, table, list).into()
 }
 
 pub fn hokrund_price(
@@ -76,12 +65,15 @@ pub fn hokrund_price(
 ) -> HokrundPriced
     ensures { (list.new, result) ≡ price_call kind n wanted given groups table.now list.old tariff }
 {
-    let from = given.places;
-    let to = wanted.places;
-    let priced = price::price::price(kind, n, to, from, groups, table, list, tariff);
-    HokrundPriced {
-        refusal: priced.refusal,
-        turns: priced.turns,
-        pennies: priced.pennies,
-    }
+    price::price::price(
+        kind,
+        n,
+        wanted.places,
+        given.places,
+        groups,
+        table,
+        list,
+        tariff,
+    )
+    .into()
 }

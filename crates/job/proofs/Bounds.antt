@@ -11,7 +11,7 @@ use Rattle.stacks.specs.Stack.{is_pane_count, is_stack}
 use Rattle.search.specs.JobState.{last_level, count_limit, is_level, is_reverse, in_forward, in_reverse, level_of, phase_fits, stack_count_of, segment_count_of, log_length, waiting_of, is_coherent}
 use Rattle.search.specs.Marks.{found_at}
 use Rattle.search.specs.Segments.{segment_limit, most_size, most_room, is_segment_size, is_log_room}
-use Rattle.search.specs.Terms.{N, begin_refusal}
+use Rattle.search.specs.Terms.{N, G, begin_refusal}
 use Rattle.search.specs.declared.Job.{Job}
 use Rattle.search.specs.declared.Phase.{Phase}
 use Rattle.search.specs.declared.Phase.TheVariants.{Blanking, Level, Finished}
@@ -52,6 +52,13 @@ module _ (job : Job) where
   -- what the geometry asks for
   pub coherent-begins : is_coherent job ≡ true → begin_refusal job.terms ≡ 0
   coherent-begins h = (coherent-facts job h).begins
+
+  -- G, as the code counts it
+  pub segments_are : segment_count_of job ≡ G job.terms
+  unfolding segment_count_of stack_count_of
+  segments_are = refl
+
+pub ruleset coherent_rows = (coherent-begins, segments_are)
 
 -- what a level has found is within the counts' limit
 pub coherent-found : (job : Job) → is_coherent job ≡ true → (d : ℕ) → AtMost (found_at job d) count_limit

@@ -1,6 +1,6 @@
--- Proofs of the functions: what a coherent job and its standing keep within bounds, loops over segments, a stack's children along a walk, and answers.
+-- What the proofs of the functions stand on: terms that Begin accepts, bounds of a coherent job, rows of refusals, chains, and a stack's children along a walk.
+pub mod Begun
 pub mod Bounds
-pub mod Standings
+pub mod Refusing
 pub mod Scans
 pub mod Walked
-pub mod Answers

@@ -1,22 +1,21 @@
--- A loop that asks t of each number below n: q is what it says from p on.
-use mathlib.Core.Path.{◌≡◌, ap, ◌∙◌}
-use mathlib.Core.Bool.{Bool, true, false}
-use Prim.Native.Nat.{ℕ, ◌+◌, ◌≤◌, ◌<◌}
-use native.Mathlib.Nat.{zero-add}
-use lib.ListN.{get_or, drop}
+-- A chain of an iterator that ends in all(..): std's test of a list, and of the numbers below n, is the definitions' own.
+use mathlib.Core.Path.{◌≡◌, refl, ap, ◌∙◌}
+use mathlib.Core.Bool.{Bool, ◌&&◌}
+use mathlib.Core.List.{List, [], ◌∷◌}
+use Prim.Native.Nat.{ℕ, zero, suc}
+use native.Mathlib.Numerals.{add-one}
+use Rattle.std.specs.List.{list_all, range_with_len}
 use Rattle.base.specs.Words.{all, from}
-use Rattle.base.proofs.Lists.{from-length, get_or-from}
-use Rattle.perm.proofs.Places.{scan-on, scan-fails, scan-end}
 
-module _ (t : ℕ → Bool) (n p : ℕ) (q : Bool) where
-  at-is : p < n → (b : Bool) → t p ≡ b → t (get_or (from 0 n) p 0) ≡ b
-  at-is h b k = ap t (get_or-from 0 n p 0 h ∙ zero-add p) ∙ k
+pub all-listed : {A : Type 0} (t : A → Bool) (xs : List A) → list_all t xs ≡ all t xs
+unfolding all
+all-listed t [] = refl
+all-listed t (x ∷ xs) = ap (λ (b : Bool). t x && b) (all-listed t xs)
 
-  pub upto-on : p < n → q ≡ all t (drop p (from 0 n)) → t p ≡ true → q ≡ all t (drop (p + 1) (from 0 n))
-  upto-on h e k = scan-on t (from 0 n) p q 0 (rw from-length h) e (at-is h true k)
+range-from : (a n : ℕ) → range_with_len a n ≡ from a n
+unfolding from
+range-from a zero = refl
+range-from a (suc n) = rw add-one (ap (λ (xs : List ℕ). a ∷ xs) (range-from (suc a) n))
 
-  pub upto-fails : p < n → q ≡ all t (drop p (from 0 n)) → t p ≡ false → false ≡ q
-  upto-fails h e k = scan-fails t (from 0 n) p q 0 (rw from-length h) e (at-is h false k)
-
-  pub upto-end : n ≤ p → q ≡ all t (drop p (from 0 n)) → true ≡ q
-  upto-end h e = scan-end t (from 0 n) p q (rw from-length h) e
+pub all-ranged : (t : ℕ → Bool) (n : ℕ) → list_all t (range_with_len 0 n) ≡ all t (from 0 n)
+all-ranged t n = all-listed t (range_with_len 0 n) ∙ ap (all t) (range-from 0 n)

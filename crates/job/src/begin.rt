@@ -1,12 +1,14 @@
 // Begin.
 ghost use Rattle.std.specs.Prelude.{◌≡◌};
 ghost use Rattle.search.specs.Begin.{begun, no_job, begin_of};
+ghost use Rattle.search.specs.Results.{as_begun};
 
 use crate::coherence;
-use search::{Answer, COUNT_PLACES, Job, NO_SEGMENT, Phase, SEGMENT_LIMIT, Terms, Way};
-use stacks::PLACES;
+use search::{COUNT_PLACES, Job, NO_SEGMENT, Phase, SEGMENT_LIMIT, Terms, Way};
+use stacks::{PLACES, Refusal};
 
 // A job in Blanking, its way forward, with nothing passed, waiting, loaded, swept or counted.
+#[tactic(auto, unfolding(search::specs::Begin::begun))]
 fn new_job(terms: Terms) -> Job
     ensures { result ≡ begun terms }
 {
@@ -15,37 +17,32 @@ fn new_job(terms: Terms) -> Job
         phase: Phase::Blanking,
         way: Way::Forward,
         loaded: NO_SEGMENT,
-        passed: [0u32; SEGMENT_LIMIT],
-        waiting: [0u32; SEGMENT_LIMIT],
-        swept: [0u64; SEGMENT_LIMIT],
-        counts: [0u64; COUNT_PLACES],
+        passed: [0; SEGMENT_LIMIT],
+        waiting: [0; SEGMENT_LIMIT],
+        swept: [0; SEGMENT_LIMIT],
+        counts: [0; COUNT_PLACES],
     }
 }
 
-// The job of nothing, beside a refusal: no call accepts it.
+// The job of nothing, which C has beside a refusal: no call accepts it.
 pub fn no_job() -> Job
     ensures { result ≡ no_job }
 {
-    let none = Terms {
+    new_job(Terms {
         kind: 0,
         n: 0,
-        wanted: [0i8; PLACES],
+        wanted: [0; PLACES],
         groups: 0,
         size: 0,
         room: 0,
-    };
-    new_job(none)
+    })
 }
 
 // Begin.
-pub fn begin(terms: Terms) -> Answer
-    ensures { result ≡ begin_of terms }
+#[tactic(auto, unfolding(search::specs::Begin::begin_of), using(crate::proofs::Begun::begin_errs))]
+pub fn begin(terms: Terms) -> Result<Job, Refusal>
+    ensures { as_begun result ≡ begin_of terms }
 {
-    let refusal = coherence::begin_refusal(terms);
-    if refusal != 0 {
-        let none = no_job();
-        return Answer { refusal, job: none };
-    }
-    let job = new_job(terms);
-    Answer { refusal: 0, job }
+    coherence::check_terms(terms)?;
+    Ok(new_job(terms))
 }

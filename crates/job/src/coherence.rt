@@ -1,200 +1,103 @@
 // Whether a job is coherent, decided by Begin's own refusals and by its numbers.
-ghost use Rattle.std.specs.Prelude.{true, ◌&&◌, cond, ◌≡◌, ◌/◌, ◌^◌, ◌≤◌, ◌<◌, leb, ltb, length};
+ghost use Rattle.std.specs.Prelude.{◌≡◌, ◌<◌, ◌≤◌, ◌^◌, cond, ltb, get_or};
 ghost use Rattle.base.specs.Words.{all, from};
-ghost use Rattle.search.specs.JobState.{count_places, count_limit, count_in_limit, is_coherent};
-ghost use Rattle.search.specs.Segments.{segment_limit, segment_count, stack_count_in};
-ghost use Rattle.search.specs.Terms.{begin_refusal};
-ghost use Rattle.search.specs.declared.Job.{Job};
-ghost use Rattle.job.specs.Numbers.{numbers_fit, load_fits, rows_fit};
-ghost use Rattle.job.specs.Standing.{Has};
+ghost use Rattle.search.specs.JobState.{count_in_limit, is_coherent, loaded_fits, segment_fits, swept_fits};
+ghost use Rattle.search.specs.Segments.{segment_limit};
+ghost use Rattle.search.specs.Terms.{G, begin_refusal};
+ghost use Rattle.stacks.specs.Refusals.{refusal_of};
 
-use crate::{geometry, phase};
-use perm::{groups, kind, operations};
-use search::{COUNT_LIMIT, COUNT_PLACES, NO_SEGMENT, Phase, SEGMENT_LIMIT, Terms};
+use crate::geometry;
+use perm::groups::TurnSet;
+use perm::panes::Panes;
+use search::{COUNT_LIMIT, COUNT_PLACES, Job, NO_SEGMENT, SEGMENT_LIMIT, Terms};
+use stacks::Refusal;
 use twobit::segment;
 
 // Begin's refusals, which a job's terms must pass too.
-pub fn begin_refusal(terms: Terms) -> u8
-    ensures { result ≡ begin_refusal terms }
+#[tactic(auto, unfolding(stacks::specs::Refusals::number), using(crate::proofs::Refusing::terms_rows))]
+pub fn check_terms(terms: Terms) -> Result<(), Refusal>
+    ensures { refusal_of result ≡ begin_refusal terms }
 {
-    let wanted = terms.wanted;
-    let refusal = operations::index_refusal(terms.kind, terms.n, wanted);
-    if refusal != 0 {
-        return refusal;
-    }
-    if !groups::is_group_set(terms.kind, terms.n, terms.groups) {
-        return 21;
-    }
-    let count = kind::stack_count(terms.kind, terms.n);
-    if !segment::is_segment_size(count, terms.size) {
-        return 5;
+    let panes = Panes::with_stack(terms.kind, terms.n, terms.wanted)?;
+    TurnSet::new(panes, terms.groups)?;
+    if !segment::is_segment_size(panes.stack_count(), terms.size) {
+        return Err(Refusal::Size);
     }
     if !segment::is_log_room(terms.room) {
-        return 6;
+        return Err(Refusal::Room);
     }
-    0
+    Ok(())
 }
 
 // The numbers of every segment, of those from G up too.
-fn segments_fit<'a>(
-    terms: Terms,
-    passed: &'a [u32; SEGMENT_LIMIT],
-    waiting: &'a [u32; SEGMENT_LIMIT],
-) -> bool
-    requires { begin_refusal terms ≡ 0 }
-    ensures { result ≡ all (numbers_fit terms passed.now waiting.now) (from 0 segment_limit) }
+fn segments_fit(job: &Job) -> bool
+    requires { begin_refusal job.now.terms ≡ 0 }
+    ensures { result ≡ all (segment_fits job.now) (from 0 segment_limit) }
 {
-    let size = terms.size;
-    let room = terms.room;
-    let count = kind::stack_count(terms.kind, terms.n);
-    let segments = segment::segment_count(count, size);
-    let mut j: usize = 0;
-    while j < SEGMENT_LIMIT {
-        if !segment_fits(count, size, room, segments, j as u32, passed[j], waiting[j]) {
-            return false;
-        }
-        j += 1;
-    }
-    true
+    let segments = geometry::segment_count_of(job.terms);
+    (0..SEGMENT_LIMIT).all(|j| segment_fits(job, segments, j))
 }
 
 // A segment from G up has no stacks. It is asked for first, as most of the 64 are such.
-fn segment_fits(
-    count: u32,
-    size: u32,
-    room: u32,
-    segments: u32,
-    j: u32,
-    passed: u32,
-    waiting: u32,
-) -> bool
-    requires { (0 < size) × (segments ≡ segment_count count size) }
-    ensures { result ≡ (leb passed (stack_count_in count size j) && leb waiting (cond (ltb j segments) room 0)) }
+fn segment_fits(job: &Job, segments: u32, j: usize) -> bool
+    requires { (begin_refusal job.now.terms ≡ 0) × (segments ≡ G job.now.terms) × (j < segment_limit) }
+    ensures { result ≡ segment_fits job.now j }
 {
-    if segments <= j {
-        if passed != 0 {
-            return false;
-        }
-        return waiting == 0;
+    let passed = job.passed[j];
+    let waiting = job.waiting[j];
+    if segments as usize <= j {
+        return passed == 0 && waiting == 0;
     }
-    if segment::stack_count_in(count, size, j) < passed {
-        return false;
-    }
-    waiting <= room
+    passed <= geometry::stack_count_at(job.terms, j as u32) && waiting <= job.terms.room
 }
 
-// How often the limit goes into a count.
-fn limits_in(count: u64) -> u64
-    ensures { (result ≡ count / count_limit) × (result ≤ 15) }
-{
-    count / COUNT_LIMIT
-}
-
-// How often it goes into all of them: 0 where each is below it. A loop with one way out is compiled to several counts at a time.
-fn limits_in_all(counts: &[u64; COUNT_PLACES]) -> u64
-    requires { length counts.now ≡ count_places }
-    ensures { result ≡ 0 → all count_in_limit counts.now ≡ true }
-{
-    let mut limits: u64 = 0;
-    let mut d: usize = 0;
-    while d < COUNT_PLACES {
-        limits += limits_in(counts[d]);
-        d += 1;
-    }
-    limits
-}
-
-fn each_count_fits(counts: &[u64; COUNT_PLACES]) -> bool
-    requires { length counts.now ≡ count_places }
-    ensures { result ≡ all count_in_limit counts.now }
-{
-    let mut d: usize = 0;
-    while d < COUNT_PLACES {
-        if COUNT_LIMIT < counts[d] {
-            return false;
-        }
-        d += 1;
-    }
-    true
-}
-
-// Each count is at most the limit. One that is the limit itself is rare, and only then is each looked at.
+// Each count is at most the limit.
 pub fn counts_fit(counts: &[u64; COUNT_PLACES]) -> bool
-    requires { length counts.now ≡ count_places }
     ensures { result ≡ all count_in_limit counts.now }
 {
-    if limits_in_all(counts) == 0 {
-        return true;
-    }
-    each_count_fits(counts)
+    counts.iter().all(|count| *count <= COUNT_LIMIT)
 }
 
 // None is loaded, or a segment below G.
-fn loaded_fits(loaded: u8, segments: u32) -> bool
-    ensures { result ≡ load_fits segments loaded }
+#[tactic(auto, unfolding(search::specs::JobState::loaded_fits, search::specs::JobState::is_loaded), using(crate::proofs::Bounds::segments_are))]
+fn loaded_fits(job: &Job) -> bool
+    requires { begin_refusal job.now.terms ≡ 0 }
+    ensures { result ≡ loaded_fits job.now }
 {
-    if loaded == NO_SEGMENT {
-        return true;
-    }
-    (loaded as u32) < segments
-}
-
-// The number of segment b has only its lowest G bits, and none from segment G up. A number has no bit from 64 up, and no shift goes so far.
-fn row_fits(segments: u32, b: u32, row: u64) -> bool
-    requires { segments ≤ segment_limit }
-    ensures { result ≡ ltb row (cond (ltb b segments) (2 ^ segments) 1) }
-{
-    if segments <= b {
-        return row == 0;
-    }
-    if SEGMENT_LIMIT <= segments as usize {
-        return true;
-    }
-    row >> segments == 0
+    job.loaded == NO_SEGMENT || (job.loaded as u32) < geometry::segment_count_of(job.terms)
 }
 
 // The numbers of swept pairs, of the segments from G up too.
-fn sweeps_fit(segments: u32, swept: &[u64; SEGMENT_LIMIT]) -> bool
-    requires { segments ≤ segment_limit }
-    ensures { result ≡ rows_fit segments swept.now }
+fn sweeps_fit(job: &Job) -> bool
+    requires { begin_refusal job.now.terms ≡ 0 }
+    ensures { result ≡ all (swept_fits job.now) (from 0 segment_limit) }
 {
-    let mut b: usize = 0;
-    while b < SEGMENT_LIMIT {
-        if !row_fits(segments, b as u32, swept[b]) {
-            return false;
-        }
-        b += 1;
-    }
-    true
+    let segments = geometry::segment_count_of(job.terms);
+    (0..SEGMENT_LIMIT).all(|b| row_fits(segments, b, job.swept[b]))
 }
 
-// Whether a job with these fields is coherent, whatever its way; fits says whether its counts fit. Its arrays are lent, so that none is copied.
-pub fn is_coherent<'a>(
-    terms: Terms,
-    phase: Phase,
-    loaded: u8,
-    passed: &'a [u32; SEGMENT_LIMIT],
-    waiting: &'a [u32; SEGMENT_LIMIT],
-    swept: &'a [u64; SEGMENT_LIMIT],
-    fits: bool,
-) -> bool
-    ensures { ((job : Job) → Has job terms phase loaded passed.now waiting.now swept.now fits → result ≡ is_coherent job) × (result ≡ true → begin_refusal terms ≡ 0) }
+// The number of segment b has only its lowest G bits, and none from segment G up. A number has no bit from 64 up, and no shift goes so far.
+fn row_fits(segments: u32, b: usize, row: u64) -> bool
+    requires { segments ≤ segment_limit }
+    ensures { result ≡ ltb row (cond (ltb b segments) (2 ^ segments) 1) }
 {
-    if begin_refusal(terms) != 0 {
+    if segments as usize <= b {
+        return row == 0;
+    }
+    segments as usize == SEGMENT_LIMIT || row >> segments == 0
+}
+
+// Whether a job is coherent, whatever its way. It is lent, so that none of its arrays is copied.
+#[tactic(auto, unfolding(search::specs::JobState::is_coherent, search::specs::JobState::counts_fit), using(crate::proofs::Begun::errs))]
+pub fn is_coherent(job: &Job) -> bool
+    ensures { result ≡ is_coherent job.now }
+{
+    if check_terms(job.terms).is_err() {
         return false;
     }
-    if !phase::phase_fits(phase) {
-        return false;
-    }
-    if !segments_fit(terms, passed, waiting) {
-        return false;
-    }
-    if !fits {
-        return false;
-    }
-    let segments = geometry::segment_count_of(terms);
-    if !loaded_fits(loaded, segments) {
-        return false;
-    }
-    sweeps_fit(segments, swept)
+    job.phase.fits()
+        && segments_fit(job)
+        && counts_fit(&job.counts)
+        && loaded_fits(job)
+        && sweeps_fit(job)
 }

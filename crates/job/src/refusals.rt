@@ -1,64 +1,52 @@
-// The refusals that the calls on a segment share: each row goes on from the one above it, and takes the job's standing alone.
+// The refusals that the calls on a segment share: each row goes on from the one above it.
+ghost use Rattle.std.specs.Prelude.{◌≡◌};
 ghost use Rattle.search.specs.Refusals.{call_refusal, segment_refusal, level_refusal};
-ghost use Rattle.job.specs.Standing.{Stands, Tells};
+ghost use Rattle.stacks.specs.Refusals.{refusal_of};
 
-use crate::standing::Standing;
-use crate::{geometry, phase};
+use crate::{coherence, geometry};
+use search::Job;
+use stacks::Refusal;
 use twobit::segment;
 
 // 7, 8 where the call has no part in the job's phase, 9.
-pub fn call_refusal(standing: Standing, in_phase: bool, j: u32) -> u8
-    requires { Stands standing j }
-    ensures { Tells standing j (λ job. call_refusal in_phase job j 0) result }
+#[tactic(auto, unfolding(search::specs::Refusals::call_refusal, stacks::specs::Refusals::number), using(crate::proofs::Bounds::coherent_rows))]
+pub fn check_call(job: &Job, in_phase: bool, j: u32) -> Result<(), Refusal>
+    ensures { refusal_of result ≡ call_refusal in_phase job.now j 0 }
 {
-    if !standing.coherent {
-        return 7;
+    if !coherence::is_coherent(job) {
+        return Err(Refusal::Incoherent);
     }
-    let terms = standing.terms;
-    let segments = geometry::segment_count_of(terms);
+    let segments = geometry::segment_count_of(job.terms);
     if !in_phase {
-        return 8;
+        return Err(Refusal::Phase);
     }
     if segments <= j {
-        return 9;
+        return Err(Refusal::Segment);
     }
-    0
+    Ok(())
 }
 
 // Those, then 10 for the segment.
-pub fn segment_refusal(standing: Standing, in_phase: bool, j: u32, bytes: usize) -> u8
-    requires { Stands standing j }
-    ensures { Tells standing j (λ job. segment_refusal in_phase job j bytes 0) result }
+#[tactic(auto, unfolding(stacks::specs::Refusals::number), using(crate::proofs::Refusing::segment_rows))]
+pub fn check_segment(job: &Job, in_phase: bool, j: u32, bytes: usize) -> Result<(), Refusal>
+    ensures { refusal_of result ≡ segment_refusal in_phase job.now j bytes 0 }
 {
-    let refusal = call_refusal(standing, in_phase, j);
-    if refusal != 0 {
-        return refusal;
+    check_call(job, in_phase, j)?;
+    let stacks = geometry::stack_count_at(job.terms, j);
+    if bytes != segment::bytes_for(stacks) as usize {
+        return Err(Refusal::Length);
     }
-    let terms = standing.terms;
-    let stacks = geometry::stack_count_at(terms, j);
-    let length = segment::bytes_for(stacks) as usize;
-    if bytes != length {
-        return 10;
-    }
-    0
+    Ok(())
 }
 
 // Those of a call of a forward level, then 10 for the log area.
-pub fn level_refusal(standing: Standing, j: u32, bytes: usize, words: usize) -> u8
-    requires { Stands standing j }
-    ensures { Tells standing j (λ job. level_refusal job j bytes words 0) result }
+#[tactic(auto, unfolding(stacks::specs::Refusals::number), using(crate::proofs::Refusing::level_rows))]
+pub fn check_level(job: &Job, j: u32, bytes: usize, words: usize) -> Result<(), Refusal>
+    ensures { refusal_of result ≡ level_refusal job.now j bytes words 0 }
 {
-    let phase = standing.phase;
-    let way = standing.way;
-    let in_level = phase::in_forward(phase, way);
-    let refusal = segment_refusal(standing, in_level, j, bytes);
-    if refusal != 0 {
-        return refusal;
+    check_segment(job, job.in_forward(), j, bytes)?;
+    if words != geometry::log_length(job.terms) {
+        return Err(Refusal::Length);
     }
-    let terms = standing.terms;
-    let area = geometry::log_length(terms);
-    if words != area {
-        return 10;
-    }
-    0
+    Ok(())
 }

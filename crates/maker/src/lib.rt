@@ -12,9 +12,10 @@ const LINE_BYTES: usize = 16;
 
 const LINE_COUNT: u32 = 256;
 
-pub const TEXT_LENGTH: usize = 8448;
+pub const TEXT_LENGTH: usize = (2 * LINE_BYTES + 1) * LINE_COUNT as usize;
 
-// How often the lowest one of a set can be cleared. Less 1, a set has a 0 there, ones below it, and the same above.
+// How often the lowest one of a set can be cleared. Less 1, a set has a 0 there, ones below it, and the same above. The loop is the second reading
+// itself, `clearings`: it counts, and goes by no index.
 fn cleared(set: u32) -> u8
     requires { set < set_count }
     ensures { result ≡ clearings set }
@@ -22,7 +23,7 @@ fn cleared(set: u32) -> u8
     let mut rest = set;
     let mut count: u8 = 0;
     while rest != 0 {
-        rest = rest & (rest - 1);
+        rest &= rest - 1;
         count += 1;
     }
     count
@@ -33,12 +34,10 @@ fn line_of(line: u32) -> [u8; LINE_BYTES]
     requires { line < line_count }
     ensures { result ≡ take line_bytes (drop (line_bytes * line) ones_table) }
 {
-    let first = (LINE_BYTES as u32) * line;
-    let mut bytes = [0u8; LINE_BYTES];
-    let mut i: usize = 0;
-    while i < LINE_BYTES {
-        bytes[i] = cleared(first + (i as u32));
-        i += 1;
+    let first = LINE_BYTES as u32 * line;
+    let mut bytes = [0; LINE_BYTES];
+    for i in 0..LINE_BYTES {
+        bytes[i] = cleared(first + i as u32);
     }
     bytes
 }
@@ -47,13 +46,10 @@ fn line_of(line: u32) -> [u8; LINE_BYTES]
 pub fn table_text() -> [u8; TEXT_LENGTH]
     ensures { result ≡ ones_text }
 {
-    let mut text = [0u8; TEXT_LENGTH];
-    let mut at: usize = 0;
-    let mut line: u32 = 0;
-    while line < LINE_COUNT {
-        let bytes = line_of(line);
-        at = output::put_line(&mut text, at, &bytes);
-        line += 1;
+    let mut text = [0; TEXT_LENGTH];
+    let mut at = 0;
+    for line in 0..LINE_COUNT {
+        at = output::put_line(&mut text, at, &line_of(line));
     }
     text
 }

@@ -6,20 +6,20 @@
 --   cleared                        a mirror with its reserved bytes 0, as they are in all that go out
 --   one_lent, two_lent, three_lent    an outcome, its answer converted
 use Rattle.std.specs.Prelude.{Bool, true, false, ◌&&◌, cond, List, [], ◌∷◌, ℕ, zero, suc, ltb, eqb, length}
-use Rattle.stacks.specs.declared.Indexed.{Indexed}
-use Rattle.stacks.specs.declared.Stacked.{Stacked}
+use Rattle.stacks.specs.Answers.{Indexed}
+use Rattle.stacks.specs.Answers.{Stacked}
 use Rattle.search.specs.JobState.{level_of}
 use Rattle.search.specs.Terms.{terms_of}
-use Rattle.search.specs.declared.Answer.{Answer}
-use Rattle.search.specs.declared.Entry.{Entry}
-use Rattle.search.specs.declared.Expanded.{Expanded}
+use Rattle.search.specs.Answers.{Answer}
+use Rattle.search.specs.Answers.{Entry}
+use Rattle.search.specs.Answers.{Expanded}
 use Rattle.search.specs.declared.Job.{Job}
 use Rattle.search.specs.declared.Phase.{Phase}
 use Rattle.search.specs.declared.Phase.TheVariants.{Blanking, Level, Finished}
-use Rattle.search.specs.declared.Planned.{Planned}
+use Rattle.search.specs.Answers.{Planned}
 use Rattle.search.specs.declared.Way.{Way}
 use Rattle.search.specs.declared.Way.TheVariants.{Forward, Reverse}
-use Rattle.tariff.specs.declared.Priced.{Priced}
+use Rattle.tariff.specs.Answers.{Priced}
 use Rattle.mirror.specs.declared.HokrundAnswer.{HokrundAnswer}
 use Rattle.mirror.specs.declared.HokrundEntry.{HokrundEntry}
 use Rattle.mirror.specs.declared.HokrundExpanded.{HokrundExpanded}

@@ -1,12 +1,16 @@
 // Code: the job, a stack and the answers as C sees them, and the conversions to and from the operations' own types.
 #![tactic(auto)]
 
-ghost use Rattle.std.specs.Prelude.{◌≡◌};
-ghost use Rattle.mirror.specs.Mirror.{phase_number, phase_of, is_phase, way_number, way_of, is_job, cleared, job_of, mirror_of, answer_of};
+ghost use Rattle.std.specs.Prelude.{◌≡◌, MatchResult};
+ghost use Rattle.stacks.specs.Refusals.{number, as_indexed, as_stacked};
+ghost use Rattle.search.specs.Results.{as_answer, as_begun, as_expanded, as_entry, as_planned};
+ghost use Rattle.tariff.specs.Results.{as_priced};
+ghost use Rattle.mirror.specs.Mirror.{phase_number, phase_of, is_phase, way_number, way_of, is_job, cleared, job_of, mirror_of, indexed_of, stacked_of, answer_of, expanded_of, entry_read_of, planned_of, priced_of};
 
-use job::phase;
-use search::{Answer, COUNT_PLACES, Job, Phase, SEGMENT_LIMIT, Terms, Way};
-use stacks::PLACES;
+use job::begin;
+use search::{COUNT_PLACES, Job, Phase, SEGMENT_LIMIT, Terms, Way};
+use stacks::{PLACES, Refusal};
+use tariff::Cost;
 
 #[derive(Clone, Copy)]
 #[repr(C)]
@@ -97,6 +101,9 @@ pub struct HokrundPriced {
     pub pennies: u32,
 }
 
+// The numbers of a phase and of a way are the interface's alone, so that they stand here and not beside Phase and Way, and a type of another crate takes
+// no From here.
+#[tactic(auto, unfolding(crate::specs::Mirror::phase_number))]
 pub fn phase_number(phase: Phase) -> u8
     ensures { result ≡ phase_number phase }
 {
@@ -110,24 +117,23 @@ pub fn phase_number(phase: Phase) -> u8
 pub fn phase_of(number: u8, level: u8) -> Phase
     ensures { result ≡ phase_of number level }
 {
-    if number == 0 {
-        return Phase::Blanking;
+    match number {
+        0 => Phase::Blanking,
+        1 => Phase::Level(level),
+        _ => Phase::Finished(level),
     }
-    if number == 1 {
-        return Phase::Level(level);
-    }
-    Phase::Finished(level)
 }
 
 fn is_phase(number: u8, level: u8) -> bool
     ensures { result ≡ is_phase number level }
 {
-    if number == 0 {
-        return level == 0;
+    match number {
+        0 => level == 0,
+        _ => number < 3,
     }
-    number < 3
 }
 
+#[tactic(auto, unfolding(crate::specs::Mirror::way_number))]
 pub fn way_number(way: Way) -> u8
     ensures { result ≡ way_number way }
 {
@@ -141,99 +147,229 @@ pub fn way_number(way: Way) -> u8
 pub fn way_of(number: u8) -> Way
     ensures { result ≡ way_of number }
 {
-    if number == 0 {
-        return Way::Forward;
-    }
-    Way::Reverse
-}
-
-// Whether a mirror's numbers are those of a phase and of a way.
-pub fn is_job(mirror: HokrundJob) -> bool
-    ensures { result ≡ is_job mirror }
-{
-    if !is_phase(mirror.phase, mirror.level) {
-        return false;
-    }
-    mirror.way < 2
-}
-
-// A mirror as it goes back beside a refusal.
-pub fn cleared(mirror: HokrundJob) -> HokrundJob
-    ensures { result ≡ cleared mirror }
-{
-    let reserved = [0u8; 2];
-    let mut given_back = mirror;
-    given_back.reserved = reserved;
-    given_back
-}
-
-// The two conversions. A new field of the job is a line in each, two if it is an array; their proofs and laws name no field but the phase and
-// the way.
-pub fn job_of(mirror: HokrundJob) -> Job
-    ensures { result ≡ job_of mirror }
-{
-    let wanted = mirror.wanted.places;
-    let passed = mirror.passed;
-    let waiting = mirror.waiting;
-    let swept = mirror.swept;
-    let counts = mirror.counts;
-    let phase = phase_of(mirror.phase, mirror.level);
-    let way = way_of(mirror.way);
-    let terms = Terms {
-        kind: mirror.kind,
-        n: mirror.n,
-        wanted,
-        groups: mirror.groups,
-        size: mirror.size,
-        room: mirror.room,
-    };
-    Job {
-        terms,
-        phase,
-        way,
-        loaded: mirror.loaded,
-        passed,
-        waiting,
-        swept,
-        counts,
+    match number {
+        0 => Way::Forward,
+        _ => Way::Reverse,
     }
 }
 
-pub fn mirror_of(job: Job) -> HokrundJob
-    ensures { result ≡ mirror_of job }
-{
-    let phase = job.phase;
-    let way = job.way;
-    let terms = job.terms;
-    let wanted = terms.wanted;
-    let passed = job.passed;
-    let waiting = job.waiting;
-    let swept = job.swept;
-    let counts = job.counts;
-    HokrundJob {
-        kind: terms.kind,
-        n: terms.n,
-        phase: phase_number(phase),
-        level: phase::level_of(phase),
-        way: way_number(way),
-        loaded: job.loaded,
-        wanted: HokrundStack { places: wanted },
-        reserved: [0u8; 2],
-        groups: terms.groups,
-        size: terms.size,
-        room: terms.room,
-        passed,
-        waiting,
-        swept,
-        counts,
+impl HokrundJob {
+    // Whether its numbers are those of a phase and of a way.
+    #[tactic(auto, unfolding(crate::specs::Mirror::is_job, crate::specs::Mirror::is_way))]
+    pub fn is_job(&self) -> bool
+        ensures { result ≡ is_job self.now }
+    {
+        is_phase(self.phase, self.level) && self.way < 2
+    }
+
+    // As it goes back beside a refusal.
+    #[tactic(auto, unfolding(crate::specs::Mirror::cleared))]
+    pub fn cleared(&self) -> HokrundJob
+        ensures { result ≡ cleared self.now }
+    {
+        HokrundJob {
+            reserved: [0u8; 2],
+            ..*self
+        }
+    }
+
+    // What a call of a mirror that is no job's is answered.
+    #[tactic(auto, unfolding(stacks::specs::Refusals::number))]
+    pub fn refused(&self) -> HokrundAnswer
+        ensures refusal { result.refusal ≡ 7 }
+        ensures job { result.job ≡ cleared self.now }
+    {
+        HokrundAnswer {
+            refusal: Refusal::Incoherent.into(),
+            job: self.cleared(),
+        }
     }
 }
 
-pub fn answer_of(answer: Answer) -> HokrundAnswer
-    ensures { result ≡ answer_of answer }
+// The two conversions, which are total, as `job_of` and `mirror_of` of the definitions are: whether a mirror is a job's is asked first. A new field of the
+// job is a line in each; their proofs and laws name no field but the phase and the way.
+impl From<&HokrundJob> for Job {
+    ghost from_gives = { λ mirror job. job ≡ job_of mirror.now };
+
+    #[tactic(auto, unfolding(crate::specs::Mirror::job_of))]
+    fn from(mirror: &HokrundJob) -> Job {
+        Job {
+            terms: Terms {
+                kind: mirror.kind,
+                n: mirror.n,
+                wanted: mirror.wanted.places,
+                groups: mirror.groups,
+                size: mirror.size,
+                room: mirror.room,
+            },
+            phase: phase_of(mirror.phase, mirror.level),
+            way: way_of(mirror.way),
+            loaded: mirror.loaded,
+            passed: mirror.passed,
+            waiting: mirror.waiting,
+            swept: mirror.swept,
+            counts: mirror.counts,
+        }
+    }
+}
+
+impl From<&Job> for HokrundJob {
+    ghost from_gives = { λ job mirror. mirror ≡ mirror_of job.now };
+
+    #[tactic(auto, unfolding(crate::specs::Mirror::mirror_of))]
+    fn from(job: &Job) -> HokrundJob {
+        HokrundJob {
+            kind: job.terms.kind,
+            n: job.terms.n,
+            phase: phase_number(job.phase),
+            level: job.phase.level(),
+            way: way_number(job.way),
+            loaded: job.loaded,
+            wanted: HokrundStack {
+                places: job.terms.wanted,
+            },
+            reserved: [0; 2],
+            groups: job.terms.groups,
+            size: job.terms.size,
+            room: job.terms.room,
+            passed: job.passed,
+            waiting: job.waiting,
+            swept: job.swept,
+            counts: job.counts,
+        }
+    }
+}
+
+// The refusal's number, 0 for none, and what was found, or what stands beside a refusal.
+fn parted<T: Drop>(outcome: Result<T, Refusal>, none: T) -> (u8, T)
+    ensures { MatchResult outcome (λ found. result ≡ (0, found)) (λ refusal. result ≡ (number refusal, none)) }
 {
-    HokrundAnswer {
-        refusal: answer.refusal,
-        job: mirror_of(answer.job),
+    match outcome {
+        Ok(found) => (0, found),
+        Err(refusal) => (refusal.into(), none),
+    }
+}
+
+impl From<Result<u32, Refusal>> for HokrundIndexed {
+    ghost from_gives = { λ outcome answer. answer ≡ indexed_of (as_indexed outcome) };
+
+    #[tactic(auto, unfolding(crate::specs::Mirror::indexed_of))]
+    fn from(outcome: Result<u32, Refusal>) -> HokrundIndexed {
+        let (refusal, index) = parted(outcome, 0);
+        HokrundIndexed { refusal, index }
+    }
+}
+
+impl From<Result<[i8; PLACES], Refusal>> for HokrundStacked {
+    ghost from_gives = { λ outcome answer. answer ≡ stacked_of (as_stacked outcome) };
+
+    #[tactic(auto, unfolding(crate::specs::Mirror::stacked_of))]
+    fn from(outcome: Result<[i8; PLACES], Refusal>) -> HokrundStacked {
+        let (refusal, places) = parted(outcome, [0; PLACES]);
+        HokrundStacked {
+            refusal,
+            stack: HokrundStack { places },
+        }
+    }
+}
+
+impl HokrundAnswer {
+    // What a call that was lent the job has come to.
+    #[tactic(auto, unfolding(crate::specs::Mirror::answer_of))]
+    pub fn new(job: &Job, outcome: Result<(), Refusal>) -> HokrundAnswer
+        ensures { result ≡ answer_of (as_answer job.now outcome) }
+    {
+        let (refusal, ()) = parted(outcome, ());
+        HokrundAnswer {
+            refusal,
+            job: job.into(),
+        }
+    }
+}
+
+// What Begin and Build the whole table have come to: beside a refusal the job of nothing, which no call accepts.
+impl From<Result<Job, Refusal>> for HokrundAnswer {
+    ghost from_gives = { λ outcome answer. answer ≡ answer_of (as_begun outcome) };
+
+    #[tactic(auto, unfolding(crate::specs::Mirror::answer_of))]
+    fn from(outcome: Result<Job, Refusal>) -> HokrundAnswer {
+        match outcome {
+            Ok(job) => HokrundAnswer {
+                refusal: 0,
+                job: HokrundJob::from(&job),
+            },
+            Err(refusal) => HokrundAnswer {
+                refusal: refusal.into(),
+                job: HokrundJob::from(&begin::no_job()),
+            },
+        }
+    }
+}
+
+impl HokrundExpanded {
+    // What Expand, which was lent the job, has come to.
+    #[tactic(auto, unfolding(crate::specs::Mirror::expanded_of))]
+    pub fn new(job: &Job, outcome: Result<Option<u32>, Refusal>) -> HokrundExpanded
+        ensures { result ≡ expanded_of (as_expanded job.now outcome) }
+    {
+        let (refusal, waits_for) = parted(outcome, None);
+        HokrundExpanded {
+            refusal,
+            waits: waits_for.is_some(),
+            on: waits_for.unwrap_or(0),
+            job: job.into(),
+        }
+    }
+}
+
+impl HokrundLook {
+    // Beside a refusal.
+    pub fn refused(refusal: Refusal) -> HokrundLook
+        ensures refusal { result.refusal ≡ number refusal }
+        ensures part { (result.start ≡ 0) × (result.length ≡ 0) }
+    {
+        HokrundLook {
+            refusal: refusal.into(),
+            start: 0,
+            length: 0,
+        }
+    }
+}
+
+impl From<Result<u8, Refusal>> for HokrundEntry {
+    ghost from_gives = { λ outcome answer. answer ≡ entry_read_of (as_entry outcome) };
+
+    #[tactic(auto, unfolding(crate::specs::Mirror::entry_read_of))]
+    fn from(outcome: Result<u8, Refusal>) -> HokrundEntry {
+        let (refusal, entry) = parted(outcome, 0);
+        HokrundEntry { refusal, entry }
+    }
+}
+
+impl From<Result<u32, Refusal>> for HokrundPlanned {
+    ghost from_gives = { λ outcome answer. answer ≡ planned_of (as_planned outcome) };
+
+    #[tactic(auto, unfolding(crate::specs::Mirror::planned_of))]
+    fn from(outcome: Result<u32, Refusal>) -> HokrundPlanned {
+        let (refusal, turns) = parted(outcome, 0);
+        HokrundPlanned { refusal, turns }
+    }
+}
+
+impl From<Result<Cost, Refusal>> for HokrundPriced {
+    ghost from_gives = { λ outcome answer. answer ≡ priced_of (as_priced outcome) };
+
+    #[tactic(auto, unfolding(crate::specs::Mirror::priced_of))]
+    fn from(outcome: Result<Cost, Refusal>) -> HokrundPriced {
+        let nothing = Cost {
+            turns: 0,
+            pennies: 0,
+        };
+        let (refusal, cost) = parted(outcome, nothing);
+        HokrundPriced {
+            refusal,
+            turns: cost.turns,
+            pennies: cost.pennies,
+        }
     }
 }

@@ -9,9 +9,9 @@ mod constant;
 // The sets of twelve panes, each a bit.
 pub const SETS: usize = 4096;
 
-// The constant. It is laid out anew wherever code names it, some 270 instructions: an open call does that once and lends it.
-pub fn table() -> [u8; SETS]
-    ensures { result ≡ ones_table }
+// Lent in place: a constant would be laid out anew wherever code names it.
+pub fn table() -> &'static [u8; SETS]
+    ensures { result.now ≡ ones_table }
 {
-    constant::ONES
+    &constant::ONES
 }

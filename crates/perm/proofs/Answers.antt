@@ -1,23 +1,24 @@
--- The answers of the operations on stacks, by the number of their row of refusals.
+-- The results of the operations on stacks as their answers, by the number of their row of refusals.
 use mathlib.Core.Path.{◌≡◌}
 use mathlib.Core.List.{List}
+use Rattle.std.specs.Prelude.{Ok, Err}
 use Prim.Native.Nat.{ℕ}
-use lib.IntN.{ℤ, pos}
-use lib.ListN.{replicate}
+use lib.IntN.{ℤ}
 use borrow.Author.Tests.{ne_eqb}
 use Rattle.stacks.specs.Operations.{indexed, stacked}
-use Rattle.stacks.specs.declared.Indexed.{Indexed}
-use Rattle.stacks.specs.declared.Stacked.{Stacked}
+use Rattle.stacks.specs.Refusals.{number, as_indexed, as_stacked}
+use Rattle.stacks.specs.declared.refusal.Refusal.{Refusal}
+use Rattle.stacks.proofs.Numbers.{number-some}
 
-module _ (q r : ℕ) (e : r ≡ q) where
-  pub no_index : (i : ℕ) → (r ≡ 0 → ⊥) → ◌≡◌ {A = Indexed} (record { refusal = r; index = 0 }) (indexed q i)
-  no_index i h = rw (← e, ne_eqb r 0 h)
+module _ (q : ℕ) where
+  pub no_index : (r : Refusal) → number r ≡ q → (i : ℕ) → as_indexed (Err r) ≡ indexed q i
+  no_index r e i = rw (← e, ne_eqb (number r) 0 (number-some r))
 
-  pub an-index : (i j : ℕ) → r ≡ 0 → j ≡ i → ◌≡◌ {A = Indexed} (record { refusal = 0; index = j }) (indexed q i)
-  an-index i j h k = rw (← e, h, k)
+  pub an-index : 0 ≡ q → (i j : ℕ) → j ≡ i → as_indexed (Ok j) ≡ indexed q i
+  an-index e i j k = rw (← e, k)
 
-  pub no_stack : (s : List ℤ) → (r ≡ 0 → ⊥) → ◌≡◌ {A = Stacked} (record { refusal = r; stack = replicate 12 (pos 0) }) (stacked q s)
-  no_stack s h = rw (← e, ne_eqb r 0 h)
+  pub no_stack : (r : Refusal) → number r ≡ q → (s : List ℤ) → as_stacked (Err r) ≡ stacked q s
+  no_stack r e s = rw (← e, ne_eqb (number r) 0 (number-some r))
 
-  pub a-stack : (s t : List ℤ) → r ≡ 0 → t ≡ s → ◌≡◌ {A = Stacked} (record { refusal = 0; stack = t }) (stacked q s)
-  a-stack s t h k = rw (← e, h, k)
+  pub a-stack : 0 ≡ q → (s t : List ℤ) → t ≡ s → as_stacked (Ok t) ≡ stacked q s
+  a-stack e s t k = rw (← e, k)

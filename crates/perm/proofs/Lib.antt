@@ -1,10 +1,10 @@
 -- What the code of stacks is proved with.
-pub mod KindTests
+pub mod Alike
 pub mod Signed
 pub mod Sets
 pub mod Places
-pub mod Sizes
-pub mod Walks
+pub mod GroupSets
+pub mod SizeLaws
 pub mod Ranking
 pub mod Unranking
 pub mod Below

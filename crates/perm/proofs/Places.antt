@@ -6,23 +6,26 @@ use Prim.Native.Nat.{ℕ, zero, suc, ◌+◌, ◌-◌, ◌^◌, ◌≤◌, ◌<�
 use native.Mathlib.Numerals.{add-one}
 use native.Mathlib.Omega.{arith}
 use lib.Dec.{leb, eqb}
-use lib.IntN.{ℤ, pos, negsuc, nat_abs}
+use lib.IntN.{ℤ, pos, nat_abs}
 use lib.ListN.{drop_of_length-le, length, get_or, take, drop, length-map, get_or-map}
 use lib.Pow.{pow_pos}
-use lib.Seq.{drop-cons, take-suc, get_or-take, length-take-le}
-use lib.Signed.{non_neg}
+use lib.Seq.{drop-cons, take-suc, get_or-take}
 use borrow.Author.Tests.{leb-true, eqb-true, ne_eqb}
-use Rattle.base.specs.Words.{all, tally, bit}
+use Rattle.base.specs.Words.{tally, bit}
 use Rattle.base.proofs.Bits.{put-lt}
 use Rattle.base.proofs.Counting.{tally-false}
 use Rattle.base.proofs.Tests.{and_left, and_right, and-fails-left}
-use Rattle.stacks.specs.Index.{coat}
 use Rattle.stacks.specs.Stack.{order_of, each_once}
 use Rattle.perm.proofs.Sets.{Holds, holds-none, holds-put}
 
-pub order-length : (n : ℕ) (s : List ℤ) → n ≤ length s → length (order_of n s) ≡ n
+-- in the panes of the order as they are gone through
+pub order-long : (n : ℕ) (s : List ℤ) → length (order_of n s) ≡ length (take n s)
 unfolding order_of
-order-length n s h = length-map (take n s) nat_abs ∙ length-take-le n s h
+order-long n s = length-map (take n s) nat_abs
+
+pub order-read : (n : ℕ) (s : List ℤ) (p : ℕ) → get_or (order_of n s) p 0 ≡ nat_abs (get_or (take n s) p (pos 0))
+unfolding order_of
+order-read n s p = get_or-map nat_abs (take n s) p (pos 0)
 
 pub order-at : (n : ℕ) (s : List ℤ) (p : ℕ) → p < n → get_or (order_of n s) p 0 ≡ nat_abs (get_or s p (pos 0))
 unfolding order_of
@@ -40,23 +43,6 @@ met-none (x ∷ xs) = refl
 pub met-more : (xs : List ℕ) (p : ℕ) → p < length xs → met_at xs (p + 1) ≡ get_or xs p 0 ∷ met_at xs p
 unfolding met_at
 met-more xs p h = rw (add-one p, take-suc xs p 0 h, reverse-append)
-
--- a test over a list, one place further
-pub all_more : {A : Type 0} (t : A → Bool) (xs : List A) (p : ℕ) (d : A) → p < length xs → all t (drop p xs) ≡ (t (get_or xs p d) && all t (drop (p + 1) xs))
-unfolding all
-all_more t xs p d h = rw (drop-cons xs p d h, add-one)
-
--- a scan that asks t of each place: q is what it says from place p on
-module _ {A : Type 0} (t : A → Bool) (xs : List A) (p : ℕ) (q : Bool) where
-  pub scan-on : (d : A) → p < length xs → q ≡ all t (drop p xs) → t (get_or xs p d) ≡ true → q ≡ all t (drop (p + 1) xs)
-  scan-on d h e k = e ∙ all_more t xs p d h ∙ ap (λ (b : Bool). b && all t (drop (p + 1) xs)) k
-
-  pub scan-fails : (d : A) → p < length xs → q ≡ all t (drop p xs) → t (get_or xs p d) ≡ false → false ≡ q
-  scan-fails d h e k = sym (e ∙ all_more t xs p d h ∙ ap (λ (b : Bool). b && all t (drop (p + 1) xs)) k)
-
-  pub scan-end : length xs ≤ p → q ≡ all t (drop p xs) → true ≡ q
-  unfolding all
-  scan-end h e = sym (e ∙ ap (all t) (drop_of_length-le xs h))
 
 -- ---- the panes met
 
@@ -123,14 +109,3 @@ module _ (n : ℕ) (xs : List ℕ) (met p : ℕ) (m : Met n xs met p) where
           real = rw (more, tally-false (eqb 0) x (met_at xs p) (ne_eqb 0 x (omega arith))) m.real;
           left = met-left ∙ ap (λ (b : Bool). b && each_once n (met_at xs (p + 1)) (drop (p + 1) xs)) k;
         }
-
--- a coat that is down is no plain pane's
-pub coat-up : (z : ℤ) → (coat z ≡ 1 → ⊥) → non_neg z ≡ true
-unfolding coat
-coat-up (pos x) h = refl
-coat-up (negsuc x) h = absurd (h refl)
-
-pub coat-down : (z : ℤ) → coat z ≡ 1 → non_neg z ≡ false
-unfolding coat
-coat-down (pos x) h = absurd (omega arith)
-coat-down (negsuc x) h = refl

@@ -61,6 +61,14 @@ pub record Ranked (n : ℕ) (s : List ℤ) (above : Ranking) (p : ℕ) : Type 0 
 abbrev pub nothing_met : Ranking
 nothing_met = record { met = 0; order = 0; coats = 0 }
 
+-- the ranking that a default is
+abbrev ranking : ℕ → ℕ → ℕ → Ranking
+ranking met order coats = record { met = met; order = order; coats = coats }
+
+pub is-nothing : (r : Ranking) → (r.met ≡ 0) × ((r.order ≡ 0) × (r.coats ≡ 0)) → r ≡ nothing_met
+is-nothing r e =
+    ap (λ (x : ℕ). ranking x r.order r.coats) e.0 ∙ ap (λ (x : ℕ). ranking 0 x r.coats) e.1.0 ∙ ap (ranking 0 0) e.1.1
+
 pub ranked-start : (n : ℕ) (s : List ℤ) → Ranked n s nothing_met 0
 ranked-start n s =
     record {

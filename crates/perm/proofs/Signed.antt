@@ -5,13 +5,11 @@ use Prim.Native.Nat.{ℕ, zero, suc, ◌%◌, ◌≤◌, ◌<◌, ◌^◌}
 use native.Mathlib.Omega.{arith}
 use lib.IntN.{ℤ, pos, negsuc, neg_ℤ, nat_abs, ◌-ℤ◌, +ℤ_idl}
 use lib.Signed.{mag, lt_z, non_neg}
-use borrow.Author.Tests.{ltb-true, ne_eqb}
-use mir.Syntax.{Width, w8, w32}
+use borrow.Author.Tests.{ltb-true}
+use mir.Syntax.{Width, w8}
 use mir.Val.{SFits, to_z, of_z, hbits}
 use mir.Facts.{to_z-of_z, to_z_pos}
 use Rattle.stacks.specs.Index.{coat, pane_with}
-use Rattle.stacks.specs.Stack.{is_coated}
-use Rattle.stacks.specs.Turn.{flip}
 use Rattle.stacks.proofs.CoatLaws.{pane-number}
 
 pub zero-sub : (z : ℤ) → pos 0 -ℤ z ≡ neg_ℤ z
@@ -26,14 +24,7 @@ mag-neg (pos zero) = omega arith
 mag-neg (pos (suc n)) = omega arith
 mag-neg (negsuc n) = omega arith
 
-pub abs_mag : (z : ℤ) → nat_abs z ≤ suc (mag z)
-abs_mag (pos n) = omega arith
-abs_mag (negsuc n) = omega arith
-
--- a magnitude below half the width fits with either sign
-pub small-fits : (w : Width) (z : ℤ) → nat_abs z < 2 ^ hbits w → SFits w z
-small-fits w z h = record { sfits = omega (arith, mag-abs z) }
-
+-- a magnitude below half the width fits with the other sign
 pub neg-fits : (w : Width) (z : ℤ) → nat_abs z < 2 ^ hbits w → SFits w (neg_ℤ z)
 neg-fits w z h = record { sfits = omega (arith, mag-neg z) }
 
@@ -52,7 +43,7 @@ unfolding coat
 not-below-zero (pos n) h = (refl, refl)
 not-below-zero (negsuc n) h = absurd (true≢false h)
 
--- a place is read back as it was written, also after it was widened, and its negation as the negation
+-- a place is read back as it was written, and its negation as the negation
 module _ {w : Width} {z : ℤ} (f : SFits w z) where
   pub neg-read : pos 0 -ℤ to_z w (of_z w z) ≡ neg_ℤ z
   neg-read = ap (λ (y : ℤ). pos 0 -ℤ y) (to_z-of_z f) ∙ zero-sub z
@@ -60,34 +51,12 @@ module _ {w : Width} {z : ℤ} (f : SFits w z) where
   pub neg-back : nat_abs z < 2 ^ hbits w → to_z w (of_z w (pos 0 -ℤ to_z w (of_z w z))) ≡ neg_ℤ z
   neg-back h = ap (λ (y : ℤ). to_z w (of_z w y)) neg-read ∙ to_z-of_z (neg-fits w z h)
 
-module _ {z : ℤ} (f : SFits w8 z) where
-  pub wide-small : nat_abs z < 2 ^ hbits w32
-  wide-small = omega (arith, abs_mag z, f.sfits)
-
-  pub wide_back : to_z w32 (of_z w32 (to_z w8 (of_z w8 z))) ≡ z
-  wide_back = ap (λ (y : ℤ). to_z w32 (of_z w32 y)) (to_z-of_z f) ∙ to_z-of_z (small-fits w32 z wide-small)
-
-  pub wide-neg-read : pos 0 -ℤ to_z w32 (of_z w32 (to_z w8 (of_z w8 z))) ≡ neg_ℤ z
-  wide-neg-read = ap (λ (y : ℤ). pos 0 -ℤ y) wide_back ∙ zero-sub z
-
-  pub wide-neg-back : to_z w32 (of_z w32 (pos 0 -ℤ to_z w32 (of_z w32 (to_z w8 (of_z w8 z))))) ≡ neg_ℤ z
-  wide-neg-back = ap (λ (y : ℤ). to_z w32 (of_z w32 y)) wide-neg-read ∙ to_z-of_z (neg-fits w32 z wide-small)
-
 -- a place of a stack, read back
 pub place-back : (z : ℤ) → mag z < 2 ^ hbits w8 → to_z w8 (of_z w8 z) ≡ z
 place-back z h = to_z-of_z {w = w8} {z = z} (record { sfits = h })
 
 pub small-back : (z : ℤ) → nat_abs z ≤ 12 → to_z w8 (of_z w8 z) ≡ z
 small-back z h = place-back z (omega (arith, mag-abs z))
-
--- flipping by the kind's test
-pub flip-coated : (kind : ℕ) (z : ℤ) → kind ≡ 1 → neg_ℤ z ≡ flip kind z
-unfolding flip is_coated
-flip-coated kind z e = rw e
-
-pub flip-plain : (kind : ℕ) (z : ℤ) → (kind ≡ 1 → ⊥) → z ≡ flip kind z
-unfolding flip is_coated
-flip-plain kind z h = rw (ne_eqb kind 1 h)
 
 pub pane-up : (x bit : ℕ) → bit ≡ 0 → pos x ≡ pane_with x bit
 unfolding pane_with

@@ -1,5 +1,7 @@
--- What the leaves on sets of panes promise, one place of a ranking, and the moves of a search.
+-- The kinds by their numbers, what the leaves on sets of panes promise, one place of a ranking, and the moves of a search.
+pub mod Kinds
+pub mod Panes
 pub mod Set
+pub mod Sizes
 pub mod Moves
-pub mod Walk
 pub mod Ranking

@@ -1,97 +1,80 @@
-// What depends on the kind and n alone: their ranges, the turns, and how many stacks there are. No other file asks what a kind has of them.
+// The kinds of panes, and what depends on the kind alone. Besides, crate::place flips a pane and crate::valid looks at coats by the kind.
 ghost use Rattle.std.specs.Prelude.{true, ◌≡◌, ◌≤◌};
-ghost use Rattle.base.specs.Words.{fact};
-ghost use Rattle.stacks.specs.Stack.{stack_places, is_kind, fewest_panes, most_panes, is_pane_count, coatings, stack_count};
+ghost use Rattle.stacks.specs.Stack.{stack_places, is_coated, most_panes, is_pane_count, coatings, stack_count};
 ghost use Rattle.stacks.specs.Turn.{first_turn, last_turn, is_turn};
+ghost use Rattle.perm.specs.Kinds.{number_of};
 
-pub(crate) fn is_kind(kind: u8) -> bool
-    ensures { result ≡ is_kind kind }
-{
-    kind < 2
+#[derive(Clone, Copy, Debug, PartialEq, Eq)]
+pub enum Kind {
+    Plain,
+    Coated,
 }
 
-fn fewest_panes(kind: u8) -> u8
-    ensures { result ≡ fewest_panes kind }
-{
-    1
-}
-
-fn most_panes(kind: u8) -> u8
-    ensures { result ≡ most_panes kind }
-{
-    if kind == 1 { 10 } else { 12 }
-}
-
-pub fn is_pane_count(kind: u8, n: u8) -> bool
-    ensures { result ≡ is_pane_count kind n }
-{
-    let fewest = fewest_panes(kind);
-    if n < fewest {
-        return false;
+impl Kind {
+    // How many it has at most.
+    #[tactic(auto, unfolding(stacks::specs::Stack::most_panes, stacks::specs::Stack::is_coated))]
+    fn most_panes(self) -> u8
+        ensures { result ≡ most_panes (number_of self) }
+    {
+        match self {
+            Kind::Plain => 12,
+            Kind::Coated => 10,
+        }
     }
-    let most = most_panes(kind);
-    n <= most
-}
 
-pub fn first_turn(kind: u8) -> u8
-    ensures { result ≡ first_turn kind }
-{
-    if kind == 1 { 1 } else { 2 }
-}
-
-pub fn last_turn(kind: u8, n: u8) -> u8
-    ensures { result ≡ last_turn kind n }
-{
-    n
-}
-
-pub(crate) fn is_turn(kind: u8, n: u8, k: u8) -> bool
-    ensures { result ≡ is_turn kind n k }
-{
-    let first = first_turn(kind);
-    if k < first {
-        return false;
+    // Whether n is in its range.
+    #[tactic(auto, unfolding(stacks::specs::Stack::is_pane_count, stacks::specs::Stack::fewest_panes))]
+    pub fn is_pane_count(self, n: u8) -> bool
+        ensures { result ≡ is_pane_count (number_of self) n }
+    {
+        (1..=self.most_panes()).contains(&n)
     }
-    let last = last_turn(kind, n);
-    k <= last
-}
 
-// A match, since a constant table would be laid out anew at each call.
-pub(crate) fn factorial(n: u32) -> u32
-    requires { n ≤ stack_places }
-    ensures { result ≡ fact n }
-{
-    match n {
-        0 => 1,
-        1 => 1,
-        2 => 2,
-        3 => 6,
-        4 => 24,
-        5 => 120,
-        6 => 720,
-        7 => 5040,
-        8 => 40320,
-        9 => 362880,
-        10 => 3628800,
-        11 => 39916800,
-        _ => 479001600,
+    #[tactic(auto, unfolding(stacks::specs::Turn::first_turn, stacks::specs::Stack::is_coated))]
+    pub fn first_turn(self) -> u8
+        ensures { result ≡ first_turn (number_of self) }
+    {
+        match self {
+            Kind::Plain => 2,
+            Kind::Coated => 1,
+        }
     }
-}
 
-// In how many ways the coats of n panes can lie.
-pub(crate) fn coatings_of(kind: u8, n: u8) -> u32
-    requires { n ≤ stack_places }
-    ensures { result ≡ coatings kind n }
-{
-    let panes = n as u32;
-    if kind == 1 { 1 << panes } else { 1 }
-}
+    // In how many ways the coats of n panes can lie.
+    #[tactic(auto, unfolding(stacks::specs::Stack::coatings, stacks::specs::Stack::is_coated), using(crate::proofs::Sets::shifted))]
+    pub(crate) fn coatings(self, n: u8) -> u32
+        requires { n ≤ stack_places }
+        ensures { result ≡ coatings (number_of self) n }
+    {
+        match self {
+            Kind::Plain => 1,
+            Kind::Coated => 1 << (n as u32),
+        }
+    }
 
-// N, which fits 32 bits at every kind and n.
-pub fn stack_count(kind: u8, n: u8) -> u32
-    requires { is_pane_count kind n ≡ true }
-    ensures { result ≡ stack_count kind n }
-{
-    let panes = n as u32;
-    factorial(panes) * coatings_of(kind, n)
+    // A function of the kind, as `last_turn` of the definitions is.
+    #[tactic(auto, unfolding(stacks::specs::Turn::last_turn))]
+    pub fn last_turn(self, n: u8) -> u8
+        ensures { result ≡ last_turn (number_of self) n }
+    {
+        n
+    }
+
+    #[tactic(auto, unfolding(stacks::specs::Turn::is_turn))]
+    pub fn is_turn(self, n: u8, k: u8) -> bool
+        ensures { result ≡ is_turn (number_of self) n k }
+    {
+        (self.first_turn()..=self.last_turn(n)).contains(&k)
+    }
+
+    // Of any number: all but 1 count as plain, as in the definitions.
+    #[tactic(auto, unfolding(stacks::specs::Stack::is_coated))]
+    pub fn like(kind: u8) -> Kind
+        ensures { is_coated (number_of result) ≡ is_coated kind }
+    {
+        match kind {
+            1 => Kind::Coated,
+            _ => Kind::Plain,
+        }
+    }
 }

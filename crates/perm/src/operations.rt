@@ -1,107 +1,53 @@
 // The open operations on stacks. Each takes any values, and does its work or gives the first refusal in document 01's order.
-ghost use Rattle.std.specs.Prelude.{◌≡◌};
-ghost use Rattle.stacks.specs.Operations.{kind_refusal, index_refusal, stack_refusal, turn_refusal, index_of, stack_of, turned_of};
+ghost use Rattle.std.specs.Prelude.{IfOk, true, ◌≡◌};
+ghost use Rattle.stacks.specs.Refusals.{refusal_of, as_indexed, as_stacked};
+ghost use Rattle.stacks.specs.Operations.{kind_refusal, index_refusal, index_of, stack_of, turned_of};
+ghost use Rattle.stacks.specs.Stack.{is_stack};
+ghost use Rattle.perm.specs.Panes.{kind_of};
 
-use crate::{kind, moves, numbering, valid};
-use stacks::{Indexed, PLACES, Stacked};
+use crate::panes::Panes;
+use stacks::{PLACES, Refusal};
 
-// The number of the first refusal, 0 for none. The kind and n come first in every operation.
-pub fn kind_refusal(kind: u8, n: u8) -> u8
-    ensures { result ≡ kind_refusal kind n 0 }
-{
-    if !kind::is_kind(kind) {
-        return 1;
+impl Panes {
+    // Of a kind's number, n and a stack of them.
+    pub fn with_stack(kind: u8, n: u8, stack: [i8; PLACES]) -> Result<Panes, Refusal>
+        ensures refusal { refusal_of result ≡ index_refusal kind n stack }
+        ensures panes { IfOk result (λ panes. (kind_of panes ≡ kind) × (panes.n ≡ n) × (is_stack kind n stack ≡ true)) }
+    {
+        let panes = Panes::new(kind, n)?;
+        if !panes.is_stack(stack) {
+            return Err(Refusal::Stack);
+        }
+        Ok(panes)
     }
-    if !kind::is_pane_count(kind, n) {
-        return 2;
-    }
-    0
-}
-
-pub fn index_refusal(kind: u8, n: u8, stack: [i8; PLACES]) -> u8
-    ensures { result ≡ index_refusal kind n stack }
-{
-    let refusal = kind_refusal(kind, n);
-    if refusal != 0 {
-        return refusal;
-    }
-    if !valid::is_stack(kind, n, stack) {
-        return 3;
-    }
-    0
-}
-
-fn stack_refusal(kind: u8, n: u8, index: u32) -> u8
-    ensures { result ≡ stack_refusal kind n index }
-{
-    let refusal = kind_refusal(kind, n);
-    if refusal != 0 {
-        return refusal;
-    }
-    if kind::stack_count(kind, n) <= index {
-        return 4;
-    }
-    0
-}
-
-fn turn_refusal(kind: u8, n: u8, stack: [i8; PLACES], k: u8) -> u8
-    ensures { result ≡ turn_refusal kind n stack k }
-{
-    let refusal = index_refusal(kind, n, stack);
-    if refusal != 0 {
-        return refusal;
-    }
-    if !kind::is_turn(kind, n, k) {
-        return 4;
-    }
-    0
 }
 
 // Index of a stack.
-pub fn index_of_stack(kind: u8, n: u8, stack: [i8; PLACES]) -> Indexed
-    ensures { result ≡ index_of kind n stack }
+pub fn index_of_stack(kind: u8, n: u8, stack: [i8; PLACES]) -> Result<u32, Refusal>
+    ensures { as_indexed result ≡ index_of kind n stack }
 {
-    let refusal = index_refusal(kind, n, stack);
-    if refusal != 0 {
-        return Indexed { refusal, index: 0 };
-    }
-    let lookup = ones::table();
-    let index = numbering::rank(kind, n, stack, &lookup);
-    Indexed { refusal: 0, index }
+    let panes = Panes::with_stack(kind, n, stack)?;
+    Ok(panes.rank(stack))
 }
 
 // Stack at an index.
-pub fn stack_at_index(kind: u8, n: u8, index: u32) -> Stacked
-    ensures { result ≡ stack_of kind n index }
+pub fn stack_at_index(kind: u8, n: u8, index: u32) -> Result<[i8; PLACES], Refusal>
+    ensures { as_stacked result ≡ stack_of kind n index }
 {
-    let refusal = stack_refusal(kind, n, index);
-    if refusal != 0 {
-        let none = [0i8; PLACES];
-        return Stacked {
-            refusal,
-            stack: none,
-        };
+    let panes = Panes::new(kind, n)?;
+    if panes.stack_count() <= index {
+        return Err(Refusal::IndexOrTurn);
     }
-    let lookup = ones::table();
-    let stack = numbering::unrank(kind, n, index, &lookup);
-    Stacked { refusal: 0, stack }
+    Ok(panes.unrank(index))
 }
 
 // Turn.
-pub fn turn(kind: u8, n: u8, stack: [i8; PLACES], k: u8) -> Stacked
-    ensures { result ≡ turned_of kind n stack k }
+pub fn turn(kind: u8, n: u8, stack: [i8; PLACES], k: u8) -> Result<[i8; PLACES], Refusal>
+    ensures { as_stacked result ≡ turned_of kind n stack k }
 {
-    let refusal = turn_refusal(kind, n, stack, k);
-    if refusal != 0 {
-        let none = [0i8; PLACES];
-        return Stacked {
-            refusal,
-            stack: none,
-        };
+    let panes = Panes::with_stack(kind, n, stack)?;
+    if !panes.is_turn(k) {
+        return Err(Refusal::IndexOrTurn);
     }
-    let next = moves::moved(kind, n, stack, k);
-    Stacked {
-        refusal: 0,
-        stack: next,
-    }
+    Ok(panes.moved(stack, k))
 }

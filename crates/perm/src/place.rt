@@ -3,32 +3,35 @@ ghost use Rattle.std.specs.Prelude.{◌≡◌, ◌≤◌, nat_abs};
 ghost use Rattle.stacks.specs.Index.{coat, pane_with};
 ghost use Rattle.stacks.specs.Turn.{flip};
 ghost use Rattle.stacks.specs.Stack.{stack_places};
+ghost use Rattle.perm.specs.Kinds.{number_of};
 
-// The pane's number. Widened first, since the magnitude of -128 is no i8.
+use crate::kind::Kind;
+
+// The pane's number.
 pub(crate) fn magnitude(x: i8) -> u32
     ensures { result ≡ nat_abs x }
 {
-    let wide = x as i32;
-    if wide < 0 {
-        (-wide) as u32
-    } else {
-        wide as u32
-    }
+    x.unsigned_abs() as u32
 }
 
-// 1 for coat down.
+// 1 for coat down: by cases, as `coat` of the definitions is.
 pub(crate) fn coat_bit(x: i8) -> u32
     ensures { result ≡ coat x }
 {
     if x < 0 { 1 } else { 0 }
 }
 
-// What a turn does to a pane of its group.
-pub(crate) fn flipped(kind: u8, x: i8) -> i8
-    requires { nat_abs x ≤ stack_places }
-    ensures { result ≡ flip kind x }
-{
-    if kind == 1 { -x } else { x }
+impl Kind {
+    // What a turn does to a pane of its group.
+    pub(crate) fn flipped(self, x: i8) -> i8
+        requires { nat_abs x ≤ stack_places }
+        ensures { result ≡ flip (number_of self) x }
+    {
+        match self {
+            Kind::Plain => x,
+            Kind::Coated => -x,
+        }
+    }
 }
 
 // Pane x, coat down where the bit is 1.

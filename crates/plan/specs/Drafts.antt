@@ -1,16 +1,21 @@
 -- Plans in a local list, as the contract of Plan's core speaks of them.
-use Rattle.std.specs.Prelude.{◌≡◌, List, ℕ, ◌≤◌, ℤ, length, take, replicate}
+use Rattle.std.specs.Prelude.{◌≡◌, List, ℕ, ℤ, Result, MatchResult}
 use Rattle.stacks.specs.Turn.{turns_in}
-use Rattle.search.specs.Plan.{plan_limit, route_from, plan_refusal}
-use Rattle.plan.specs.declared.plan.Draft.{Draft}
+use Rattle.search.specs.Plan.{plan_refusal, route_from}
+use Rattle.stacks.specs.Refusals.{number}
+use Rattle.stacks.specs.declared.refusal.Refusal.{Refusal}
+use Rattle.plan.specs.Questions.{route_refusal, way_of}
+use Rattle.plan.specs.declared.question.Question.{Question}
 
--- what stands beside a refusal
-abbrev pub no_draft : ℕ → Draft
-no_draft r = record { refusal = r; turns = replicate plan_limit 0; taken = 0 }
+-- the turns of the route where nothing refuses them, and else its refusal
+abbrev pub Drafts : Question → Result (List ℕ) Refusal → Type 0
+Drafts q result =
+    MatchResult result (λ turns. (0 ≡ route_refusal q) × (turns ≡ (way_of q).turns)) (λ r. number r ≡ route_refusal q)
 
--- Plan's refusal, for a list of so many slots, and where there is none the turns of the route; never more turns than a plan may have
-pub record Drafts (kind n : ℕ) (wanted given : List ℤ) (groups : ℕ) (table : List ℕ) (slots : ℕ) (draft : Draft) : Type 0 where
-  pub refuses : draft.refusal ≡ plan_refusal kind n wanted given groups table slots 0
-  pub follows : draft.refusal ≡ 0 → take draft.taken draft.turns ≡ (route_from kind n table wanted (turns_in kind n groups) given).turns
-  pub long : length (take draft.taken draft.turns) ≡ draft.taken
-  pub few : draft.taken ≤ plan_limit
+-- the same of what Plan is given, with every refusal of Plan, for a list of so many slots
+abbrev pub DraftsPlan : ℕ → ℕ → List ℤ → List ℤ → ℕ → List ℕ → ℕ → Result (List ℕ) Refusal → Type 0
+DraftsPlan kind n wanted given groups table slots result =
+    let refusal = plan_refusal kind n wanted given groups table slots 0 in
+    MatchResult result
+    (λ turns. (0 ≡ refusal) × (turns ≡ (route_from kind n table wanted (turns_in kind n groups) given).turns))
+    (λ r. number r ≡ refusal)

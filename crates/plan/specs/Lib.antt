@@ -1,3 +1,4 @@
 -- What the helpers of Plan promise.
+pub mod Questions
 pub mod Routes
 pub mod Drafts

@@ -2,5 +2,7 @@
 #![tactic(auto)]
 
 pub mod plan;
+pub mod question;
 pub mod read;
 mod route;
+pub mod turns;

@@ -1,39 +1,32 @@
 // Read an entry.
 ghost use Rattle.std.specs.Prelude.{◌≡◌};
+ghost use Rattle.stacks.specs.Refusals.{refusal_of};
 ghost use Rattle.search.specs.Read.{read_refusal, read_of};
+ghost use Rattle.search.specs.Results.{as_entry};
 
-use perm::{kind, operations};
-use search::Entry;
+use perm::panes::Panes;
+use stacks::Refusal;
 use twobit::{entry, segment};
 
-fn read_refusal(kind: u8, n: u8, bytes: usize, index: u32) -> u8
-    ensures { result ≡ read_refusal kind n bytes index }
+#[tactic(auto, unfolding(stacks::specs::Refusals::number), using(crate::proofs::Refusing::read_rows))]
+fn check_read(kind: u8, n: u8, bytes: usize, index: u32) -> Result<(), Refusal>
+    ensures { refusal_of result ≡ read_refusal kind n bytes index }
 {
-    let refusal = operations::kind_refusal(kind, n);
-    if refusal != 0 {
-        return refusal;
-    }
-    let count = kind::stack_count(kind, n);
-    let long = segment::bytes_for(count) as usize;
-    if bytes != long {
-        return 10;
+    let count = Panes::new(kind, n)?.stack_count();
+    if bytes != segment::bytes_for(count) as usize {
+        return Err(Refusal::Length);
     }
     if count <= index {
-        return 4;
+        return Err(Refusal::IndexOrTurn);
     }
-    0
+    Ok(())
 }
 
 // Read an entry.
-pub fn read_entry(kind: u8, n: u8, table: &[u8], index: u32) -> Entry
-    ensures { result ≡ read_of kind n table.now index }
+#[tactic(auto, unfolding(search::specs::Read::read_of), using(crate::proofs::Refusing::entry_rows))]
+pub fn read_entry(kind: u8, n: u8, table: &[u8], index: u32) -> Result<u8, Refusal>
+    ensures { as_entry result ≡ read_of kind n table.now index }
 {
-    let refusal = read_refusal(kind, n, table.len(), index);
-    if refusal != 0 {
-        return Entry { refusal, entry: 0 };
-    }
-    Entry {
-        refusal: 0,
-        entry: entry::get_entry(table, index),
-    }
+    check_read(kind, n, table.len(), index)?;
+    Ok(entry::get_entry(table, index))
 }

@@ -1,25 +1,19 @@
 // The core of Plan: a route from a stack to a goal over a table, in a local list. No lent list is written here.
-ghost use Rattle.std.specs.Prelude.{true, ◌≡◌, length};
-ghost use Rattle.ones.specs.Ones.{ones_table};
-ghost use Rattle.stacks.specs.Index.{rank_of};
-ghost use Rattle.stacks.specs.Stack.{is_pane_count, is_stack, stack_count};
-ghost use Rattle.stacks.specs.Turn.{turns_in, move_of};
-ghost use Rattle.search.specs.Entries.{bytes_for};
-ghost use Rattle.search.specs.Plan.{entry_of, turn_to, route_from};
-ghost use Rattle.plan.specs.Routes.{route_of, StandsAt, LeadsFrom};
+ghost use Rattle.std.specs.Prelude.{◌≡◌, ◌≤◌, MatchOption};
+ghost use Rattle.plan.specs.Questions.{StandsAt, index_in, moved_in, entry_in, turn_of, way_of};
+ghost use Rattle.plan.specs.Routes.{route_of};
 
-use ones::SETS;
-use perm::{groups, kind, moves, numbering};
+use crate::question::Question;
+use crate::turns::Turns;
 use search::PLAN_LIMIT;
 use stacks::PLACES;
 use twobit::entry;
 
-// A route in the making: the stack that it has come to, its turns so far, and how many.
-#[derive(Clone, Copy)]
+// The stack that a route has come to, and its turns so far.
+#[derive(Drop)]
 pub struct Route {
     pub stack: [i8; PLACES],
-    pub turns: [u8; PLAN_LIMIT],
-    pub taken: usize,
+    pub turns: Turns,
 }
 
 // A step of a route: its turn, and the index of the stack that it leads to.
@@ -29,96 +23,61 @@ pub struct Step {
     pub index: u32,
 }
 
-pub(crate) fn entry_of(
-    kind: u8,
-    n: u8,
-    stack: [i8; PLACES],
-    table: &[u8],
-    lookup: &[u8; SETS],
-) -> u8
-    requires { (is_pane_count kind n ≡ true) × (is_stack kind n stack ≡ true) × (length table.now ≡ bytes_for (stack_count kind n)) × (lookup.now ≡ ones_table) }
-    ensures { result ≡ entry_of kind n table.now stack }
+#[tactic(auto, unfolding(search::specs::Plan::entry_of), using(crate::proofs::Routes::entry_inside))]
+pub(crate) fn entry_of(question: &Question, stack: [i8; PLACES]) -> u8
+    requires { StandsAt question.now stack (index_in question.now stack) }
+    ensures { result ≡ entry_in question.now stack }
 {
-    let index = numbering::rank(kind, n, stack, lookup);
-    entry::get_entry(table, index)
+    let index = question.set.panes.rank(stack);
+    entry::get_entry(question.table, index)
 }
 
-// The largest turn of the set that leads from the stack at an index to a child with entry v; turn 0, which leads to the stack itself, where
-// none does.
-fn turn_to(
-    kind: u8,
-    n: u8,
-    groups: u32,
-    stack: [i8; PLACES],
-    index: u32,
-    v: u8,
-    table: &[u8],
-    lookup: &[u8; SETS],
-) -> Step
-    requires { StandsAt kind n stack index table.now × (lookup.now ≡ ones_table) }
-    ensures { (result.k ≡ turn_to kind n table.now stack v (turns_in kind n groups)) × (result.index ≡ rank_of kind n (move_of kind n result.k stack)) }
+// The largest turn of the set that leads from the stack at an index to a child with entry v, if one does.
+fn turn_to(question: &Question, stack: [i8; PLACES], index: u32, v: u8) -> Option<Step>
+    requires { StandsAt question.now stack index }
+    ensures { MatchOption result (turn_of question.now stack v ≡ 0)
+        (λ step. (1 ≤ step.k) × (step.k ≡ turn_of question.now stack v)
+        × (step.index ≡ index_in question.now (moved_in question.now step.k stack))) }
 {
-    let first = kind::first_turn(kind);
-    let mut k = kind::last_turn(kind, n);
-    while first <= k {
-        if groups::lifts(groups, k) {
-            let child = moves::rank_moved(kind, n, &stack, index, k, lookup);
-            if entry::get_entry(table, child) == v {
-                return Step { k, index: child };
+    let panes = question.set.panes;
+    let first = panes.kind.first_turn();
+    let last = panes.last_turn();
+    for k in (first..=last).rev() {
+        if question.set.lifts(k) {
+            let child = panes.rank_moved(&stack, index, k);
+            if entry::get_entry(question.table, child) == v {
+                return Some(Step { k, index: child });
             }
         }
-        k -= 1;
     }
-    Step { k: 0, index }
+    None
 }
 
 // The route from the given stack by turns of the set: it ends at the wanted stack, at a stack from which none leads one nearer, or after as
 // many turns as a plan may have.
-pub(crate) fn route_from(
-    kind: u8,
-    n: u8,
-    wanted: [i8; PLACES],
-    given: [i8; PLACES],
-    groups: u32,
-    table: &[u8],
-    lookup: &[u8; SETS],
-) -> Route
-    requires { LeadsFrom kind n wanted given groups table.now × (lookup.now ≡ ones_table) }
-    ensures { (route_of result ≡ route_from kind n table.now wanted (turns_in kind n groups) given) × (length (route_of result).turns ≡ result.taken) }
+#[tactic(auto, using(crate::proofs::Routes::entries_read))]
+pub(crate) fn route_from(question: &Question) -> Route
+    ensures { route_of result ≡ way_of question.now }
 {
-    let goal = numbering::rank(kind, n, wanted, lookup);
-    let mut stack = given;
-    let mut index = numbering::rank(kind, n, given, lookup);
-    let mut turns = [0u8; PLAN_LIMIT];
-    let mut taken: usize = 0;
-    while taken < PLAN_LIMIT {
-        let v = entry::get_entry(table, index);
+    let panes = question.set.panes;
+    let goal = panes.rank(question.wanted);
+    let mut stack = question.given;
+    let mut index = panes.rank(stack);
+    let mut turns = Turns::new();
+    for _ in 0..PLAN_LIMIT {
         if index == goal {
-            return Route {
-                stack,
-                turns,
-                taken,
-            };
+            break;
         }
+        let v = entry::get_entry(question.table, index);
         let nearer = entry::next_entry(entry::next_entry(v));
-        let step = turn_to(kind, n, groups, stack, index, nearer, table, lookup);
-        let k = step.k;
-        if k == 0 {
-            return Route {
-                stack,
-                turns,
-                taken,
-            };
-        }
-        let child = moves::moved(kind, n, stack, k);
+        let Some(step) = turn_to(question, stack, index, nearer) else {
+            break;
+        };
+        // By a name of its own: a call's array that is laid in the loop's variable gets no proof.
+        let child = panes.moved(stack, step.k);
         stack = child;
         index = step.index;
-        turns[taken] = k;
-        taken += 1;
+        turns.push(step.k);
     }
-    Route {
-        stack,
-        turns,
-        taken,
-    }
+    Route { stack, turns }
 }

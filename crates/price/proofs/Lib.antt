@@ -1,3 +1,3 @@
 -- What the code of Price is proved with.
-pub mod Scans
+pub mod Chains
 pub mod Answers

@@ -22,7 +22,7 @@ use Rattle.search.specs.Promise.{right_lengths, Continues, FinishedByClose, Buff
 use Rattle.search.specs.Segments.{joined}
 use Rattle.search.specs.Terms.{begin_refusal, terms_of}
 use Rattle.search.specs.declared.Phase.TheVariants.{Level}
-use Rattle.search.specs.declared.Planned.{Planned}
+use Rattle.search.specs.Answers.{Planned}
 use Rattle.search.specs.declared.Terms.{Terms}
 use Rattle.search.specs.declared.Way.{Way}
 use Rattle.search.proofs.AllTurns

@@ -20,7 +20,7 @@ use Rattle.search.specs.PromiseBy.{RoadIn, FewestIn, CountsIn, PlansBy, Finishes
 use Rattle.search.specs.Segments.{segment_count, stack_count_in, joined}
 use Rattle.search.specs.Terms.{begin_refusal, terms_of}
 use Rattle.search.specs.declared.Phase.TheVariants.{Level}
-use Rattle.search.specs.declared.Planned.{Planned}
+use Rattle.search.specs.Answers.{Planned}
 use Rattle.search.specs.declared.Terms.{Terms}
 use Rattle.search.specs.declared.Way.{Way}
 use Rattle.search.proofs.Finishing

@@ -19,13 +19,13 @@ use Rattle.search.specs.Promise.{right_bytes, right_words, right_lengths}
 use Rattle.search.specs.PromiseBy.{RoadIn, FewestIn}
 use Rattle.search.specs.Segments.{segment_count, stack_count_in, joined}
 use Rattle.search.specs.Terms.{begin_refusal, terms_of}
-use Rattle.search.specs.declared.Planned.{Planned}
+use Rattle.search.specs.Answers.{Planned}
 use Rattle.search.specs.declared.Terms.{Terms}
 use Rattle.tariff.specs.Price.{cost_of, price_of}
 use Rattle.tariff.specs.Promise.{PlanFirst, PriceKeeps, PricePlans, Prices, PriceFinished, OnePrice, OnePriceEach, PricedTurns, RoundedOnce, Rearranged, empty, keep, swap, again, AnyOrder, SplitAlike}
 use Rattle.tariff.specs.Tariffs.{tariff_lines, is_line, covers, lines_at, has_line, has_no_second, cover_refusal, tariff_refusal, price_at}
 use Rattle.tariff.specs.declared.Line.{Line}
-use Rattle.tariff.specs.declared.Priced.{Priced}
+use Rattle.tariff.specs.Answers.{Priced}
 use Rattle.tariff.specs.declared.Tariff.{Tariff}
 use Rattle.tariff.proofs.PriceLaws
 use Rattle.tariff.proofs.Rearranging

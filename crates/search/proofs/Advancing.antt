@@ -30,8 +30,8 @@ use Rattle.search.specs.Logs.{log_part, indexes_of, pending}
 use Rattle.search.specs.Marks.{mark_all, marks_from, marked_job}
 use Rattle.search.specs.Sweep.{reached_in, with_pair, sweep_refusal, sweep_of}
 use Rattle.search.specs.Terms.{N, G, m}
-use Rattle.search.specs.declared.Answer.{Answer}
-use Rattle.search.specs.declared.Expanded.{Expanded}
+use Rattle.search.specs.Answers.{Answer}
+use Rattle.search.specs.Answers.{Expanded}
 use Rattle.search.specs.declared.Job.{Job}
 use Rattle.search.specs.declared.Phase.{Phase}
 use Rattle.search.specs.declared.Phase.TheVariants.{Blanking, Level, Finished}

@@ -18,7 +18,7 @@ use Rattle.search.specs.JobState.{count_places, is_blanking, stack_count_of, sta
 use Rattle.search.specs.Promise.{Buffers, start_of, right_bytes, right_words}
 use Rattle.search.specs.Segments.{segment_limit}
 use Rattle.search.specs.Terms.{G, m}
-use Rattle.search.specs.declared.Answer.{Answer}
+use Rattle.search.specs.Answers.{Answer}
 use Rattle.search.specs.declared.Job.{Job}
 use Rattle.search.specs.declared.Terms.{Terms}
 use Rattle.search.proofs.Accepted.{BlankFacts, blank-facts, blank-accepted}

@@ -27,7 +27,7 @@ use Rattle.search.specs.Sweep.{sweep_refusal, is_reached, reached_in, with_pair,
 use Rattle.search.specs.Marks.{every_stack, found_one, Marks, mark_one, mark_all, found_at, with_found, marks_from, marked_job}
 use Rattle.search.specs.Logs.{indexes_of, pending}
 use Rattle.search.specs.Terms.{begin_refusal}
-use Rattle.search.specs.declared.Answer.{Answer}
+use Rattle.search.specs.Answers.{Answer}
 use Rattle.search.specs.declared.Found.{Found}
 use Rattle.search.specs.declared.Job.{Job}
 use Rattle.search.specs.declared.Phase.{Phase}

@@ -28,7 +28,7 @@ use Rattle.search.specs.JobState.{is_coherent, is_level, is_finished, is_reverse
 use Rattle.search.specs.Marks.{every_stack}
 use Rattle.search.specs.Segments.{segment_limit}
 use Rattle.search.specs.Terms.{N, G, m}
-use Rattle.search.specs.declared.Answer.{Answer}
+use Rattle.search.specs.Answers.{Answer}
 use Rattle.search.specs.declared.Job.{Job}
 use Rattle.search.specs.declared.Phase.{Phase}
 use Rattle.search.specs.declared.Phase.TheVariants.{Blanking, Level, Finished}

@@ -23,7 +23,7 @@ use Rattle.search.specs.Load.{changed_of, load_refusal, load_of}
 use Rattle.search.specs.Promise.{right_lengths}
 use Rattle.search.specs.Segments.{segment_count, stack_count_in}
 use Rattle.search.specs.Terms.{N, G, m}
-use Rattle.search.specs.declared.Answer.{Answer}
+use Rattle.search.specs.Answers.{Answer}
 use Rattle.search.specs.declared.Job.{Job}
 use Rattle.search.specs.declared.Phase.{Phase}
 use Rattle.search.specs.declared.Phase.TheVariants.{Blanking, Level, Finished}

@@ -18,7 +18,7 @@ use Rattle.search.specs.JobState.{count_limit, level_of, segment_count_of, stack
 use Rattle.search.specs.Segments.{segment_limit}
 use Rattle.search.specs.Logs.{Logs, log_one, falling_in, lacks_room}
 use Rattle.search.specs.Marks.{Marks, marks_from}
-use Rattle.search.specs.declared.Expanded.{Expanded}
+use Rattle.search.specs.Answers.{Expanded}
 use Rattle.search.specs.declared.Job.{Job}
 use Rattle.search.proofs.Accepted.{expand-facts, expand-accepted, expand-refused}
 use Rattle.search.proofs.CallsCoherent.{set_fits, Budget, mark-budget, start-budget, found-fits}

@@ -18,7 +18,7 @@ use Rattle.search.specs.Marks.{found_at}
 use Rattle.search.specs.JobState.{stack_count_of, segment_count_of, stack_count_at, level_of, passed_of}
 use Rattle.search.specs.Logs.{log_one, falling_in, lacks_room}
 use Rattle.search.specs.Terms.{N, G, m}
-use Rattle.search.specs.declared.Expanded.{Expanded}
+use Rattle.search.specs.Answers.{Expanded}
 use Rattle.search.specs.declared.Terms.{Terms}
 use Rattle.search.proofs.Accepted.{forward-level, expand-facts, expand-accepted}
 use Rattle.search.proofs.Children.{child-listed, listed-child, children-inside}

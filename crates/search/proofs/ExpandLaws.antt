@@ -15,7 +15,7 @@ use Rattle.search.specs.Expand.{Expansion, is_parent, children_of, pass_one, wai
 use Rattle.search.specs.JobState.{level_of, segment_count_of, stack_count_at, moves_of, passed_of, progressed, recounted}
 use Rattle.search.specs.Marks.{marks_from}
 use Rattle.search.specs.Logs.{lacks_room}
-use Rattle.search.specs.declared.Expanded.{Expanded}
+use Rattle.search.specs.Answers.{Expanded}
 use Rattle.search.specs.declared.Job.{Job}
 use Rattle.search.proofs.Accepted.{expand-facts, expand-accepted}
 use Rattle.search.proofs.ExpandCases.{first-before, first_passes, place_at, place-waits, NextCase, stopped, skipped, blocked, expanded, next-case, next-at, next_children, next_wait}

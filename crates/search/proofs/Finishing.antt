@@ -29,7 +29,7 @@ use Rattle.search.specs.Promise.{plan_in, IsStack}
 use Rattle.search.specs.PromiseBy.{RoadIn, FewestIn, RoadTo, FewestTo, NoRoad, EntryBy, Needs, PlansBy, FinishesBy, PlanArrives}
 use Rattle.search.specs.Segments.{joined}
 use Rattle.search.specs.Terms.{N, G}
-use Rattle.search.specs.declared.Planned.{Planned}
+use Rattle.search.specs.Answers.{Planned}
 use Rattle.search.specs.declared.Terms.{Terms}
 use Rattle.search.proofs.Accepted.{names-refusal}
 use Rattle.search.proofs.Fewest.{depth, move-depths, fewest-unique, depth-road, depth-fewest, counts-by}

@@ -21,7 +21,7 @@ use Rattle.search.specs.Logs.{indexes_of}
 use Rattle.search.specs.Marks.{mark_all, marks_from, marked_job}
 use Rattle.search.specs.Sweep.{sweep_refusal, is_changed, is_reached, reached_in, with_pair, sweep_of}
 use Rattle.search.specs.Terms.{N, m}
-use Rattle.search.specs.declared.Answer.{Answer}
+use Rattle.search.specs.Answers.{Answer}
 use Rattle.search.specs.declared.Job.{Job}
 use Rattle.search.proofs.Accepted.{sweep-facts, sweep-accepted, sweep-refused}
 use Rattle.search.proofs.Children.{children-inside}

@@ -16,7 +16,7 @@ use Rattle.search.specs.Expand.{is_parent}
 use Rattle.search.specs.JobState.{level_of, passed_of, swept_of, is_swept, stack_count_at, directed}
 use Rattle.search.specs.Load.{load_refusal, changed_of}
 use Rattle.search.specs.Terms.{N, G, m}
-use Rattle.search.specs.declared.Answer.{Answer}
+use Rattle.search.specs.Answers.{Answer}
 use Rattle.search.specs.declared.Job.{Job}
 use Rattle.search.specs.declared.Terms.{Terms}
 use Rattle.search.proofs.Accepted.{load-facts, load-accepted}

@@ -22,8 +22,8 @@ use Rattle.search.specs.Logs.{indexes_of, log_one, lacks_room, pending}
 use Rattle.search.specs.Refusals.{call_refusal, segment_refusal, level_refusal}
 use Rattle.search.specs.Marks.{mark_one, mark_all, marks_from, marked_job}
 use Rattle.search.specs.PromiseCalls.{AppendsAlike}
-use Rattle.search.specs.declared.Answer.{Answer}
-use Rattle.search.specs.declared.Expanded.{Expanded}
+use Rattle.search.specs.Answers.{Answer}
+use Rattle.search.specs.Answers.{Expanded}
 use Rattle.search.specs.declared.Job.{Job}
 use Rattle.search.proofs.Accepted.{expand-accepted, expand-refused}
 use Rattle.search.proofs.CallsCoherent.{set_fits}

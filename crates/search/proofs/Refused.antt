@@ -32,8 +32,8 @@ use Rattle.search.specs.Refusals.{call_refusal, segment_refusal, level_refusal}
 use Rattle.search.specs.Settle.{settle_refusal, settle_of}
 use Rattle.search.specs.Sweep.{sweep_refusal, sweep_of}
 use Rattle.search.specs.Terms.{begin_refusal}
-use Rattle.search.specs.declared.Answer.{Answer}
-use Rattle.search.specs.declared.Expanded.{Expanded}
+use Rattle.search.specs.Answers.{Answer}
+use Rattle.search.specs.Answers.{Expanded}
 use Rattle.search.specs.declared.Job.{Job}
 use Rattle.search.specs.declared.Terms.{Terms}
 use Rattle.search.proofs.Accepted.{LevelFacts, blank-facts, expand-facts, settle-facts, look-facts, load-facts, sweep-facts, load-refused, load-refusal, sweep-refused, sweep-refusal, blank-refused, blank-refusal, expand-refused, expand-refusal, settle-refused, settle-refusal, close-refused}

@@ -14,7 +14,7 @@ use Rattle.search.specs.Settle.{settle_refusal}
 use Rattle.search.specs.Marks.{Marks, mark_all, found_at, with_found}
 use Rattle.search.specs.Logs.{Logs, log_part, indexes_of, pending}
 use Rattle.search.specs.Terms.{N, G, m}
-use Rattle.search.specs.declared.Answer.{Answer}
+use Rattle.search.specs.Answers.{Answer}
 use Rattle.search.specs.declared.Terms.{Terms}
 use Rattle.search.proofs.Accepted.{forward-level, settle-facts, settle-accepted}
 use Rattle.search.proofs.Invariant.{entry_in}

@@ -25,7 +25,7 @@ use Rattle.search.specs.Logs.{Logs, indexes_of}
 use Rattle.search.specs.Marks.{Marks, mark_all, found_at, marked_job}
 use Rattle.search.specs.Sweep.{is_changed, is_reached, reached_in, with_pair, sweep_refusal}
 use Rattle.search.specs.Terms.{N, G, m}
-use Rattle.search.specs.declared.Answer.{Answer}
+use Rattle.search.specs.Answers.{Answer}
 use Rattle.search.specs.declared.Terms.{Terms}
 use Rattle.search.proofs.Accepted.{reverse-level, sweep-facts, sweep-accepted}
 use Rattle.search.proofs.Children.{child-listed, listed-child}

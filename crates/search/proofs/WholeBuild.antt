@@ -25,7 +25,7 @@ use Rattle.search.specs.PromiseBy.{Needs, FinishesBy, AtEnd, PromiseBy, WholeBui
 use Rattle.search.specs.Segments.{segment_limit}
 use Rattle.search.specs.Settle.{settle_refusal}
 use Rattle.search.specs.Terms.{N}
-use Rattle.search.specs.declared.Answer.{Answer}
+use Rattle.search.specs.Answers.{Answer}
 use Rattle.search.specs.declared.Phase.{Phase}
 use Rattle.search.specs.declared.Phase.TheVariants.{Blanking, Level, Finished}
 use Rattle.search.specs.declared.Job.{Job}

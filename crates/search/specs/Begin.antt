@@ -4,7 +4,7 @@ use Rattle.stacks.specs.Stack.{stack_places}
 use Rattle.search.specs.JobState.{count_places, no_segment}
 use Rattle.search.specs.Segments.{segment_limit}
 use Rattle.search.specs.Terms.{begin_refusal}
-use Rattle.search.specs.declared.Answer.{Answer}
+use Rattle.search.specs.Answers.{Answer}
 use Rattle.search.specs.declared.Job.{Job}
 use Rattle.search.specs.declared.Phase.TheVariants.{Blanking}
 use Rattle.search.specs.declared.Terms.{Terms}

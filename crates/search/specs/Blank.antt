@@ -5,7 +5,7 @@ use Rattle.stacks.specs.Index.{rank_of}
 use Rattle.search.specs.Entries.{blank, set_entry}
 use Rattle.search.specs.JobState.{is_blanking, stack_count_at, passed_of, progressed}
 use Rattle.search.specs.Refusals.{segment_refusal}
-use Rattle.search.specs.declared.Answer.{Answer}
+use Rattle.search.specs.Answers.{Answer}
 use Rattle.search.specs.declared.Job.{Job}
 
 unfoldable pub blank_refusal : Job → ℕ → ℕ → ℕ

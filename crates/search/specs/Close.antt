@@ -3,7 +3,7 @@ use Rattle.std.specs.Prelude.{Bool, not, ◌&&◌, cond, List, ℕ, ◌+◌, ◌
 use Rattle.base.specs.Words.{unless, all, from}
 use Rattle.search.specs.JobState.{is_coherent, is_finished, in_reverse, is_swept, level_of, last_level, no_segment, segment_count_of, stack_count_at, passed_of, waiting_of, count_of, progressed, recounted, directed}
 use Rattle.search.specs.Segments.{segment_limit}
-use Rattle.search.specs.declared.Answer.{Answer}
+use Rattle.search.specs.Answers.{Answer}
 use Rattle.search.specs.declared.Job.{Job}
 use Rattle.search.specs.declared.Phase.{Phase}
 use Rattle.search.specs.declared.Phase.TheVariants.{Blanking, Level, Finished}

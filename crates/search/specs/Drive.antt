@@ -19,7 +19,7 @@ use Rattle.search.specs.Promise.{right_words, right_lengths}
 use Rattle.search.specs.PromiseBy.{Needs, FinishesBy, AtEnd}
 use Rattle.search.specs.Segments.{segment_count, stack_count_in, joined}
 use Rattle.search.specs.Terms.{N, G, m, begin_refusal}
-use Rattle.search.specs.declared.Answer.{Answer}
+use Rattle.search.specs.Answers.{Answer}
 use Rattle.search.specs.declared.Job.{Job}
 use Rattle.search.specs.declared.Terms.{Terms}
 use Rattle.search.specs.declared.Way.{Way}

@@ -9,7 +9,7 @@ use Rattle.search.specs.JobState.{level_of, segment_count_of, stack_count_at, mo
 use Rattle.search.specs.Refusals.{level_refusal}
 use Rattle.search.specs.Logs.{Logs, log_one, lacks_room}
 use Rattle.search.specs.Marks.{Marks, mark_one, marks_from, marked_job}
-use Rattle.search.specs.declared.Expanded.{Expanded}
+use Rattle.search.specs.Answers.{Expanded}
 use Rattle.search.specs.declared.Job.{Job}
 
 pub record Expansion : Type 0 where

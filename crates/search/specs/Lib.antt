@@ -3,6 +3,7 @@ pub mod Entries
 pub mod Segments
 pub mod Terms
 pub mod JobState
+pub mod Answers
 pub mod Marks
 pub mod Logs
 pub mod Begin
@@ -17,6 +18,7 @@ pub mod Sweep
 pub mod Close
 pub mod Read
 pub mod Plan
+pub mod Results
 pub mod Build
 pub mod Promise
 pub mod PromiseBy

@@ -6,7 +6,7 @@ use Rattle.search.specs.Entries.{entry_at}
 use Rattle.search.specs.Expand.{is_parent}
 use Rattle.search.specs.JobState.{in_reverse, level_of, stack_count_at, directed}
 use Rattle.search.specs.Refusals.{segment_refusal}
-use Rattle.search.specs.declared.Answer.{Answer}
+use Rattle.search.specs.Answers.{Answer}
 use Rattle.search.specs.declared.Job.{Job}
 
 -- in a reverse level; 10 for the segment, 10 for the list

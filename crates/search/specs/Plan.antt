@@ -6,7 +6,7 @@ use Rattle.stacks.specs.Stack.{is_stack, stack_count}
 use Rattle.stacks.specs.Turn.{is_group_set, turns_in, move_of}
 use Rattle.stacks.specs.Operations.{kind_refusal}
 use Rattle.search.specs.Entries.{bytes_for, entry_at, unseen, next_entry}
-use Rattle.search.specs.declared.Planned.{Planned}
+use Rattle.search.specs.Answers.{Planned}
 
 -- as many turns as a plan may have, and as the list must hold
 abbrev pub plan_limit : ℕ

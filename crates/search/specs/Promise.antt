@@ -15,7 +15,7 @@ use Rattle.search.specs.Plan.{plan_of, plan_limit}
 use Rattle.search.specs.Segments.{joined}
 use Rattle.search.specs.Terms.{N, G, m, begin_refusal}
 use Rattle.search.specs.declared.Phase.TheVariants.{Level}
-use Rattle.search.specs.declared.Planned.{Planned}
+use Rattle.search.specs.Answers.{Planned}
 use Rattle.search.specs.declared.Terms.{Terms}
 use Rattle.search.specs.declared.Way.{Way}
 

@@ -8,7 +8,7 @@ use Rattle.std.specs.Prelude.{◌≡◌, Bool, true, false, List, [], ℕ, ◌+�
 use Rattle.base.specs.Words.{unless}
 use Rattle.stacks.specs.Operations.{index_of, stack_of, turned_of}
 use Rattle.stacks.specs.Stack.{stack_places}
-use Rattle.stacks.specs.declared.Stacked.{Stacked}
+use Rattle.stacks.specs.Answers.{Stacked}
 use Rattle.search.specs.Begin.{no_job, begin_of}
 use Rattle.search.specs.Blank.{blank_of}
 use Rattle.search.specs.Build.{World, Lengths, Lent, Call, do_blank, do_expand, do_settle, do_look, do_load, do_sweep, do_close, other_list, is_lent_own, outcome, after}
@@ -26,7 +26,7 @@ use Rattle.search.specs.Segments.{segment_limit}
 use Rattle.search.specs.Settle.{settle_of}
 use Rattle.search.specs.Sweep.{sweep_of}
 use Rattle.search.specs.Terms.{begin_refusal}
-use Rattle.search.specs.declared.Answer.{Answer}
+use Rattle.search.specs.Answers.{Answer}
 use Rattle.search.specs.declared.Job.{Job}
 use Rattle.search.specs.declared.Terms.{Terms}
 use Rattle.search.specs.declared.Way.{Way}

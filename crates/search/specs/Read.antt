@@ -4,7 +4,7 @@ use Rattle.base.specs.Words.{unless}
 use Rattle.stacks.specs.Stack.{stack_count}
 use Rattle.stacks.specs.Operations.{kind_refusal}
 use Rattle.search.specs.Entries.{bytes_for, entry_at}
-use Rattle.search.specs.declared.Entry.{Entry}
+use Rattle.search.specs.Answers.{Entry}
 
 -- 1, 2, 10 for the table's length, then 4 for the index
 unfoldable pub read_refusal : ℕ → ℕ → ℕ → ℕ → ℕ

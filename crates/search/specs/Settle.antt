@@ -5,7 +5,7 @@ use Rattle.search.specs.JobState.{level_of, stack_count_at}
 use Rattle.search.specs.Refusals.{level_refusal}
 use Rattle.search.specs.Logs.{indexes_of, pending}
 use Rattle.search.specs.Marks.{mark_all, marks_from, marked_job}
-use Rattle.search.specs.declared.Answer.{Answer}
+use Rattle.search.specs.Answers.{Answer}
 use Rattle.search.specs.declared.Job.{Job}
 
 -- 12 when a waiting offset is m or more

@@ -8,7 +8,7 @@ use Rattle.search.specs.JobState.{in_reverse, is_loaded, is_swept, swept_of, lev
 use Rattle.search.specs.Logs.{indexes_of}
 use Rattle.search.specs.Marks.{mark_all, marks_from, marked_job}
 use Rattle.search.specs.Refusals.{call_refusal}
-use Rattle.search.specs.declared.Answer.{Answer}
+use Rattle.search.specs.Answers.{Answer}
 use Rattle.search.specs.declared.Job.{Job}
 
 -- in a reverse level; 22 where no segment is loaded, 10 for the segment, 10 for the list, 11 where the pair is swept

@@ -1,6 +1,9 @@
-// The job, its phases and what each call answers, as types: no code, only specs/ and proofs/.
+// The job and its phases, and what the definitions of the calls answer, as types: no code but what a phase is asked, only specs/ and proofs/.
 // In each answer, refusal is the refusal's number, and 0 where the call did its work.
 #![tactic(auto)]
+
+ghost use Rattle.std.specs.Prelude.{◌≡◌};
+ghost use Rattle.search.specs.JobState.{is_blanking, is_level, is_finished, is_reverse, in_forward, in_reverse, level_of, phase_fits};
 
 use stacks::PLACES;
 
@@ -8,7 +11,8 @@ use stacks::PLACES;
 // levels take, the most that a count may be, and the turns of a plan.
 pub const SEGMENT_LIMIT: usize = 64;
 
-// No segment has this number: a job holds it where none is loaded.
+// No segment has this number: a job holds it where none is loaded. It is no Option, as the definitions (`no_segment`), the theorems on them and C have
+// the number.
 pub const NO_SEGMENT: u8 = 64;
 
 pub const LEAST_SIZE: u32 = 4;
@@ -28,15 +32,61 @@ pub const COUNT_LIMIT: u64 = 1152921504606846976;
 pub const PLAN_LIMIT: usize = 254;
 
 // A phase carries its own level: the one being searched, or the deepest.
-#[derive(Clone, Copy)]
+#[derive(Clone, Copy, Debug, PartialEq, Eq)]
 pub enum Phase {
     Blanking,
     Level(u8),
     Finished(u8),
 }
 
+impl Phase {
+    #[tactic(auto, unfolding(crate::specs::JobState::is_blanking))]
+    pub fn is_blanking(self) -> bool
+        ensures { result ≡ is_blanking self }
+    {
+        matches!(self, Phase::Blanking)
+    }
+
+    #[tactic(auto, unfolding(crate::specs::JobState::is_level))]
+    pub fn is_level(self) -> bool
+        ensures { result ≡ is_level self }
+    {
+        matches!(self, Phase::Level(_))
+    }
+
+    #[tactic(auto, unfolding(crate::specs::JobState::is_finished))]
+    pub fn is_finished(self) -> bool
+        ensures { result ≡ is_finished self }
+    {
+        matches!(self, Phase::Finished(_))
+    }
+
+    // The level that it carries, 0 in Blanking.
+    #[tactic(auto, unfolding(crate::specs::JobState::level_of))]
+    pub fn level(self) -> u8
+        ensures { result ≡ level_of self }
+    {
+        match self {
+            Phase::Blanking => 0,
+            Phase::Level(d) | Phase::Finished(d) => d,
+        }
+    }
+
+    // Whether a job may be in it.
+    #[tactic(auto, unfolding(crate::specs::JobState::phase_fits))]
+    pub fn fits(self) -> bool
+        ensures { result ≡ phase_fits self }
+    {
+        match self {
+            Phase::Blanking => true,
+            Phase::Level(d) => 1 <= d && d <= LAST_LEVEL,
+            Phase::Finished(d) => d < LAST_LEVEL,
+        }
+    }
+}
+
 // The way that a level is searched: from the stacks of the level before (forward, top-down), or from the unseen ones (reverse, bottom-up).
-#[derive(Clone, Copy)]
+#[derive(Clone, Copy, Debug, PartialEq, Eq)]
 pub enum Way {
     Forward,
     Reverse,
@@ -71,39 +121,26 @@ pub struct Job {
     pub counts: [u64; COUNT_PLACES],
 }
 
+impl Job {
+    // A level that is searched forward.
+    #[tactic(auto, unfolding(crate::specs::JobState::in_forward, crate::specs::JobState::is_reverse))]
+    pub fn in_forward(&self) -> bool
+        ensures { result ≡ in_forward self.now }
+    {
+        self.phase.is_level() && self.way == Way::Forward
+    }
+
+    // A level that is searched reverse.
+    #[tactic(auto, unfolding(crate::specs::JobState::in_reverse, crate::specs::JobState::is_reverse))]
+    pub fn in_reverse(&self) -> bool
+        ensures { result ≡ in_reverse self.now }
+    {
+        self.phase.is_level() && self.way == Way::Reverse
+    }
+}
+
 // What a level has found so far: how many stacks.
 #[derive(Clone, Copy)]
 pub struct Found {
     pub count: u64,
-}
-
-// What Begin, Blank, Settle, Load, Sweep and Close answer: the job after the call. Refused, the job as it was; of Begin, a job of zeros
-// but for loaded, which is NO_SEGMENT. The job stands first: behind padding it would be copied once more.
-#[derive(Clone, Copy)]
-pub struct Answer {
-    pub job: Job,
-    pub refusal: u8,
-}
-
-// What Expand answers: Passed where waits is false, else Waiting with segment on. Beside a refusal stand false and 0.
-#[derive(Clone, Copy)]
-pub struct Expanded {
-    pub job: Job,
-    pub refusal: u8,
-    pub waits: bool,
-    pub on: u32,
-}
-
-// What Read an entry answers: 0 stands beside a refusal.
-#[derive(Clone, Copy)]
-pub struct Entry {
-    pub refusal: u8,
-    pub entry: u8,
-}
-
-// What Plan answers: how many turns stand at the front of the list, 0 beside a refusal.
-#[derive(Clone, Copy)]
-pub struct Planned {
-    pub refusal: u8,
-    pub turns: u32,
 }

@@ -7,43 +7,40 @@ use crate::lent;
 use frames::{frame, output};
 use search::PLAN_LIMIT;
 use stacks::PLACES;
-use text::{Line, TEXT_LIMIT};
+use text::{Reader, TEXT_LIMIT};
 
 // The plan of a stack, or Plan's refusal.
 fn plan_text(
-    kind: u8,
-    n: u8,
-    wanted: [i8; PLACES],
+    reader: &Reader,
     table: &[u8],
     given: [i8; PLACES],
     out: &mut [u8; TEXT_LIMIT],
 ) -> usize
-    ensures { Wrote (plan_text kind n wanted table.now given) out.old out.new result }
+    ensures { Wrote (plan_text reader.now.kind reader.now.n reader.now.wanted table.now given) out.old out.new result }
 {
-    let groups = lent::report_groups(kind, n);
-    let mut turns = [0u8; PLAN_LIMIT];
-    let planned = plan::plan::plan(kind, n, wanted, given, groups, table, &mut turns);
-    if planned.refusal != 0 {
-        return output::write_refusal(out, planned.refusal);
+    let groups = lent::report_groups(reader.kind, reader.n);
+    let mut turns = [0; PLAN_LIMIT];
+    let planned = plan::plan::plan(
+        reader.kind,
+        reader.n,
+        reader.wanted,
+        given,
+        groups,
+        table,
+        &mut turns,
+    );
+    match planned {
+        Ok(count) => output::write_plan(out, &turns, count),
+        Err(refusal) => output::write_refusal(out, refusal),
     }
-    output::write_plan(out, turns, planned.turns)
 }
 
 // The frame's refusal, or the plan of its stack.
-pub(crate) fn later_text(
-    kind: u8,
-    n: u8,
-    wanted: [i8; PLACES],
-    table: &[u8],
-    line: Line,
-    out: &mut [u8; TEXT_LIMIT],
-) -> usize
-    ensures { Wrote (later_text kind n wanted table.now (text_of line)) out.old out.new result }
+pub(crate) fn later_text(reader: &Reader, table: &[u8], out: &mut [u8; TEXT_LIMIT]) -> usize
+    ensures { Wrote (later_text reader.now.kind reader.now.n reader.now.wanted table.now (text_of reader.now.line)) out.old out.new result }
 {
-    let later = frame::later_frame(kind, n, line);
-    if later.refusal != 0 {
-        return output::write_refusal(out, later.refusal);
+    match frame::later_frame(reader.kind, reader.n, &reader.line) {
+        Ok(given) => plan_text(reader, table, given, out),
+        Err(refusal) => output::write_refusal(out, refusal),
     }
-    let given = later.stack;
-    plan_text(kind, n, wanted, table, given, out)
 }

@@ -1,6 +1,7 @@
 -- Laws of stacks, turns, moves and the numbering.
 pub mod KindLaws
 pub mod Refusals
+pub mod Numbers
 pub mod Panes
 pub mod OrderLaws
 pub mod CoatLaws
@@ -10,3 +11,4 @@ pub mod MoveLaws
 pub mod GroupLaws
 pub mod Roads
 pub mod TurnBound
+pub mod Lists

@@ -4,4 +4,6 @@ pub mod Index
 pub mod Order
 pub mod Turn
 pub mod Counts
+pub mod Answers
 pub mod Operations
+pub mod Refusals

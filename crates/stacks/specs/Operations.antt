@@ -4,8 +4,8 @@ use Rattle.base.specs.Words.{unless}
 use Rattle.stacks.specs.Stack.{stack_places, is_kind, is_pane_count, is_stack, stack_count}
 use Rattle.stacks.specs.Index.{rank_of, stack_at}
 use Rattle.stacks.specs.Turn.{is_turn, move_of}
-use Rattle.stacks.specs.declared.Indexed.{Indexed}
-use Rattle.stacks.specs.declared.Stacked.{Stacked}
+use Rattle.stacks.specs.Answers.{Indexed}
+use Rattle.stacks.specs.Answers.{Stacked}
 
 -- refusals 1 and 2, which every operation on a kind and n tries first, and then the rest
 unfoldable pub kind_refusal : ℕ → ℕ → ℕ → ℕ

@@ -20,10 +20,11 @@ use Rattle.search.specs.declared.Terms.{Terms}
 use Rattle.search.proofs.EntryLaws.{byte_inside}
 use Rattle.search.proofs.MarkLaws.{mark-seen, mark-length, marks-append}
 use Rattle.search.proofs.SegmentLaws.{segment-stack, segment-stack-mod}
+use Rattle.perm.specs.Panes.{kind_of}
 use Rattle.twobit.specs.Mark.{AtMost, MarkFits, MarksStack, marks_of}
 use Rattle.twobit.proofs.LeafMarks.{at_most, mark-at-most}
 use Rattle.sweep.specs.Reach.{ReachFits, RunFits, pair_terms, reached_by, reached_to, Sweeps}
-use Rattle.sweep.specs.declared.run.Pair.{Pair}
+use Rattle.sweep.specs.declared.reach.Pair.{Pair}
 
 -- ---- the marks after no stack, and after one more
 
@@ -36,13 +37,13 @@ module _ (pair : Pair) (list : List ℕ) (at : ℕ) (before marks : Marks) where
   v = pair.j * pair.size + at
 
   abbrev is_reached : Bool
-  is_reached = reached_by pair.kind pair.n pair.groups pair.size pair.b list v
+  is_reached = reached_by pair list v
 
   -- that stack is among the reached, or it is not
   reached-more : reached_to pair list (at + 1) ≡ reached_to pair list at ++ cond is_reached (at ∷ []) []
   unfolding filter
   reached-more =
-      let p : ℕ → Bool = λ i. reached_by pair.kind pair.n pair.groups pair.size pair.b list (pair.j * pair.size + i) in
+      let p : ℕ → Bool = λ i. reached_by pair list (pair.j * pair.size + i) in
       ap (λ (m : ℕ). filter p (from 0 m)) (add-one at)
       ∙ ap (filter p) (from_more 0 at ∙ ap (λ (i : ℕ). from 0 at ++ (i ∷ [])) (let e : 0 + at ≡ at = omega arith in e))
       ∙ filter-append p (from 0 at) (at ∷ [])
@@ -95,7 +96,7 @@ module _ {pair : Pair} {stacks : ℕ} {segment : List ℕ} {found : Found} {list
 
   -- the index of the segment's first stack
   pub base-fits : pair.j * pair.size < 2 ^ 32
-  base-fits = omega (arith, given.starts, count_fits pair.kind pair.n given.is_pane_count)
+  base-fits = omega (arith, given.starts, count_fits (kind_of pair.set.panes) pair.set.panes.n pair.set.panes.in_range)
 
 module _ {pair : Pair} {stacks : ℕ} {segment₀ : List ℕ} {found₀ : Found} {list segment : List ℕ} {found : Found} {at : ℕ}
     (r : SweptTo pair stacks segment₀ found₀ list segment found at) where
@@ -107,26 +108,24 @@ module _ {pair : Pair} {stacks : ℕ} {segment₀ : List ℕ} {found₀ : Found}
 
   -- a stack that is left
   module _ (more : at < stacks) where
-    own : at < stack_count_in (stack_count pair.kind pair.n) pair.size pair.j
+    own : at < stack_count_in (stack_count (kind_of pair.set.panes) pair.set.panes.n) pair.size pair.j
     own = omega (arith, r.given.all)
 
-    stack-below : pair.j * pair.size + at < stack_count pair.kind pair.n
-    stack-below = segment-stack (stack_count pair.kind pair.n) pair.size r.given.some pair.j at own
+    stack-below : pair.j * pair.size + at < stack_count (kind_of pair.set.panes) pair.set.panes.n
+    stack-below = segment-stack (stack_count (kind_of pair.set.panes) pair.set.panes.n) pair.size r.given.some pair.j at own
 
     pub stack-fits : pair.j * pair.size + at < 2 ^ 32
-    stack-fits = omega (arith, stack-below, count_fits pair.kind pair.n r.given.is_pane_count)
+    stack-fits = omega (arith, stack-below, count_fits (kind_of pair.set.panes) pair.set.panes.n pair.set.panes.in_range)
 
     stack-own : (pair.j * pair.size + at) % pair.size ≡ at
-    stack-own = segment-stack-mod (stack_count pair.kind pair.n) pair.size r.given.some pair.j at own
+    stack-own = segment-stack-mod (stack_count (kind_of pair.set.panes) pair.set.panes.n) pair.size r.given.some pair.j at own
 
     pub stack-byte : at / 4 < length segment
     stack-byte = rw (r.long, r.given.bytes) (byte_inside at stacks more)
 
-    pub reach-fits : ReachFits pair.kind pair.n pair.groups pair.size pair.b list (pair.j * pair.size + at)
+    pub reach-fits : ReachFits pair list (pair.j * pair.size + at)
     reach-fits =
         record {
-          is_pane_count = r.given.is_pane_count;
-          set_fits = r.given.set_fits;
           some = r.given.some;
           listed = r.given.listed;
           below = stack-below;
@@ -146,7 +145,7 @@ module _ {pair : Pair} {stacks : ℕ} {segment₀ : List ℕ} {found₀ : Found}
     pub swept-seen : (entry_at segment at ≡ 3 → ⊥) → SweptTo pair stacks segment₀ found₀ list segment found (at + 1)
     swept-seen seen = left (sweeps-seen pair list at (marks_of segment₀ found₀) (marks_of segment found) r.swept stack-own seen)
 
-    module _ {reached : Bool} (is : reached ≡ reached_by pair.kind pair.n pair.groups pair.size pair.b list (pair.j * pair.size + at)) where
+    module _ {reached : Bool} (is : reached ≡ reached_by pair list (pair.j * pair.size + at)) where
       pub swept-unreached : reached ≡ false → SweptTo pair stacks segment₀ found₀ list segment found (at + 1)
       swept-unreached t = left (sweeps-unreached pair list at (marks_of segment₀ found₀) (marks_of segment found) r.swept (sym is ∙ t))
 

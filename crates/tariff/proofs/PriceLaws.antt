@@ -20,7 +20,7 @@ use Rattle.search.specs.Build.{World, after}
 use Rattle.search.specs.Promise.{plan_in, IsStack, start_of}
 use Rattle.search.specs.PromiseBy.{RoadIn, RoadTo, FewestTo, NoRoad, FinishesBy, WholeBuildBy}
 use Rattle.search.specs.Segments.{joined}
-use Rattle.search.specs.declared.Planned.{Planned}
+use Rattle.search.specs.Answers.{Planned}
 use Rattle.search.specs.declared.Terms.{Terms}
 use Rattle.search.proofs.Accepted.{names-refusal}
 use Rattle.search.proofs.Finishing.{plan-accepted, plan-refused, plan-refusal-is}
@@ -31,7 +31,7 @@ use Rattle.search.proofs.WholeBuild.{whole-build-by}
 use Rattle.tariff.specs.Price.{cost_of, price_refusal, price_of}
 use Rattle.tariff.specs.Promise.{PlanFirst, PriceKeeps, unpriced, PricePlans, price_in, Prices, PriceFinished, OnePriceEach, PricedTurns, PricedAlike}
 use Rattle.tariff.specs.Tariffs.{tariff_lines, tariff_refusal, price_at}
-use Rattle.tariff.specs.declared.Priced.{Priced}
+use Rattle.tariff.specs.Answers.{Priced}
 use Rattle.tariff.specs.declared.Tariff.{Tariff}
 use Rattle.tariff.proofs.TariffLaws.{one-price-each}
 

@@ -5,7 +5,7 @@ use Rattle.stacks.specs.Turn.{last_turn}
 use Rattle.search.specs.Plan.{plan_refusal, plan_of}
 use Rattle.tariff.specs.Rounding.{rounded}
 use Rattle.tariff.specs.Tariffs.{tariff_lines, tariff_refusal, price_at}
-use Rattle.tariff.specs.declared.Priced.{Priced}
+use Rattle.tariff.specs.Answers.{Priced}
 use Rattle.tariff.specs.declared.Tariff.{Tariff}
 
 -- what some turns cost, by the price of each size: the sum, in thousandths of a penny, rounded once

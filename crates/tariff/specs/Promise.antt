@@ -19,12 +19,12 @@ use Rattle.search.specs.PromiseBy.{RoadTo, FewestTo, NoRoad}
 use Rattle.search.specs.PromiseCalls.{StandsAlone}
 use Rattle.search.specs.Segments.{joined}
 use Rattle.search.specs.Terms.{begin_refusal}
-use Rattle.search.specs.declared.Planned.{Planned}
+use Rattle.search.specs.Answers.{Planned}
 use Rattle.search.specs.declared.Terms.{Terms}
 use Rattle.tariff.specs.Price.{cost_of, price_of}
 use Rattle.tariff.specs.Tariffs.{line_limit, tariff_line, tariff_lines, covers, lines_at, tariff_refusal, price_at}
 use Rattle.tariff.specs.declared.Line.{Line}
-use Rattle.tariff.specs.declared.Priced.{Priced}
+use Rattle.tariff.specs.Answers.{Priced}
 use Rattle.tariff.specs.declared.Tariff.{Tariff}
 
 -- ---- the plan is Plan's

@@ -7,9 +7,9 @@ use lib.Dec.{eqb}
 use lib.IntN.{ℤ}
 use lib.ListN.{take, replicate}
 use borrow.Author.Tests.{eq-eqb, ne_eqb}
-use Rattle.stacks.specs.declared.Stacked.{Stacked}
+use Rattle.stacks.specs.Answers.{Stacked}
 use Rattle.search.specs.Plan.{plan_of, plan_limit}
-use Rattle.search.specs.declared.Planned.{Planned}
+use Rattle.search.specs.Answers.{Planned}
 use Rattle.text.specs.Frame.{later_of}
 use Rattle.text.specs.Output.{plan_line, refusal_line}
 use Rattle.text.specs.Written.{Wrote}

@@ -1,5 +1,5 @@
 -- Laws of hexadecimal text: digits and their characters, bytes and their pairs, each way.
-use mathlib.Core.Path.{◌≡◌, refl, ap, ap₂, ◌∙◌}
+use mathlib.Core.Path.{◌≡◌, refl, ap₂, ◌∙◌}
 use mathlib.Core.Logic.{◌⊎◌, inl, inr}
 use mathlib.Core.Bool.{Bool, true, false, ◌&&◌, ◌||◌}
 use mathlib.Core.List.{List, [], ◌∷◌}
@@ -14,7 +14,6 @@ use lib.ListN.{length, get_or, take, drop}
 use borrow.Author.Tests.{lt-ltb, le-ltb, le-leb, lt-leb, leb-true, ltb-true}
 use Rattle.base.specs.Words.{all}
 use Rattle.base.proofs.Tests.{lt-or-ge, and_left, and_right, test-cases}
-use Rattle.text.specs.Frame.{frame_limit, frame_bytes}
 use Rattle.text.specs.Hex.{is_digit, digit_of, digit_char, is_byte, bytes_of, hex_of, line_of, number_from, number_of, four_bytes}
 
 -- ---- digits
@@ -77,7 +76,7 @@ digit_lt c = go (test-cases (is_digit c)) (lt-or-ge 57 c)
 
 -- ---- bytes of pairs
 
-bytes-length : (cs : List ℕ) → length (bytes_of cs) ≡ length cs / 2
+pub bytes-length : (cs : List ℕ) → length (bytes_of cs) ≡ length cs / 2
 unfolding bytes_of
 bytes-length [] = refl
 bytes-length (a ∷ []) = refl
@@ -94,20 +93,6 @@ bytes-at (a ∷ b ∷ cs) (suc i) h =
     ∙ ap₂ (λ (j k : ℕ). digit_of (get_or (a ∷ b ∷ cs) j 0) * 16 + digit_of (get_or (a ∷ b ∷ cs) k 0))
     (let e : suc (suc (2 * i)) ≡ 2 * suc i = omega arith in e)
     (let e : suc (suc (2 * i + 1)) ≡ 2 * suc i + 1 = omega arith in e)
-
--- the bytes of the first pairs are the first bytes
-pub bytes_take : (k : ℕ) (cs : List ℕ) → bytes_of (take (2 * k) cs) ≡ take k (bytes_of cs)
-unfolding bytes_of
-bytes_take zero cs = refl
-bytes_take (suc k) [] = rw (let e : 2 * suc k ≡ suc (suc (2 * k)) = omega arith in e)
-bytes_take (suc k) (a ∷ []) = rw (let e : 2 * suc k ≡ suc (suc (2 * k)) = omega arith in e)
-bytes_take (suc k) (a ∷ b ∷ cs) =
-    rw (let e : 2 * suc k ≡ suc (suc (2 * k)) = omega arith in e)
-    (ap (λ (l : List ℕ). (digit_of a * 16 + digit_of b) ∷ l) (bytes_take k cs))
-
--- the bytes of the longest frame
-pub chars-bytes : (chars : List ℕ) → length chars ≡ frame_limit → length (bytes_of chars) ≡ frame_bytes
-chars-bytes chars w = bytes-length chars ∙ ap (λ (k : ℕ). k / 2) w
 
 -- ---- numbers of four bytes
 

@@ -1,5 +1,5 @@
 -- How much of the table, the log area and the changed list is used, and that there is as much.
-use mathlib.Core.Path.{◌≡◌, sym, ap, ap₂, ◌∙◌}
+use mathlib.Core.Path.{◌≡◌, refl, sym, ap, ap₂, ◌∙◌}
 use mathlib.Core.Bool.{true, false, cond}
 use mathlib.Core.List.{List, ◌++◌}
 use Prim.Native.Nat.{ℕ, ◌*◌, ◌≤◌}
@@ -17,7 +17,7 @@ use Rattle.search.specs.Drive.{build_of}
 use Rattle.search.specs.Terms.{terms_of}
 use Rattle.search.specs.Entries.{bytes_for}
 use Rattle.search.specs.Segments.{segment_count, stack_count_in, is_segment_size}
-use Rattle.search.specs.declared.Answer.{Answer}
+use Rattle.search.specs.Answers.{Answer}
 use Rattle.search.proofs.SegmentLaws.{segment-size-facts}
 use Rattle.text.specs.Frame.{stack_limit, table_limit, report_room}
 use Rattle.text.specs.Report.{is_reported, report_groups, table_bytes, log_words, changed_bytes, built_in}
@@ -86,20 +86,34 @@ changed-some kind n S bytes h e =
 
 -- ---- what is lent of what there is
 
--- a build in the parts that are lent leaves what the definition says
+-- what the build of a first frame leaves in a table, and its answer, with nothing in the log area and the list
+unfoldable pub built_answer : ℕ → ℕ → List ℤ → ℕ → List ℕ → List ℕ × Answer
+built_answer kind n wanted S table =
+    let bytes = table_bytes kind n in
+    let log : List ℕ = replicate (log_words kind n S) 0 in
+    let list : List ℕ = replicate (changed_bytes kind n S) 0 in
+    let end = build_of (terms_of kind n wanted (report_groups kind n) S report_room) (take bytes table) log list in
+    (end.0 ++ drop bytes table, end.3)
+
+pub answer-is : (kind n : ℕ) (wanted : List ℤ) (S : ℕ) (table : List ℕ)
+    → (let x = built_answer kind n wanted S table in (x.0, x.1.job)) ≡ built_in kind n wanted S table
+unfolding built_answer built_in
+answer-is kind n wanted S table = refl
+
+-- a build in the parts that are lent leaves the same
 pub built-is : (kind n : ℕ) (wanted : List ℤ) (S : ℕ) (table part log list : List ℕ) (answer : Answer) (groups bytes words listed : ℕ)
     → groups ≡ report_groups kind n → bytes ≡ table_bytes kind n → words ≡ log_words kind n S → words ≤ log_limit
     → listed ≡ changed_bytes kind n S → listed ≤ list_limit
     → (part, log, list, answer)
     ≡ build_of (terms_of kind n wanted groups S report_room) (take bytes table) (take words (replicate log_limit 0)) (take listed (replicate list_limit 0))
-    → (part ++ drop bytes table, answer.job) ≡ built_in kind n wanted S table
-unfolding built_in
+    → (part ++ drop bytes table, answer) ≡ built_answer kind n wanted S table
+unfolding built_answer
 built-is kind n wanted S table part log list answer groups bytes words listed g b w l c m h =
     let build_by : ℕ → List ℕ → List ℕ → List ℕ → List ℕ × List ℕ × List ℕ × Answer = λ x. build_of (terms_of kind n wanted x S report_room) in
     let front : List ℕ = take bytes table in
     let logs : List ℕ = take words (replicate log_limit 0) in
     let lists : List ℕ = take listed (replicate list_limit 0) in
-    ap₂ (λ (x : List ℕ × List ℕ × List ℕ × Answer) (rest : List ℕ). (x.0 ++ rest, x.3.job))
+    ap₂ (λ (x : List ℕ × List ℕ × List ℕ × Answer) (rest : List ℕ). (x.0 ++ rest, x.3))
     (h
     ∙ ap (λ (x : ℕ). build_by x front logs lists) g
     ∙ ap₂ (λ (t w' : List ℕ). build_by (report_groups kind n) t w' lists) (ap (λ (j : ℕ). take j table) b)

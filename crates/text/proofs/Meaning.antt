@@ -33,9 +33,9 @@ use Rattle.search.specs.Promise.{right_words, Plans, Finishes}
 use Rattle.search.specs.PromiseBy.{PlanArrives}
 use Rattle.search.specs.Segments.{segment_count, stack_count_in, is_log_room, joined}
 use Rattle.search.specs.Terms.{terms_of}
-use Rattle.search.specs.declared.Answer.{Answer}
+use Rattle.search.specs.Answers.{Answer}
 use Rattle.search.specs.declared.Job.{Job}
-use Rattle.search.specs.declared.Planned.{Planned}
+use Rattle.search.specs.Answers.{Planned}
 use Rattle.search.specs.declared.Terms.{Terms}
 use Rattle.search.proofs.AllStacks.{all-stacks-length, all-stacks-each}
 use Rattle.search.proofs.Coherence.{given-begin}
@@ -43,7 +43,7 @@ use Rattle.search.proofs.Given.{Given}
 use Rattle.search.proofs.Finishing.{plan-arrives}
 use Rattle.search.proofs.WholeTable.{build_ends, build-finishes}
 use Rattle.search.proofs.AllTurns.{few-turns}
-use Rattle.text.specs.Frame.{stack_limit, table_limit, report_room, places_of, kind_in, panes_in, wanted_in, size_in, first_with, first_refusal, first_of, later_refusal, later_of}
+use Rattle.text.specs.Frame.{First, as_first, stack_limit, table_limit, report_room, places_of, kind_in, panes_in, wanted_in, size_in, first_with, first_refusal, first_of, later_refusal, later_of}
 use Rattle.text.specs.Hex.{is_byte, bytes_of, line_of, four_bytes}
 use Rattle.text.specs.Output.{level_line, line_at, level_counts, level_lines, deepest_line, total_line, plan_line, refusal_line}
 use Rattle.text.proofs.FrameRefusals.{FirstPasses, first_passes, later-facts}
@@ -51,7 +51,9 @@ use Rattle.text.proofs.HexLaws.{number-four, line-says}
 use Rattle.text.specs.Report.{is_reported, report_groups, table_bytes, log_words, changed_bytes, built_in, printed_total, head_text, plan_text, later_texts, report_from, report_of}
 use Rattle.text.specs.Promise.{Answers, Reports}
 use Rattle.text.proofs.Writing.{levels-same}
-use Rattle.text.proofs.LentLaws.{groups-some, table-some, log-some, changed-some}
+use Rattle.text.specs.declared.FirstFrame.{FirstFrame}
+use Rattle.std.specs.Prelude.{Ok}
+use Rattle.text.proofs.LentLaws.{built_answer, groups-some, table-some, log-some, changed-some}
 use Rattle.text.proofs.AnswerLaws.{plan-accepted, later-accepted, later-refused}
 
 -- as many turns are answered as stand at the front of the list
@@ -335,6 +337,19 @@ module _ (cs table : List ℕ) (h : first_refusal cs ≡ 0) (long : length table
         refused = λ ds ne. sym (later-refused kind n wanted (joined end.segments) ds (later_of kind n ds) refl ne);
         planned = λ ds z. later-means end terms ds given.in-range (sym (groups-some kind n reported)) finishes z;
       })
+
+-- its build is not refused
+pub build-accepts : (f : FirstFrame) (cs table : List ℕ) → as_first (Ok f) ≡ first_of cs → length table ≡ table_limit
+    → (built_answer f.kind f.n f.wanted f.size table).1.refusal ≡ 0
+unfolding first_of built_answer
+build-accepts f cs table e long =
+    let h : first_refusal cs ≡ 0 = sym (ap (λ (x : First). x.refusal) e) in
+    let same : as_first (Ok f) ≡ first_with 0 (bytes_of cs) = e ∙ ap (λ (r : ℕ). first_with r (bytes_of cs)) h in
+    ap (λ (x : First). (built_answer x.kind x.n x.wanted x.size table).1.refusal) same
+    ∙ ap (λ (g : ℕ). (build_of (terms_of (kind cs table h long) (n cs table h long) (wanted cs table h long) g (S cs table h long) report_room)
+    (part cs table h long) (log cs table h long) (list cs table h long)).3.refusal)
+    (groups-some (kind cs table h long) (n cs table h long) (reported cs table h long))
+    ∙ ap (λ (x : List ℕ × List ℕ × List ℕ × Answer). x.3.refusal) (builds cs table h long).leaves
 
 -- The report of an accepted first frame: its counts are the numbers of stacks at each distance, its total is their sum and the number of
 -- entries other than 3 in the table that its build leaves, and its plans are shortest.

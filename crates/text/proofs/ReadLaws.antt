@@ -8,11 +8,10 @@ use native.Mathlib.Omega.{arith}
 use lib.ListN.{length, get_or, take, drop, drop_of_length-le}
 use lib.Seq.{drop-cons}
 use borrow.Author.Tests.{eq-eqb, ne_eqb, lt-ltb, le-ltb}
-use Rattle.text.specs.Frame.{first_of}
+use Rattle.text.specs.Frame.{First, first_of}
 use Rattle.text.specs.Kept.{new_line, pushed, text_of}
 use Rattle.text.specs.Output.{refusal_line}
 use Rattle.text.specs.Written.{over, Wrote}
-use Rattle.text.specs.declared.First.{First}
 use Rattle.text.specs.declared.Line.{Line}
 use Rattle.text.proofs.Writing.{wrote}
 use Rattle.search.specs.declared.Job.{Job}

@@ -12,12 +12,11 @@ use borrow.Author.Tests.{eq-eqb, ne_eqb}
 use Rattle.base.proofs.Tests.{eq-or-ne, test-cases, never}
 use Rattle.search.specs.declared.Job.{Job}
 use Rattle.base.specs.Words.{all}
-use Rattle.text.specs.Frame.{is_frame, bytes_refusal, first_refusal, first_of}
+use Rattle.text.specs.Frame.{First, is_frame, bytes_refusal, first_refusal, first_of}
 use Rattle.text.specs.Hex.{is_pairs, bytes_of}
 use Rattle.text.specs.Kept.{new_line, pushed, text_of}
 use Rattle.text.specs.Lines.{in_first, lines_of}
 use Rattle.text.specs.Output.{refusal_line}
-use Rattle.text.specs.declared.First.{First}
 use Rattle.text.specs.declared.Line.{Line}
 use Rattle.text.proofs.Feeding.{reading, stepped, fed, ended, handled, read-lines}
 use Rattle.text.proofs.LineLaws.{pushed_all, kept_of}

@@ -73,10 +73,10 @@ module _ (out : List ℕ) (at : ℕ) (bytes : List ℕ) (i : ℕ) (h : i < lengt
 
 -- all the bytes are written
 pub put-end : (out : List ℕ) (at : ℕ) (bytes : List ℕ) (i : ℕ) (now : List ℕ) → i ≡ length bytes → now ≡ put_to out at bytes i
-    → Put (hex_of bytes) at out now (at + 2 * i)
+    → Put (hex_of bytes) at out now (at + 2 * length bytes)
 unfolding put_to
 put-end out at bytes i now h e =
-    record { front = e ∙ rw (h, take-length bytes, hex-length bytes); end = rw (h, hex-length bytes) }
+    record { front = e ∙ rw (h, take-length bytes, hex-length bytes); end = rw hex-length }
 
 -- ---- a line at the front of a buffer
 

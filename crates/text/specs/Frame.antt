@@ -5,15 +5,17 @@
 --   first_of cs          the first frame: its refusal, or its kind, n, wanted stack and S; zeros stand beside a refusal
 --   later_of kind n cs   a later frame: its refusal, or the stack to plan; zeros stand beside a refusal
 -- There is no first frame where there is no line: that is the refusal of an empty one.
-use Rattle.std.specs.Prelude.{Bool, ◌&&◌, cond, List, ◌++◌, map, ℕ, ◌+◌, ◌-◌, ◌/◌, ◌%◌, leb, eqb, ℤ, pos, length, get_or, take, drop, replicate}
+use Rattle.std.specs.Prelude.{Bool, ◌&&◌, cond, List, ◌++◌, map, ℕ, ◌+◌, ◌-◌, ◌/◌, ◌%◌, leb, eqb, ℤ, pos, length, get_or, take, drop, replicate, Result, Ok, Err}
 use Rattle.base.specs.Words.{unless}
 use Rattle.stacks.specs.Index.{pane_with}
 use Rattle.stacks.specs.Operations.{kind_refusal, stacked}
+use Rattle.stacks.specs.Refusals.{number}
+use Rattle.stacks.specs.declared.refusal.Refusal.{Refusal}
 use Rattle.stacks.specs.Stack.{stack_places, is_stack, stack_count}
-use Rattle.stacks.specs.declared.Stacked.{Stacked}
+use Rattle.stacks.specs.Answers.{Stacked}
 use Rattle.search.specs.Segments.{is_segment_size}
 use Rattle.text.specs.Hex.{is_pairs, bytes_of, number_of}
-use Rattle.text.specs.declared.First.{First}
+use Rattle.text.specs.declared.FirstFrame.{FirstFrame}
 
 -- the limits, named once: the characters of a frame and its bytes, the most stacks that a report is made of, the bytes of their table, and C
 abbrev pub frame_limit : ℕ
@@ -67,6 +69,14 @@ bytes_refusal bs =
 unfoldable pub first_refusal : List ℕ → ℕ
 first_refusal cs = unless (is_frame cs) 16 (bytes_refusal (bytes_of cs))
 
+-- what the first frame says: zeros stand beside a refusal
+pub record First : Type 0 where
+  pub refusal : ℕ
+  pub kind : ℕ
+  pub n : ℕ
+  pub wanted : List ℤ
+  pub size : ℕ
+
 -- the answer with a refusal's number, 0 for none, and the fields where there is none
 abbrev pub first_with : ℕ → List ℕ → First
 first_with r bs =
@@ -80,6 +90,11 @@ first_with r bs =
 
 unfoldable pub first_of : List ℕ → First
 first_of cs = first_with (first_refusal cs) (bytes_of cs)
+
+-- a result of the first frame as that answer
+abbrev pub as_first : Result FirstFrame Refusal → First
+as_first (Ok f) = record { refusal = 0; kind = f.kind; n = f.n; wanted = f.wanted; size = f.size }
+as_first (Err r) = record { refusal = number r; kind = 0; n = 0; wanted = replicate stack_places (pos 0); size = 0 }
 
 -- kind and n are those of the first frame
 unfoldable pub later_refusal : ℕ → ℕ → List ℕ → ℕ

@@ -8,11 +8,10 @@
 --   Shown                     what code shows of an effect
 use Rattle.std.specs.Prelude.{◌≡◌, Bool, true, false, ◌||◌, cond, List, [], ◌∷◌, ◌++◌, ℕ, ltb, eqb, pos, take, replicate}
 use Rattle.stacks.specs.Stack.{stack_places}
-use Rattle.text.specs.Frame.{first_of}
+use Rattle.text.specs.Frame.{First, first_of}
 use Rattle.text.specs.Kept.{new_line, pushed, text_of}
 use Rattle.text.specs.Output.{refusal_line}
 use Rattle.text.specs.Written.{Wrote}
-use Rattle.text.specs.declared.First.{First}
 use Rattle.text.specs.declared.Line.{Line}
 use Rattle.text.specs.Report.{table_bytes, built_in, head_text, later_text}
 use Rattle.text.specs.declared.Printed.{Printed}

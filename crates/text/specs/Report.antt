@@ -20,9 +20,8 @@ use Rattle.search.specs.Plan.{plan_of, plan_limit}
 use Rattle.search.specs.Segments.{segment_count, stack_count_in, is_segment_size}
 use Rattle.search.specs.Terms.{terms_of}
 use Rattle.search.specs.declared.Job.{Job}
-use Rattle.text.specs.Frame.{stack_limit, report_room, first_of, later_of}
+use Rattle.text.specs.Frame.{First, stack_limit, report_room, first_of, later_of}
 use Rattle.text.specs.Output.{level_counts, level_lines, deepest_line, total_line, plan_line, refusal_line}
-use Rattle.text.specs.declared.First.{First}
 
 module _ (kind n : ℕ) where
   unfoldable pub is_reported : Bool

@@ -1,5 +1,5 @@
-// Code of the executed checks: whole builds by the library, and lines of output.
+// Code of the executed checks: what a build is for and what becomes of a call, as text, and whole builds by the library.
 #![tactic(auto)]
 
-pub mod print;
+pub mod frame;
 pub mod whole;

@@ -14,18 +14,19 @@ use Rattle.search.specs.declared.Terms.{Terms}
 use Rattle.search.proofs.MarkLaws.{counted-le}
 use Rattle.twobit.specs.Mark.{Marked, marks_of, AtMost}
 
-pub marked-not : (before : List ℕ) (i label v : ℕ) → v ≡ entry_at before i → (v ≡ 3 → ⊥) → Marked before i label before false
-unfolding unseen
-marked-not before i label v e h =
-    let t : eqb (entry_at before i) 3 ≡ false = ne_eqb (entry_at before i) 3 (λ q. h (e ∙ q)) in
-    record { bytes = rw t refl; new = sym t }
+-- the leaf says whether the entry v that it read was unseen
+module _ (before : List ℕ) (i label v : ℕ) (e : v ≡ entry_at before i) where
+  pub marked-not : (v ≡ 3 → ⊥) → Marked before i label before (eqb v 3)
+  unfolding unseen
+  marked-not h =
+      let t : eqb (entry_at before i) 3 ≡ false = ne_eqb (entry_at before i) 3 (λ q. h (e ∙ q)) in
+      record { bytes = rw t refl; new = ap (λ (x : ℕ). eqb x 3) e }
 
-pub marked-new : (before : List ℕ) (i label v : ℕ) (after : List ℕ) → v ≡ entry_at before i → v ≡ 3
-    → after ≡ set_entry before i label → Marked before i label after true
-unfolding unseen
-marked-new before i label v after e h s =
-    let t : eqb (entry_at before i) 3 ≡ true = eq-eqb (entry_at before i) 3 (sym e ∙ h) in
-    record { bytes = rw t s; new = sym t }
+  pub marked-new : (after : List ℕ) → v ≡ 3 → after ≡ set_entry before i label → Marked before i label after (eqb v 3)
+  unfolding unseen
+  marked-new after h s =
+      let t : eqb (entry_at before i) 3 ≡ true = eq-eqb (entry_at before i) 3 (sym e ∙ h) in
+      record { bytes = rw t s; new = ap (λ (x : ℕ). eqb x 3) e }
 
 -- the stack is found where the leaf says that the entry was unseen
 pub marked-found : (terms : Terms) (label v i : ℕ) (before after : List ℕ) (found : Found) (fresh t : Bool) → v % terms.size ≡ i → label < 3

@@ -7,6 +7,7 @@ ghost use Rattle.twobit.specs.Mark.{Marked};
 pub const UNSEEN: u8 = 3;
 
 // A case for each entry. A match on a number must have a default besides: nothing comes to it, as the contract lets nothing above 3 by.
+#[tactic(auto, unfolding(search::specs::Entries::next_entry))]
 pub fn next_entry(v: u8) -> u8
     requires { v < 4 }
     ensures { result ≡ next_entry v }
@@ -46,20 +47,16 @@ pub fn mark(bytes: &mut [u8], i: u32, label: u8) -> bool
     requires { (label < 4) × (i / 4 < length bytes.old) }
     ensures { Marked bytes.old i label bytes.new result }
 {
-    if get_entry(bytes, i) != UNSEEN {
-        return false;
+    let unseen = get_entry(bytes, i) == UNSEEN;
+    if unseen {
+        set_entry(bytes, i, label);
     }
-    set_entry(bytes, i, label);
-    true
+    unseen
 }
 
 // Every byte becomes 255: all its entries are unseen.
 pub fn blank_bytes(bytes: &mut [u8])
     ensures { bytes.new ≡ replicate (length bytes.old) 255 }
 {
-    let mut k = 0;
-    while k < bytes.len() {
-        bytes[k] = 255;
-        k += 1;
-    }
+    bytes.fill(255);
 }

@@ -9,8 +9,9 @@ use search::{COUNT_PLACES, Found};
 pub fn found_at(counts: &[u64; COUNT_PLACES], level: u8) -> Found
     ensures { result ≡ found_in counts.now level }
 {
-    let count = counts[level as usize];
-    Found { count }
+    Found {
+        count: counts[level as usize],
+    }
 }
 
 pub fn put_found(counts: &mut [u64; COUNT_PLACES], level: u8, found: Found)
@@ -26,8 +27,10 @@ pub fn mark_stack(segment: &mut [u8], index: u32, offset: u32, label: u8, found:
     ensures { MarksStack segment.old index offset label found segment.new result }
 {
     if entry::mark(segment, offset, label) {
-        let count = found.count + 1;
-        return Found { count };
+        Found {
+            count: found.count + 1,
+        }
+    } else {
+        found
     }
-    found
 }

@@ -1,58 +1,46 @@
-// How many bytes, segments and stacks there are. What might pass 32 bits is computed in 64.
+// How many bytes, segments and stacks there are.
 ghost use Rattle.std.specs.Prelude.{◌≡◌, ◌<◌};
 ghost use Rattle.search.specs.Entries.{bytes_for};
 ghost use Rattle.search.specs.Segments.{segment_count, stack_count_in, is_segment_size, is_log_room};
 
 use search::{LEAST_ROOM, LEAST_SIZE, MOST_ROOM, MOST_SIZE, SEGMENT_LIMIT};
 
+#[tactic(auto, unfolding(search::specs::Entries::bytes_for))]
 pub fn bytes_for(m: u32) -> u32
     ensures { result ≡ bytes_for m }
 {
-    m / 4 + (m % 4 + 3) / 4
+    m.div_ceil(4)
 }
 
 pub fn segment_count(count: u32, size: u32) -> u32
     requires { 0 < size }
     ensures { result ≡ segment_count count size }
 {
-    let size = size as u64;
-    ((count as u64 + (size - 1)) / size) as u32
+    count.div_ceil(size)
 }
 
-// Past the last segment the start is at count or above it, and there is none.
+// Past the last segment the start is at count or above it, and there is none. It might pass 32 bits, and is computed in 64.
+#[tactic(auto, unfolding(search::specs::Segments::stack_count_in))]
 pub fn stack_count_in(count: u32, size: u32, j: u32) -> u32
     ensures { result ≡ stack_count_in count size j }
 {
-    let all = count as u64;
     let start = j as u64 * size as u64;
-    if start >= all {
-        return 0;
-    }
-    let left = (all - start) as u32;
-    if left < size { left } else { size }
+    let left = (count as u64).saturating_sub(start) as u32;
+    left.min(size)
 }
 
+#[tactic(auto, unfolding(search::specs::Segments::is_segment_size))]
 pub fn is_segment_size(count: u32, size: u32) -> bool
     ensures { result ≡ is_segment_size count size }
 {
-    if size % 4 != 0 {
-        return false;
-    }
-    if size < LEAST_SIZE {
-        return false;
-    }
-    if size > MOST_SIZE {
-        return false;
-    }
-    let segments = segment_count(count, size) as usize;
-    segments <= SEGMENT_LIMIT
+    size % 4 == 0
+        && (LEAST_SIZE..=MOST_SIZE).contains(&size)
+        && segment_count(count, size) as usize <= SEGMENT_LIMIT
 }
 
+#[tactic(auto, unfolding(search::specs::Segments::is_log_room))]
 pub fn is_log_room(room: u32) -> bool
     ensures { result ≡ is_log_room room }
 {
-    if room < LEAST_ROOM {
-        return false;
-    }
-    room <= MOST_ROOM
+    (LEAST_ROOM..=MOST_ROOM).contains(&room)
 }

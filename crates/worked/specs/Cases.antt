@@ -18,7 +18,7 @@ use Rattle.stacks.specs.Turn.{all_groups}
 use Rattle.search.specs.Drive.{build_of}
 use Rattle.search.specs.Promise.{right_bytes, right_words, right_lengths}
 use Rattle.search.specs.Terms.{G, terms_of}
-use Rattle.search.specs.declared.Answer.{Answer}
+use Rattle.search.specs.Answers.{Answer}
 use Rattle.search.specs.declared.Terms.{Terms}
 use Rattle.search.specs.declared.Way.{Way}
 use Rattle.search.specs.declared.Way.TheVariants.{Forward}

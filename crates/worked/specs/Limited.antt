@@ -7,9 +7,9 @@ use Rattle.stacks.specs.Stack.{is_stack, ordered}
 use Rattle.search.specs.Drive.{build_of}
 use Rattle.search.specs.Plan.{plan_limit, plan_of}
 use Rattle.search.specs.PromiseBy.{FewestIn, CountsIn, NoRoad}
-use Rattle.search.specs.declared.Answer.{Answer}
+use Rattle.search.specs.Answers.{Answer}
 use Rattle.search.specs.declared.Phase.TheVariants.{Finished}
-use Rattle.search.specs.declared.Planned.{Planned}
+use Rattle.search.specs.Answers.{Planned}
 use Rattle.search.specs.Terms.{begin_refusal, terms_of}
 use Rattle.search.specs.declared.Terms.{Terms}
 use Rattle.worked.specs.Cases.{plain, coated, up, places, any_list}

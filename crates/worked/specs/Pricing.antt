@@ -12,7 +12,7 @@ use Rattle.tariff.specs.Promise.{unpriced, price_in, OnePrice, PricedAlike}
 use Rattle.tariff.specs.Rounding.{rounded}
 use Rattle.tariff.specs.Tariffs.{line_limit, tariff_line, tariff_lines, tariff_refusal, price_at}
 use Rattle.tariff.specs.declared.Line.{Line}
-use Rattle.tariff.specs.declared.Priced.{Priced}
+use Rattle.tariff.specs.Answers.{Priced}
 use Rattle.tariff.specs.declared.Tariff.{Tariff}
 use Rattle.worked.specs.Cases.{plain, any_list}
 use Rattle.worked.specs.PlainThree.{all, given, table, end}

@@ -20,42 +20,22 @@ one_more line bytes i x l h w e f =
     let long : i < length (rest line) = rw (length-drop (line_bytes * line) ones_table, table_length) (omega arith) in
     rw (add-one i, take-suc-set bytes i x (omega arith), take-suc (rest line) i 0 long, get_or-drop (line_bytes * line) ones_table i 0, e, f)
 
-pub overflow_mul-first : goal.overflow_mul-first
-overflow_mul-first c = record { fits = omega (arith, c.requires) }
-
 pub loop-i-init : goal.loop-i-init
-loop-i-init c = (c.requires, omega arith, refl, refl)
-
-pub overflow_cast-i : goal.overflow_cast-i
-overflow_cast-i c = omega arith
-
-pub overflow_add-first : goal.overflow_add-first
-overflow_add-first c = record { fits = omega (arith, c.loop-i.invariant.0) }
-
-pub cleared-requires : goal.cleared-requires
-cleared-requires c = omega (arith, c.loop-i.invariant.0)
-
-pub bounds-bytes-i : goal.bounds-bytes-i
-bounds-bytes-i c = omega arith
-
-pub loop-i-smaller : goal.loop-i-smaller
-loop-i-smaller c = omega arith
+loop-i-init c = (refl, refl)
 
 pub loop-i-preserved : goal.loop-i-preserved
 loop-i-preserved c =
     let a = c.loop-i in
     let line = c.args.line in
-    let here = c.loop-i-test.true in
+    let here : a.i < line_bytes = omega arith in
     let set : ℕ = line_bytes * line + a.i in (
-      a.invariant.0,
-      omega arith,
-      length-set a.bytes a.i c.cleared.result ∙ a.invariant.2,
-      one_more line a.bytes a.i c.cleared.result a.invariant.0 here a.invariant.2 a.invariant.3
-          (c.cleared.ensures ∙ clearings-agree set (omega (arith, a.invariant.0))),
+      length-set a.bytes a.i c.cleared.result ∙ a.invariant.0,
+      one_more line a.bytes a.i c.cleared.result c.requires here a.invariant.0 a.invariant.1
+          (c.cleared.ensures ∙ clearings-agree set (omega (arith, c.requires))),
     )
 
 pub returns : goal.returns
 returns c =
     let a = c.loop-i in
-    let e : a.i ≡ line_bytes = omega (arith, a.invariant.1) in
-    sym (take_all line_bytes a.bytes (omega (arith, a.invariant.2))) ∙ rw e at a.invariant.3
+    let e : a.i ≡ line_bytes = omega arith in
+    sym (take_all line_bytes a.bytes (omega (arith, a.invariant.0))) ∙ rw e at a.invariant.1

@@ -30,33 +30,26 @@ one_more line bytes text now at r e w p =
 
 pub loop-line-init : goal.loop-line-init
 unfolding printed_lines over
-loop-line-init c = (omega arith, length-replicate {A = ℕ} text_length 0, wrote (printed_lines 0 ones_table) blank blank 0 refl refl)
-
-pub line_of-bytes-requires : goal.line_of-bytes-requires
-line_of-bytes-requires c = c.loop-line-test.true
+loop-line-init c = (length-replicate {A = ℕ} text_length 0, wrote (printed_lines 0 ones_table) blank blank 0 refl refl)
 
 pub put_line-at-requires : goal.put_line-at-requires
 put_line-at-requires c =
     let a = c.loop-line in
-    omega (arith, a.invariant.1, written a.line a.text a.at a.invariant.0 a.invariant.2)
-
-pub loop-line-smaller : goal.loop-line-smaller
-loop-line-smaller c = omega arith
+    omega (arith, a.invariant.0, written a.line a.text a.at (omega arith) a.invariant.1)
 
 pub loop-line-preserved : goal.loop-line-preserved
 loop-line-preserved c =
     let a = c.loop-line in (
-      omega arith,
       search rules,
-      one_more a.line c.line_of-bytes.result a.text c.put_line-at.new.out a.at c.put_line-at.result
-          c.line_of-bytes.ensures a.invariant.2 c.put_line-at.ensures,
+      one_more a.line c.line_of.result a.text c.put_line-at.new.out a.at c.put_line-at.result
+          c.line_of.ensures a.invariant.1 c.put_line-at.ensures,
     )
 
 pub returns : goal.returns
 unfolding ones_text
 returns c =
     let a = c.loop-line in
-    let e : a.line ≡ line_count = omega (arith, a.invariant.0) in
-    let w : Wrote ones_text blank a.text a.at = subst (λ (k : ℕ). Wrote (printed_lines k ones_table) blank a.text a.at) e a.invariant.2 in
+    let e : a.line ≡ line_count = omega arith in
+    let w : Wrote ones_text blank a.text a.at = subst (λ (k : ℕ). Wrote (printed_lines k ones_table) blank a.text a.at) e a.invariant.1 in
     w.front
     ∙ over-whole ones_text blank (omega (arith, length-replicate {A = ℕ} text_length 0, lines-length line_count ones_table (omega (arith, table_length))))

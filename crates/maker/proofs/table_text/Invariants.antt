@@ -1,7 +1,7 @@
 -- `maker::table_text` meets its contract. The loop's invariant: the lines before this one are written.
 use mathlib.Core.Path.{◌≡◌}
 use mathlib.Core.List.{List}
-use Prim.Native.Nat.{ℕ, ◌+◌, ◌-◌, ◌*◌, ◌≤◌}
+use Prim.Native.Nat.{ℕ, ◌+◌, ◌*◌}
 use lib.ListN.{length, replicate}
 use Rattle.ones.specs.Ones.{ones_table}
 use Rattle.text.specs.Written.{Wrote}
@@ -17,7 +17,4 @@ abbrev pub blank : List ℕ
 blank = replicate text_length 0
 
 abbrev pub invariant-loop-line : goal.invariant-loop-line
-invariant-loop-line l = (l.line ≤ line_count) × (length l.text ≡ text_length) × Wrote (printed_lines l.line ones_table) blank l.text l.at
-
-abbrev pub decreases-loop-line : goal.decreases-loop-line
-decreases-loop-line l = line_count - l.line
+invariant-loop-line l = (length l.text ≡ text_length) × Wrote (printed_lines l.line ones_table) blank l.text l.at

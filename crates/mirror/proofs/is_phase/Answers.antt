@@ -1,4 +1,5 @@
 -- `mirror::is_phase` meets its contract: Blanking has level 0, and no number from 3 on is a phase.
+use borrow.Author.Rules.{rules}
 use mathlib.Core.Path.{◌≡◌, refl}
 use Prim.Native.Nat.{ℕ, zero, suc}
 use native.Mathlib.Omega.{arith}
@@ -14,10 +15,9 @@ others (suc zero) level not-0 = refl
 others (suc (suc zero)) level not-0 = refl
 others (suc (suc (suc k))) level not-0 = le-ltb (suc (suc (suc k))) 3 (omega arith)
 
-pub returns-then-number-eq0 : goal.returns-then-number-eq0
+pub returns-in-0 : goal.returns-in-0
 unfolding is_phase
-returns-then-number-eq0 c = rw c.if-number-eq0.true refl
+returns-in-0 c = rw c.in-0.is refl
 
-pub returns : goal.returns
-returns c =
-    let a = c.args in others a.number a.level c.if-number-eq0.false
+pub returns-in_default : goal.returns-in_default
+returns-in_default c = others c.args.number c.args.level (search rules)

@@ -1,4 +1,5 @@
 -- `mirror::phase_of` meets its contract: 0, 1, and every other number.
+use borrow.Author.Rules.{rules}
 use mathlib.Core.Path.{◌≡◌, refl}
 use Prim.Native.Nat.{ℕ, zero, suc}
 use Rattle.search.specs.declared.Phase.TheVariants.{Finished}
@@ -11,13 +12,13 @@ others zero level not-0 not-1 = absurd (not-0 refl)
 others (suc zero) level not-0 not-1 = absurd (not-1 refl)
 others (suc (suc k)) level not-0 not-1 = refl
 
-pub returns-then-number-eq0 : goal.returns-then-number-eq0
+pub returns-in-0 : goal.returns-in-0
 unfolding phase_of
-returns-then-number-eq0 c = rw c.if-number-eq0.true refl
+returns-in-0 c = rw c.in-0.is refl
 
-pub returns-then-number-eq1 : goal.returns-then-number-eq1
+pub returns-in-1 : goal.returns-in-1
 unfolding phase_of
-returns-then-number-eq1 c = rw c.if-number-eq1.true refl
+returns-in-1 c = rw c.in-1.is refl
 
-pub returns : goal.returns
-returns c = others c.args.number c.args.level c.if-number-eq0.false c.if-number-eq1.false
+pub returns-in_default : goal.returns-in_default
+returns-in_default c = others c.args.number c.args.level (search rules) (search rules)

@@ -1,4 +1,5 @@
 -- `mirror::way_of` meets its contract: 0, and every other number.
+use borrow.Author.Rules.{rules}
 use mathlib.Core.Path.{◌≡◌, refl}
 use Prim.Native.Nat.{ℕ, zero, suc}
 use Rattle.search.specs.declared.Way.TheVariants.{Reverse}
@@ -10,9 +11,9 @@ unfolding way_of
 others zero not-0 = absurd (not-0 refl)
 others (suc k) not-0 = refl
 
-pub returns-then-number-eq0 : goal.returns-then-number-eq0
+pub returns-in-0 : goal.returns-in-0
 unfolding way_of
-returns-then-number-eq0 c = rw c.if-number-eq0.true refl
+returns-in-0 c = rw c.in-0.is refl
 
-pub returns : goal.returns
-returns c = others c.args.number c.if-number-eq0.false
+pub returns-in_default : goal.returns-in_default
+returns-in_default c = others c.args.number (search rules)

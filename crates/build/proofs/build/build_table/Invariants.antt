@@ -6,7 +6,7 @@ use Rattle.search.proofs.WorkLeft.{work_left}
 use Rattle.build.proofs.build.build_table.Given as goal
 
 abbrev pub invariant-loop-job : goal.invariant-loop-job
-invariant-loop-job l = Driving l.initial.job.terms l.initial.table l.initial.log l.initial.list (store_of l.job l.table l.log l.list)
+invariant-loop-job l = Driving l.fn.terms l.fn.table l.fn.log l.fn.list (store_of l.job l.table l.log l.list)
 
 abbrev pub decreases-loop-job : goal.decreases-loop-job
-decreases-loop-job l = work_left (N l.initial.job.terms) l.initial.job.terms.size l.job
+decreases-loop-job l = work_left (N l.fn.terms) l.fn.terms.size l.job

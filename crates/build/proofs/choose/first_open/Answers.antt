@@ -1,35 +1,20 @@
--- `build::choose::first_open` meets its contract: no segment before the loop's is open.
-use native.Mathlib.Omega.{arith}
-use borrow.Author.Tests.{lt-ltb, le-ltb}
-use lib.ListN.{get_or}
-use Rattle.search.specs.Segments.{stack_count_in}
-use Rattle.build.proofs.Choosing.{seek-starts, seek-on, seek_finds, seek-ends}
-use Rattle.build.proofs.choose.first_open.Invariants.{is_open_by}
+-- `build::choose::first_open` meets its contract: what is found is the driver's first.
+use mathlib.Core.Path.{◌≡◌, refl}
+use borrow.Author.Rules.{rules}
+use borrow.Author.Tests.{tests}
+use Rattle.std.proofs.iter.Serving.{serving}
+use Rattle.search.specs.Terms.{begin_refusal}
+use Rattle.search.specs.Drive.{is_open, first_open}
+use Rattle.search.specs.JobState.{stack_count_of, segment_count_of, stack_count_at, passed_of}
+use Rattle.job.proofs.Bounds.{coherent-begins}
+use Rattle.build.proofs.Choosing.{found}
 use Rattle.build.proofs.choose.first_open.Goals as goal
 
-pub loop-j-init : goal.loop-j-init
-loop-j-init c = let a = c.args in (omega arith, seek-starts (is_open_by a.count a.size a.passed) a.segments)
-
-pub bounds-passed-j : goal.bounds-passed-j
-bounds-passed-j c = omega (arith, c.requires)
-
-pub returns-then-passed-j : goal.returns-then-passed-j
-returns-then-passed-j c =
-    let a = c.args in
-    let j = c.loop-j.j in
-    seek_finds (is_open_by a.count a.size a.passed) a.segments j c.loop-j.invariant.1
-    (lt-ltb (get_or a.passed j 0) (stack_count_in a.count a.size j) (omega (arith, c.if-passed-j.true, c.stack_count_in.ensures)))
-
-pub loop-j-preserved : goal.loop-j-preserved
-loop-j-preserved c =
-    let a = c.args in
-    let j = c.loop-j.j in (
-      omega arith,
-      seek-on (is_open_by a.count a.size a.passed) a.segments j (omega arith) c.loop-j.invariant.1
-          (le-ltb (get_or a.passed j 0) (stack_count_in a.count a.size j) (omega (arith, c.if-passed-j.false, c.stack_count_in.ensures))),
-    )
+pub find-requires-clause-callable : goal.find-requires-clause-callable
+find-requires-clause-callable c = let begins : begin_refusal c.args.job.now.terms ≡ 0 = coherent-begins c.args.job.now c.requires in grind serving
 
 pub returns : goal.returns
+unfolding is_open passed_of stack_count_at first_open segment_count_of stack_count_of
 returns c =
-    let a = c.args in
-    seek-ends (is_open_by a.count a.size a.passed) a.segments c.loop-j.j (omega arith) c.loop-j.invariant.1
+    let job = c.args.job.now in
+    found (is_open job) (segment_count_of job) _ _ _ c.find.result c.find.ensures.ran (λ x b q k. search (rules, tests)) refl c.segment_count_of-segments.ensures.0

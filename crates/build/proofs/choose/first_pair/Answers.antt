@@ -1,31 +1,27 @@
--- `build::choose::first_pair` meets its contract: no segment before the loop's is left to sweep.
-use mathlib.Core.Path.{ap}
+-- `build::choose::first_pair` meets its contract: what is found is the driver's first, where a segment is loaded.
+use mathlib.Core.Path.{refl}
 use mathlib.Core.Bool.{not}
-use Prim.Native.Nat.{◌/◌, ◌%◌, ◌^◌}
-use native.Mathlib.Omega.{arith}
-use borrow.Author.Tests.{eq-eqb, ne_eqb}
-use Rattle.build.proofs.Choosing.{seek-starts, seek-on, seek_finds, seek-ends}
-use Rattle.build.proofs.choose.first_pair.Invariants.{is_left_by}
+use lib.Dec.{ltb}
+use Rattle.base.proofs.Tests.{and-fails-left}
+use borrow.Author.Rules.{rules}
+use borrow.Author.Tests.{tests}
+use Rattle.search.specs.Drive.{first_pair}
+use Rattle.search.specs.JobState.{is_loaded, stack_count_of, segment_count_of, swept_of, is_swept}
+use Rattle.build.proofs.Choosing.{found, paired, loaded-none, loaded-some, loaded-inside}
 use Rattle.build.proofs.choose.first_pair.Goals as goal
 
-pub loop-j-init : goal.loop-j-init
-loop-j-init c = (omega arith, seek-starts (is_left_by c.args.row) c.args.segments)
+pub returns-then-job-eq-NO_SEGMENT : goal.returns-then-job-eq-NO_SEGMENT
+returns-then-job-eq-NO_SEGMENT c =
+    let job = c.args.job.now in
+    and-fails-left (is_loaded job) (ltb (first_pair job) (segment_count_of job)) (loaded-none job c.if-job-eq-NO_SEGMENT.true)
 
-pub returns-then-row-j-ne1 : goal.returns-then-row-j-ne1
-returns-then-row-j-ne1 c =
-    let a = c.args in
-    let j = c.loop-j.j in
-    seek_finds (is_left_by a.row) a.segments j c.loop-j.invariant.1 (ap not (ne_eqb (a.row / 2 ^ j % 2) 1 c.if-row-j-ne1.true))
-
-pub loop-j-preserved : goal.loop-j-preserved
-loop-j-preserved c =
-    let a = c.args in
-    let j = c.loop-j.j in (
-      omega arith,
-      seek-on (is_left_by a.row) a.segments j (omega arith) c.loop-j.invariant.1 (ap not (eq-eqb (a.row / 2 ^ j % 2) 1 c.if-row-j-ne1.false)),
-    )
+pub bounds-job-job : goal.bounds-job-job
+bounds-job-job c = loaded-inside c.args.job.now c.requires c.if-job-eq-NO_SEGMENT.false
 
 pub returns : goal.returns
+unfolding first_pair is_swept swept_of segment_count_of stack_count_of
 returns c =
-    let a = c.args in
-    seek-ends (is_left_by a.row) a.segments c.loop-j.j (omega arith) c.loop-j.invariant.1
+    let job = c.args.job.now in
+    paired job (loaded-some job c.if-job-eq-NO_SEGMENT.false) c.find.result
+    (found (λ j. not (is_swept job job.loaded j)) (segment_count_of job) _ _ _ c.find.result c.find.ensures.ran (λ x b q k. search (rules, tests)) refl
+    c.segment_count_of-segments.ensures.0)

@@ -1,32 +1,14 @@
--- `build::choose::first_pending` meets its contract: no segment before the loop's has entries waiting.
-use native.Mathlib.Omega.{arith}
-use borrow.Author.Tests.{lt-ltb, le-ltb}
-use lib.ListN.{get_or}
-use Rattle.build.proofs.Choosing.{seek-starts, seek-on, seek_finds, seek-ends}
-use Rattle.build.proofs.choose.first_pending.Invariants.{pending}
+-- `build::choose::first_pending` meets its contract: what is found is the driver's first.
+use mathlib.Core.Path.{refl}
+use borrow.Author.Rules.{rules}
+use borrow.Author.Tests.{tests}
+use Rattle.search.specs.Drive.{is_pending, first_pending}
+use Rattle.search.specs.JobState.{stack_count_of, segment_count_of, waiting_of}
+use Rattle.build.proofs.Choosing.{found}
 use Rattle.build.proofs.choose.first_pending.Goals as goal
 
-pub loop-t-init : goal.loop-t-init
-loop-t-init c = let a = c.args in (omega arith, seek-starts (pending a.waiting) a.segments)
-
-pub bounds-waiting-t : goal.bounds-waiting-t
-bounds-waiting-t c = omega (arith, c.requires)
-
-pub returns-then-waiting-t-ne0 : goal.returns-then-waiting-t-ne0
-returns-then-waiting-t-ne0 c =
-    let a = c.args in
-    let t = c.loop-t.t in
-    seek_finds (pending a.waiting) a.segments t c.loop-t.invariant.1 (lt-ltb 0 (get_or a.waiting t 0) (omega (arith, c.if-waiting-t-ne0.true)))
-
-pub loop-t-preserved : goal.loop-t-preserved
-loop-t-preserved c =
-    let a = c.args in
-    let t = c.loop-t.t in (
-      omega arith,
-      seek-on (pending a.waiting) a.segments t (omega arith) c.loop-t.invariant.1 (le-ltb 0 (get_or a.waiting t 0) (omega (arith, c.if-waiting-t-ne0.false))),
-    )
-
 pub returns : goal.returns
+unfolding is_pending waiting_of first_pending segment_count_of stack_count_of
 returns c =
-    let a = c.args in
-    seek-ends (pending a.waiting) a.segments c.loop-t.t (omega arith) c.loop-t.invariant.1
+    let job = c.args.job.now in
+    found (is_pending job) (segment_count_of job) _ _ _ c.find.result c.find.ensures.ran (λ x b q k. search (rules, tests)) refl c.segment_count_of-segments.ensures.0

@@ -1,34 +1,15 @@
--- `build::choose::first_unswept` meets its contract: each segment before the loop's is swept whole.
-use mathlib.Core.Path.{sym, ap, ◌∙◌}
-use mathlib.Core.Bool.{not}
-use native.Mathlib.Omega.{arith}
-use Rattle.build.proofs.Choosing.{seek-starts, seek-on, seek_finds, seek-ends}
-use Rattle.build.proofs.choose.first_unswept.Invariants.{is_unswept_by}
+-- `build::choose::first_unswept` meets its contract: what is found is the driver's first.
+use mathlib.Core.Path.{refl}
+use borrow.Author.Rules.{rules}
+use borrow.Author.Tests.{tests}
+use Rattle.search.specs.Drive.{is_unswept, first_unswept}
+use Rattle.search.specs.Close.{is_swept_whole}
+use Rattle.search.specs.JobState.{stack_count_of, segment_count_of, swept_of, is_swept}
+use Rattle.build.proofs.Choosing.{found}
 use Rattle.build.proofs.choose.first_unswept.Goals as goal
 
-pub loop-b-init : goal.loop-b-init
-loop-b-init c = (omega arith, seek-starts (is_unswept_by c.args.segments c.args.swept) c.args.segments)
-
-pub bounds-swept-b : goal.bounds-swept-b
-bounds-swept-b c = omega (arith, c.requires)
-
-pub returns-then-not-is_swept_whole : goal.returns-then-not-is_swept_whole
-returns-then-not-is_swept_whole c =
-    let a = c.args in
-    let f = c.is_swept_whole in
-    seek_finds (is_unswept_by a.segments a.swept) a.segments c.loop-b.b c.loop-b.invariant.1
-    (ap not (sym f.ensures ∙ c.if-not-is_swept_whole.true))
-
-pub loop-b-preserved : goal.loop-b-preserved
-loop-b-preserved c =
-    let a = c.args in
-    let f = c.is_swept_whole in (
-      omega arith,
-      seek-on (is_unswept_by a.segments a.swept) a.segments c.loop-b.b (omega arith) c.loop-b.invariant.1
-          (ap not (sym f.ensures ∙ c.if-not-is_swept_whole.false)),
-    )
-
 pub returns : goal.returns
+unfolding is_unswept is_swept_whole is_swept swept_of first_unswept segment_count_of stack_count_of
 returns c =
-    let a = c.args in
-    seek-ends (is_unswept_by a.segments a.swept) a.segments c.loop-b.b (omega arith) c.loop-b.invariant.1
+    let job = c.args.job.now in
+    found (is_unswept job) (segment_count_of job) _ _ _ c.find.result c.find.ensures.ran (λ x b q k. search (rules, tests)) refl c.segment_count_of-segments.ensures.0

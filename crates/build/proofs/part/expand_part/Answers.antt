@@ -1,26 +1,12 @@
 -- `build::part::expand_part` meets its contract: the part lies in the table, and what Expand leaves in it, it leaves in the table.
-use Rattle.job.proofs.Bounds.{coherent-begins}
-use Rattle.build.proofs.Parts.{part_small, part-within, expanded-in}
+use Rattle.search.specs.Results.{as_expanded}
+use Rattle.build.proofs.Parts.{expanded-in}
 use Rattle.build.proofs.part.expand_part.Goals as goal
-
-pub part_start-start-requires : goal.part_start-start-requires
-part_start-start-requires c = part_small c.args.job c.args.j c.requires.0 c.requires.1
-
-pub part_end-end-requires : goal.part_end-end-requires
-part_end-end-requires c =
-    (coherent-begins c.args.job c.requires.0, (part_small c.args.job c.args.j c.requires.0 c.requires.1).1)
-
-pub slice_bounds-expand-end : goal.slice_bounds-expand-end
-slice_bounds-expand-end c =
-    part-within c.args.job c.args.j c.requires.0 c.requires.1 c.part_start-start.result c.part_end-end.result c.args.table.now c.requires.2
-    c.part_start-start.ensures
-    c.part_end-end.ensures
 
 pub returns : goal.returns
 returns c =
     let a = c.args in
-    let first = c.part_start-start in
-    let end = c.part_end-end in
+    let part = c.part_of-part in
     let done = c.expand in
-    expanded-in a.job a.j c.requires.0 c.requires.1 first.result end.result a.table.now c.requires.2 first.ensures end.ensures
-    a.log.now done.new.segment done.new.log done.result done.ensures
+    expanded-in a.job.now a.j a.table.now c.requires part.result.start part.result.end part.ensures a.log.now done.new.segment done.new.log
+    (as_expanded done.new.job done.result) done.ensures

@@ -1,29 +1,15 @@
 -- `build::part::settle_part` meets its contract: the part lies in the table, and what Settle leaves in it, it leaves in the table.
 use Rattle.search.specs.Settle.{settle_of}
+use Rattle.search.specs.Results.{as_answer}
 use Rattle.build.specs.Part.{settled_in}
-use Rattle.job.proofs.Bounds.{coherent-begins}
-use Rattle.build.proofs.Parts.{part_small, part-within, answered-in}
+use Rattle.build.proofs.Parts.{answered-in}
 use Rattle.build.proofs.part.settle_part.Goals as goal
-
-pub part_start-start-requires : goal.part_start-start-requires
-part_start-start-requires c = part_small c.args.job c.args.j c.requires.0 c.requires.1
-
-pub part_end-end-requires : goal.part_end-end-requires
-part_end-end-requires c =
-    (coherent-begins c.args.job c.requires.0, (part_small c.args.job c.args.j c.requires.0 c.requires.1).1)
-
-pub slice_bounds-settle-end : goal.slice_bounds-settle-end
-slice_bounds-settle-end c =
-    part-within c.args.job c.args.j c.requires.0 c.requires.1 c.part_start-start.result c.part_end-end.result c.args.table.now c.requires.2
-    c.part_start-start.ensures
-    c.part_end-end.ensures
 
 pub returns : goal.returns
 unfolding settled_in
 returns c =
     let a = c.args in
-    let first = c.part_start-start in
-    let end = c.part_end-end in
+    let part = c.part_of-part in
     let done = c.settle in
-    answered-in a.job a.j c.requires.0 c.requires.1 first.result end.result a.table.now c.requires.2 first.ensures end.ensures
-    (λ segment. settle_of a.job a.j segment a.log.now) done.new.segment done.result done.ensures
+    answered-in a.job.now a.j a.table.now c.requires part.result.start part.result.end part.ensures (λ segment. settle_of a.job.now a.j segment a.log.now) done.new.segment
+    (as_answer done.new.job done.result) done.ensures

@@ -1,39 +1,34 @@
--- `close::close::close` meets its contract: the refusal's number and the job as it was, or the closed job.
-use mathlib.Core.Path.{◌≡◌, refl, sym, ◌∙◌}
-use Rattle.search.specs.Close.{is_past_last, close_refusal, closed, close_of}
-use Rattle.search.specs.JobState.{count_of, progressed, recounted, directed}
-use Rattle.search.proofs.Accepted.{close_facts}
+-- `close::close::close` meets its contract: the refusal and the job as it was, or the job of the next phase.
+use mathlib.Core.Path.{sym, ap, ◌∙◌}
+use Prim.Native.Nat.{ℕ}
+use Rattle.std.proofs.lemmas.Result.{err_from_is_err_and}
+use Rattle.stacks.proofs.Numbers.{number-some}
+use Rattle.search.specs.Answers.{Answer}
+use Rattle.search.specs.declared.Job.{Job}
+use Rattle.search.specs.JobState.{recounted, progressed, directed}
+use Rattle.search.proofs.Accepted.{close_facts, close-accepted, close-refused}
 use Rattle.search.proofs.Coherence.{coherent-facts}
-use Rattle.job.proofs.Answers.{answer-no, answer-yes}
-use Rattle.job.proofs.Standings.{has-own}
 use Rattle.close.proofs.Closing.{closed_is}
-use Rattle.close.proofs.close.close.Goals.{After-close_refusal-refusal}
 use Rattle.close.proofs.close.close.Goals as goal
 
--- what the row has answered
-answered : (c : After-close_refusal-refusal) → c.close_refusal-refusal.result ≡ close_refusal c.args.job
-unfolding count_of
-answered c = let job = c.args.job in c.close_refusal-refusal.ensures job (has-own job c.counts_fit-fits.ensures) refl refl
+pub returns-in_err-check_close : goal.returns-in_err-check_close
+returns-in_err-check_close c =
+    let job = c.args.job.now in
+    let e = c.in_err-check_close.ensures in
+    let p = err_from_is_err_and c.from_residual.result c.from_residual.ensures.1 in
+    rw (p.1, p.2)
+    (ap {B = Answer} (λ (r : ℕ). record { refusal = r; job = job }) e ∙ sym (close-refused job c.args.way (λ z. number-some _ (e ∙ z))))
 
-pub returns-then-refusal-ne0 : goal.returns-then-refusal-ne0
-unfolding close_of
-returns-then-refusal-ne0 c =
-    let a = c.args in
-    answer-no (close_refusal a.job) c.close_refusal-refusal.result
-    (answered (goal.at.returns-then-refusal-ne0 c).After-close_refusal-refusal) (closed a.job a.way) a.job a.job c.if-refusal-ne0.true refl
-
-pub next_phase-after-requires : goal.next_phase-after-requires
-unfolding is_past_last count_of
-next_phase-after-requires c =
-    let job = c.args.job in
-    let f = close_facts job (sym (answered (goal.at.next_phase-after-requires c).After-close_refusal-refusal) ∙ c.if-refusal-ne0.false) in
+pub next_phase-phase-requires : goal.next_phase-phase-requires
+next_phase-phase-requires c =
+    let job = c.args.job.now in
+    let f = close_facts job (sym c.in_ok-check_close.ensures) in
     ((coherent-facts job f.coherent).phase-fits, f.fits)
 
 pub returns : goal.returns
-unfolding close_of progressed recounted directed
+unfolding recounted progressed directed
 returns c =
-    let a = c.args in
-    let job = a.job in
-    answer-yes (close_refusal job) c.close_refusal-refusal.result (answered (goal.at.returns c).After-close_refusal-refusal)
-    (closed job a.way) job c.with_phase-closed.result c.if-refusal-ne0.false
-    (c.with_phase-closed.ensures ∙ closed_is job a.way c.next_phase-after.result c.next_counts.new.counts c.next_phase-after.ensures c.next_counts.ensures)
+    let job = c.args.job.now in
+    let way = c.args.way in
+    ap {B = Answer} (λ (j : Job). record { refusal = 0; job = j }) (closed_is job way _ _ c.next_phase-phase.ensures c.next_counts.ensures)
+    ∙ sym (close-accepted job way (sym c.in_ok-check_close.ensures))

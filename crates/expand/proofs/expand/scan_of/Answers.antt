@@ -1,17 +1,15 @@
 -- `expand::expand::scan_of` meets its contract.
-use borrow.Author.Rules.{rules}
-use Rattle.search.proofs.Coherence.{begin-given}
+use mathlib.Core.Path.{ap, ◌∙◌}
+use Prim.Native.Nat.{ℕ}
+use Rattle.expand.specs.Scan.{scan_for}
 use Rattle.expand.proofs.Expanding.{scan-is}
 use Rattle.expand.proofs.expand.scan_of.Goals as goal
 
-pub overflow_sub-from : goal.overflow_sub-from
-overflow_sub-from c = search rules
-
-pub turn_count-requires : goal.turn_count-requires
-turn_count-requires c = let g = begin-given c.requires.0 in (g.in-range, g.of-set)
-
 pub returns : goal.returns
 returns c =
-    let a = c.args in
-    scan-is a.terms a.level a.j c.segment_count_of.ensures.0 c.turn_count.ensures c.requires.1
-    c.next_entry.ensures
+    let a = c.args in (
+      scan-is c.turns_of-set.result a.job.now.terms c.level-level.result a.j c.segment_count_of.ensures.0 c.count.ensures
+          (rw c.level-level.ensures c.requires.1) c.next_entry.ensures
+          ∙ ap (λ (d : ℕ). scan_for c.turns_of-set.result a.job.now.terms d a.j) c.level-level.ensures,
+      c.turns_of-set.ensures,
+    )

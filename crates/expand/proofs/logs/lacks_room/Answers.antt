@@ -1,24 +1,21 @@
--- `expand::logs::lacks_room` meets its contract.
+-- `expand::logs::lacks_room` meets its contract: no more children fall in a segment than there are.
+use native.Mathlib.Omega.{arith}
+use Rattle.std.proofs.lemmas.Grind.{common_steps}
+use Rattle.search.specs.Logs.{lacks_room}
+use Rattle.search.proofs.ExpandCases.{falling-le}
 use Rattle.expand.proofs.Fitting.{scan-facts}
-use Rattle.expand.proofs.Lowest.{lacks-own, lacks-none, lacks-counted}
 use Rattle.expand.proofs.logs.lacks_room.Goals as goal
 
-pub returns-then-t-scan : goal.returns-then-t-scan
-returns-then-t-scan c =
-    let s = c.args in
-    lacks-own s.scan.size s.t s.scan.j s.free s.children s.scan.turns c.if-t-scan.true
-
-pub returns-then-scan-free : goal.returns-then-scan-free
-returns-then-scan-free c =
-    let s = c.args in
-    lacks-none s.scan.size s.t s.scan.j s.free s.children s.scan.turns c.if-scan-free.true c.if-t-scan.false
+pub bounds-waiting-t : goal.bounds-waiting-t
+bounds-waiting-t c = omega (arith, scan-facts c.args.scan c.requires.0)
 
 pub falling_in-requires : goal.falling_in-requires
-falling_in-requires c =
-    let f = scan-facts c.args.scan c.requires in (f.some, f.turns-few)
+falling_in-requires c = (scan-facts c.args.scan c.requires.0).some
 
-pub returns : goal.returns
-returns c =
-    let s = c.args in
-    lacks-counted s.scan.size s.t s.scan.j s.free s.children s.scan.turns c.falling_in.result c.if-t-scan.false
-    c.falling_in.ensures
+pub returns-then-free-children : goal.returns-then-free-children
+unfolding lacks_room
+returns-then-free-children c = grind (arith, common_steps)
+
+pub returns-else-free-children : goal.returns-else-free-children
+unfolding lacks_room
+returns-else-free-children c = let a = c.args in grind (arith, common_steps, falling-le a.scan.size a.t a.children.now)

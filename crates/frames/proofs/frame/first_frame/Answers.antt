@@ -1,48 +1,73 @@
--- `frames::frame::first_frame` meets its contract: the refusal's number with zeros, or the fields.
-use Rattle.std.proofs.Common.{◌≡◌, ◌≤◌, sym, ◌∙◌, arith, rules}
-use Rattle.stacks.specs.Stack.{stack_places}
-use Rattle.text.specs.Frame.{first_refusal, first_of}
+-- `frames::frame::first_frame` meets its contract: the line, the kind and n, and then the fields.
+use Rattle.std.proofs.Common.{◌≡◌, ℕ, List, length, ap, ◌∙◌, arith}
+use Rattle.std.proofs.lemmas.Result.{err_from_is_err_and}
+use Rattle.stacks.specs.Operations.{kind_refusal}
+use Rattle.stacks.specs.Refusals.{number}
+use Rattle.stacks.specs.declared.refusal.Refusal.TheVariants.{Frame}
+use Rattle.stacks.proofs.Numbers.{row-errs, row-oks}
+use Rattle.stacks.proofs.Refusals.{kind_row}
+use Rattle.text.specs.Frame.{kind_in, panes_in, fields_refusal, first_refusal, first_with, first_of, as_first}
 use Rattle.text.specs.Hex.{bytes_of}
 use Rattle.text.specs.Kept.{text_of}
-use Rattle.text.proofs.FrameRefusals.{no-first, a_first, kind-is, panes-is, panes-fit, wanted-is, size_is}
-use Rattle.frames.proofs.frame.first_frame.Goals.{After-byte_at-n, Else-refusal-ne0}
+use Rattle.text.proofs.FrameRefusals.{first-none, first-few, first-row, no-first}
+use Rattle.text.proofs.HexLaws.{bytes-length}
+use Rattle.frames.proofs.frame.first_frame.Goals.{In_ok-text, After-byte_at-n}
 use Rattle.frames.proofs.frame.first_frame.Goals as goal
 
-pub first_refusal-refusal-requires : goal.first_refusal-refusal-requires
-first_refusal-refusal-requires c = search rules
+pub returns-in_err-text : goal.returns-in_err-text
+unfolding first_of number
+returns-in_err-text c =
+    let p = err_from_is_err_and c.from_residual.result c.from_residual.ensures.1 in
+    rw (p.1, p.2) (no-first _ _ _ (ap number c.in_err-text.ensures.0 ∙ first-none (text_of c.args.line.now) c.in_err-text.ensures.1))
 
-pub returns-then-refusal-ne0 : goal.returns-then-refusal-ne0
+pub returns-then-count-lt2 : goal.returns-then-count-lt2
+unfolding first_of number
+returns-then-count-lt2 c =
+    let t = c.in_ok-text.ensures in
+    let text = text_of c.args.line.now in
+    no-first _ _ Frame (first-few text t.2 (omega (arith, bytes-length text, ap length t.0)))
+
+-- the kind and n, as the line's bytes have them
+kind-is : (c : After-byte_at-n) → c.byte_at-kind.result ≡ kind_in (bytes_of (text_of c.args.line.now))
+unfolding kind_in
+kind-is c = c.byte_at-kind.ensures ∙ ap (λ (cs : List ℕ). kind_in (bytes_of cs)) c.in_ok-text.ensures.0
+
+panes-is : (c : After-byte_at-n) → c.byte_at-n.result ≡ panes_in (bytes_of (text_of c.args.line.now))
+unfolding panes_in
+panes-is c = c.byte_at-n.ensures ∙ ap (λ (cs : List ℕ). panes_in (bytes_of cs)) c.in_ok-text.ensures.0
+
+-- what they decide
+row : (c : After-byte_at-n) → (let bs = bytes_of (text_of c.args.line.now) in
+    let kind = c.byte_at-kind.result in
+    let n = c.byte_at-n.result in
+    kind_refusal kind n (fields_refusal kind n bs) ≡ first_refusal (text_of c.args.line.now))
+row c =
+    let text = text_of c.args.line.now in
+    let t = c.in_ok-text.ensures in
+    rw (kind-is c, panes-is c) (first-row text t.2 (omega (arith, bytes-length text, ap length t.0)))
+
+pub returns-in_err-panes : goal.returns-in_err-panes
 unfolding first_of
-returns-then-refusal-ne0 c =
-    let text = text_of c.args.line in
-    let f = c.first_refusal-refusal in
-    no-first (first_refusal text) f.result f.ensures (bytes_of text) c.if-refusal-ne0.true
+returns-in_err-panes c =
+    let g = (goal.at.returns-in_err-panes c).After-byte_at-n in
+    let f = c.from_residual-in_err-panes in
+    let p = err_from_is_err_and f.result f.ensures.1 in
+    rw (p.1, p.2)
+    (no-first _ _ _ (row-errs (kind_row c.byte_at-kind.result c.byte_at-n.result) _ _ c.in_err-panes.ensures.refusal ∙ row g))
 
--- nothing is refused
-accepted : (c : Else-refusal-ne0) → first_refusal (text_of c.args.line) ≡ 0
-accepted c = sym c.first_refusal-refusal.ensures ∙ c.if-refusal-ne0.false
-
-fits : (c : After-byte_at-n) → c.byte_at-n.result ≤ stack_places
-fits c =
-    panes-fit c.args.line (search rules) (accepted (goal.at.After-byte_at-n c).Else-refusal-ne0) c.byte_at-n.result c.byte_at-n.ensures
-
-pub places_at-wanted-requires : goal.places_at-wanted-requires
-places_at-wanted-requires c =
-    let l = fits c in
-    (l, omega arith)
-
-pub number_at-size-requires : goal.number_at-size-requires
-number_at-size-requires c = omega (arith, fits (goal.at.number_at-size-requires c).After-byte_at-n)
+pub fields-requires : goal.fields-requires
+unfolding kind_in panes_in
+fields-requires c =
+    let e = c.in_ok-panes.ensures.panes in
+    (e.0 ∙ c.byte_at-kind.ensures, e.1 ∙ c.byte_at-n.ensures)
 
 pub returns : goal.returns
 unfolding first_of
 returns c =
-    let line = c.args.line in
-    let f = c.first_refusal-refusal in
-    let n = c.byte_at-n.result in
-    a_first (first_refusal (text_of line)) f.result f.ensures (bytes_of (text_of line)) c.byte_at-kind.result n
-    c.places_at-wanted.result c.number_at-size.result c.if-refusal-ne0.false
-    (c.byte_at-kind.ensures ∙ kind-is line (search rules) (accepted (goal.at.returns c).Else-refusal-ne0))
-    (c.byte_at-n.ensures ∙ panes-is line (search rules) (accepted (goal.at.returns c).Else-refusal-ne0))
-    (c.places_at-wanted.ensures ∙ wanted-is line (search rules) (accepted (goal.at.returns c).Else-refusal-ne0) n c.byte_at-n.ensures)
-    (c.number_at-size.ensures ∙ size_is line (search rules) (accepted (goal.at.returns c).Else-refusal-ne0) n c.byte_at-n.ensures)
+    let g = (goal.at.returns c).After-byte_at-n in
+    let text = text_of c.args.line.now in
+    let e = c.in_ok-panes.ensures in
+    let told : as_first c.fields.result
+    ≡ first_with (fields_refusal c.byte_at-kind.result c.byte_at-n.result (bytes_of text)) (bytes_of text)
+    = rw (c.in_ok-text.ensures.0, e.panes.0, e.panes.1) at c.fields.ensures in
+    told ∙ ap (λ (q : ℕ). first_with q (bytes_of text)) (row-oks (kind_row c.byte_at-kind.result c.byte_at-n.result) _ e.refusal ∙ row g)

@@ -6,11 +6,6 @@ use Rattle.frames.proofs.output.put_line.Goals as goal
 pub bounds-out-end : goal.bounds-out-end
 bounds-out-end c = omega (arith, hex-length c.args.bytes.now)
 
-pub overflow_add-result : goal.overflow_add-result
-overflow_add-result c =
-    let e = hex-length c.args.bytes.now in
-    search rules
-
 pub returns : goal.returns
 returns c =
     let a = c.args in

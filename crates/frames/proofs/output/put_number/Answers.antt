@@ -1,11 +1,7 @@
--- `frames::output::put_number` meets its contract.
-use Rattle.std.proofs.Common.{rules}
+-- `frames::output::put_number` meets its contract: the last four bytes of the number's eight.
 use Rattle.text.specs.Hex.{four_bytes}
 use Rattle.frames.proofs.output.put_number.Goals as goal
 
-pub overflow_cast-bytes : goal.overflow_cast-bytes
-overflow_cast-bytes c = search rules
-
 pub returns : goal.returns
 unfolding four_bytes
-returns c = c.put_line.ensures
+returns c = rw c.to_be_bytes.ensures at c.put_line.ensures

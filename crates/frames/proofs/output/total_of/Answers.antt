@@ -1,30 +1,30 @@
 -- `frames::output::total_of` meets its contract: the sum so far is that of the levels below this one.
-use Rattle.std.proofs.Common.{◌≡◌, ℕ, suc, ◌+◌, ◌%◌, ◌^◌, ◌<◌, List, [], ◌∷◌, length, get_or, take, refl, ap, ◌∙◌, add-one, arith, take-suc, rules}
+use Rattle.std.proofs.Common.{◌≡◌, ℕ, ◌+◌, ◌%◌, ◌^◌, ◌<◌, List, [], ◌∷◌, length, get_or, take, refl, ap, ◌∙◌, add-one, arith, take-suc, take_all}
+use Rattle.text.specs.Output.{level_counts}
 use Rattle.base.specs.Words.{total}
 use Rattle.base.proofs.Counting.{total-append}
 use Rattle.frames.proofs.output.total_of.Goals as goal
 
-pub loop-level-init : goal.loop-level-init
+pub loop-count-init : goal.loop-count-init
 unfolding total
-loop-level-init c = (search rules, omega arith, refl)
+loop-count-init c = refl
 
 -- a count more
-sum_more : (counts : List ℕ) (level sum next : ℕ) → level < length counts → sum ≡ total (take level counts) % 2 ^ 64
-    → next ≡ (sum + get_or counts level 0) % 2 ^ 64 → next ≡ total (take (level + 1) counts) % 2 ^ 64
+sum_more : (counts : List ℕ) (level sum : ℕ) → level < length counts → sum ≡ total (take level counts) % 2 ^ 64
+    → (sum + get_or counts level 0) % 2 ^ 64 ≡ total (take (level + 1) counts) % 2 ^ 64
 unfolding total
-sum_more counts level sum next h e f =
+sum_more counts level sum h e =
     let more = ap (λ (k : ℕ). total (take k counts)) (add-one level) ∙ ap total (take-suc counts level 0 h)
     ∙ total-append (take level counts) (get_or counts level 0 ∷ []) in
-    omega (arith, e, f, more)
+    omega (arith, e, more)
 
-pub loop-level-preserved : goal.loop-level-preserved
-loop-level-preserved c =
-    let a = c.args in (
-      c.loop-level.invariant.0,
-      omega arith,
-      sum_more a.counts c.loop-level.level c.loop-level.sum c.wrapping_add_u64-sum.result (omega (arith, c.loop-level.invariant.0)) c.loop-level.invariant.2 c.wrapping_add_u64-sum.ensures.value,
-    )
+pub loop-count-preserved : goal.loop-count-preserved
+loop-count-preserved c =
+    sum_more (take (c.args.deepest + 1) c.args.counts.now) c.loop-count.count-index c.loop-count.sum c.loop-count-test.true c.loop-count.invariant
 
 pub returns : goal.returns
 returns c =
-    c.loop-level.invariant.2 ∙ ap (λ (k : ℕ). total (take k c.args.counts) % 2 ^ 64) (let e : c.loop-level.level ≡ suc c.args.deepest = omega arith in e)
+    let counts = take (c.args.deepest + 1) c.args.counts.now in
+    let e : take c.loop-count.count-index counts ≡ level_counts c.args.deepest c.args.counts.now =
+    take_all c.loop-count.count-index counts (omega arith) ∙ ap (λ (k : ℕ). take k c.args.counts.now) (add-one c.args.deepest) in
+    c.loop-count.invariant ∙ ap (λ (ns : List ℕ). total ns % 2 ^ 64) e

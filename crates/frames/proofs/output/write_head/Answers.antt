@@ -12,7 +12,7 @@ pub put_line-at-requires : goal.put_line-at-requires
 put_line-at-requires c =
     let w = c.write_levels-levels in
     let a = c.args in
-    omega (arith, c.put_line-arg-1.given.0.1, w.ensures.count, levels-most a.counts a.deepest (search rules))
+    omega (arith, w.ensures.count, levels-most a.counts.now a.deepest (search rules))
 
 pub put_number-requires : goal.put_number-requires
 put_number-requires c =
@@ -21,11 +21,10 @@ put_number-requires c =
     let l = c.put_line-at in
     omega (
       arith,
-      c.put_number-arg-1.given.0.1,
       l.ensures.end,
       line-length (255 ∷ a.deepest ∷ []),
       w.ensures.count,
-      levels-most a.counts a.deepest (search rules),
+      levels-most a.counts.now a.deepest (search rules),
     )
 
 pub returns : goal.returns
@@ -36,9 +35,9 @@ returns c =
     let l = c.put_line-at in
     let p = c.put_number in
     let t = c.total_of in
-    let levels = level_lines a.deepest a.counts in
+    let levels = level_lines a.deepest a.counts.now in
     let deepest = deepest_line a.deepest in
-    let sum = total (level_counts a.deepest a.counts) in
+    let sum = total (level_counts a.deepest a.counts.now) in
     let two = put-after levels deepest a.out.now w.new.out l.new.out w.result l.result w.ensures.count w.ensures.front l.ensures in
     put-after (levels ++ deepest) (total_line sum) a.out.now l.new.out p.new.out l.result p.result two.count two.front
     (subst (λ (bs : List ℕ). Put (line_of (254 ∷ bs)) l.result l.new.out p.new.out p.result) (ap four_bytes t.ensures ∙ four-wraps sum) p.ensures)

@@ -1,30 +1,19 @@
 -- `frames::output::write_levels` meets its contract. The loop's invariant: the lines of the levels below this one are written.
-use Rattle.std.proofs.Common.{◌≡◌, ℕ, suc, ◌+◌, ◌<◌, List, length, sym, refl, ap, ◌∙◌, subst, add-one, arith, rules}
-use Rattle.search.specs.JobState.{count_places}
+use Rattle.std.proofs.Common.{◌≡◌, ℕ, suc, ◌+◌, List, sym, refl, ap, ◌∙◌, subst, add-one, arith}
 use Rattle.text.specs.Output.{level_line, levels_below, line_at, level_lines}
-use Rattle.text.specs.Written.{text_limit, over, Put, Wrote}
+use Rattle.text.specs.Written.{over, Put, Wrote}
 use Rattle.text.proofs.Writing.{wrote, put-after, levels-none, levels-more, levels-length, level-length}
 use Rattle.frames.proofs.output.write_levels.Goals as goal
 
 pub loop-level-init : goal.loop-level-init
 unfolding over
 loop-level-init c =
-    let none = levels-none (line_at c.args.counts) in (
-      omega arith,
-      wrote (levels_below (line_at c.args.counts) 0) c.args.out.now c.args.out.now 0 (rw none refl) (rw none refl),
-    )
-
--- the lines so far are short of the buffer by a line
-lines_fit : (counts out₀ out : List ℕ) (at level : ℕ) → level < count_places → Wrote (levels_below (line_at counts) level) out₀ out at
-    → at + 10 < text_limit
-lines_fit counts out₀ out at level h l = omega (arith, l.count, levels-length (line_at counts) 11 (level-length counts) level)
+    let none = levels-none (line_at c.args.counts.now) in
+    wrote (levels_below (line_at c.args.counts.now) 0) c.args.out.now c.args.out.now 0 (rw none refl) (rw none refl)
 
 pub put_number-at-requires : goal.put_number-at-requires
 put_number-at-requires c =
-    let long : length c.loop-level.out ≡ text_limit = c.put_number-arg-1.given.0.1 in
-    rw long
-    (lines_fit c.args.counts c.args.out.now c.loop-level.out c.loop-level.at c.loop-level.level
-    (search rules) c.loop-level.invariant.1)
+    omega (arith, c.loop-level.invariant.count, levels-length (line_at c.args.counts.now) 11 (level-length c.args.counts.now) c.loop-level.level)
 
 -- a line more
 one_more : (line : ℕ → List ℕ) (out₀ out out' : List ℕ) (at level r : ℕ) → Wrote (levels_below line level) out₀ out at
@@ -35,14 +24,14 @@ one_more line out₀ out out' at level r l p =
 
 pub loop-level-preserved : goal.loop-level-preserved
 unfolding level_line
-loop-level-preserved c = (
-  omega arith,
-  one_more (line_at c.args.counts) c.args.out.now c.loop-level.out c.put_number-at.new.out c.loop-level.at c.loop-level.level
-      c.put_number-at.result c.loop-level.invariant.1 c.put_number-at.ensures,
-)
+loop-level-preserved c =
+    one_more (line_at c.args.counts.now) c.args.out.now c.loop-level.out c.put_number-at.new.out c.loop-level.at c.loop-level.level
+    c.put_number-at.result c.loop-level.invariant c.put_number-at.ensures
 
-pub returns : goal.returns
-unfolding level_lines
-returns c =
-    subst (λ (levels : ℕ). Wrote (levels_below (line_at c.args.counts) levels) c.args.out.now c.loop-level.out c.loop-level.at)
-    (let e : c.loop-level.level ≡ suc c.args.deepest = omega arith in e) c.loop-level.invariant.1
+pub returns-2 : goal.returns-2
+unfolding level_lines level_line
+returns-2 c =
+    subst (λ (levels : ℕ). Wrote (levels_below (line_at c.args.counts.now) levels) c.args.out.now c.put_number-at.new.out c.put_number-at.result)
+    (let e : c.loop-level.level + 1 ≡ suc c.args.deepest = omega arith in e)
+    (one_more (line_at c.args.counts.now) c.args.out.now c.loop-level.out c.put_number-at.new.out c.loop-level.at c.loop-level.level
+    c.put_number-at.result c.loop-level.invariant c.put_number-at.ensures)

@@ -1,12 +1,9 @@
 -- `frames::output::write_line` meets its contract.
-use Rattle.std.proofs.Common.{[], refl, rules}
+use Rattle.std.proofs.Common.{[], refl}
 use Rattle.text.specs.Hex.{line_of}
 use Rattle.text.specs.Written.{over}
 use Rattle.text.proofs.Writing.{put-after}
 use Rattle.frames.proofs.output.write_line.Goals as goal
-
-pub put_line-requires : goal.put_line-requires
-put_line-requires c = search rules
 
 pub returns : goal.returns
 unfolding over

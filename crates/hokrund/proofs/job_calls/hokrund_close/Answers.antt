@@ -1,23 +1,18 @@
 -- `hokrund::job_calls::hokrund_close` meets its contract: refused 7, or the answer of the operation, converted.
-use mathlib.Core.Path.{refl, sym, ap, ap₂, ◌∙◌}
+use mathlib.Core.Path.{ap, ◌∙◌}
 use Rattle.search.specs.Close.{close_of}
-use Rattle.mirror.specs.Mirror.{answer_of}
+use Rattle.mirror.specs.Mirror.{way_of, answer_of}
 use Rattle.hokrund.specs.Calls.{close_call}
-use borrow.Author.Rules.{rules}
+use Rattle.hokrund.proofs.Wrapped.{refused, on_job}
 use Rattle.hokrund.proofs.job_calls.hokrund_close.Goals as goal
-
-pub is_job-requires : goal.is_job-requires
-is_job-requires c = search rules
 
 pub returns-then-not-is_job : goal.returns-then-not-is_job
 unfolding close_call
-returns-then-not-is_job c =
-    let f = c.is_job in
-    rw (sym f.ensures ∙ c.if-not-is_job.true) (rw c.cleared.ensures refl)
+returns-then-not-is_job c = let f = c.refused.ensures in refused c.args.job _ c.if-not-is_job.ensures f.refusal f.job
 
 pub returns : goal.returns
 unfolding close_call
 returns c =
-    let f = c.is_job in
-    rw (sym f.ensures ∙ c.if-not-is_job.false)
-    (c.answer_of.ensures ∙ ap answer_of (c.close.ensures ∙ ap₂ close_of c.job_of.ensures c.way_of.ensures))
+    let a = c.args in
+    on_job a.job (λ job. close_of job (way_of a.way)) answer_of _ c.if-not-is_job.ensures c.from-called.ensures
+    (c.close-outcome.ensures ∙ ap (λ w. close_of c.from-called.result w) c.way_of.ensures) c.new.ensures

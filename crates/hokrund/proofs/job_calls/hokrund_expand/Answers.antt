@@ -1,26 +1,19 @@
 -- `hokrund::job_calls::hokrund_expand` meets its contract: refused 7, or the outcome of the operation, its answer converted.
-use mathlib.Core.Path.{refl, sym, ◌∙◌}
+use mathlib.Core.Path.{ap}
+use Rattle.stacks.specs.Refusals.{number}
 use Rattle.search.specs.Expand.{expand_of}
-use Rattle.mirror.specs.Mirror.{expanded_of}
+use Rattle.mirror.specs.Mirror.{expanded_of, two_lent}
 use Rattle.hokrund.specs.Calls.{expand_call}
-use Rattle.hokrund.proofs.Wrapped.{converted-2}
-use borrow.Author.Rules.{rules}
+use Rattle.hokrund.proofs.Wrapped.{on_job}
 use Rattle.hokrund.proofs.job_calls.hokrund_expand.Goals as goal
 
-pub is_job-requires : goal.is_job-requires
-is_job-requires c = search rules
-
 pub returns-then-not-is_job : goal.returns-then-not-is_job
-unfolding expand_call
-returns-then-not-is_job c =
-    let f = c.is_job in
-    rw (sym f.ensures ∙ c.if-not-is_job.true) (rw c.cleared.ensures refl)
+unfolding expand_call number
+returns-then-not-is_job c = rw (← c.if-not-is_job.ensures, c.into.ensures, c.cleared.ensures)
 
 pub returns : goal.returns
-unfolding expand_call expanded_of
+unfolding expand_call
 returns c =
-    let f = c.is_job in
     let a = c.args in
-    let out = expand_of c.job_of.result a.j a.segment.now a.log.now in
-    rw (sym f.ensures ∙ c.if-not-is_job.false)
-    (rw (sym c.job_of.ensures) (converted-2 expanded_of _ _ c.expand-expanded.result _ out c.expand-expanded.ensures (rw c.mirror_of.ensures refl)))
+    on_job a.job (λ job. expand_of job a.j a.segment.now a.log.now) (two_lent expanded_of) _ c.if-not-is_job.ensures c.from-called.ensures
+    c.expand-outcome.ensures (ap (λ r. (c.expand-outcome.new.segment, c.expand-outcome.new.log, r)) c.new.ensures)

@@ -1,39 +1,33 @@
 -- `hokrund::job_calls::hokrund_look` meets its contract: refused 7, or where the part of the operation stands.
-use mathlib.Core.Path.{refl, sym, ap, ◌∙◌}
-use Prim.Native.Nat.{ℕ, ◌*◌, ◌<◌, ◌^◌}
-use native.Mathlib.Nat.{mul-le-mul}
-use native.Mathlib.Omega.{arith}
+use mathlib.Core.Path.{refl, ap, ◌∙◌}
+use mathlib.Core.List.{[]}
 use Rattle.search.specs.Look.{look_of}
-use Rattle.search.specs.declared.Job.{Job}
+use Rattle.stacks.specs.Refusals.{number}
+use Rattle.stacks.proofs.Numbers.{number-some}
 use Rattle.mirror.specs.Mirror.{job_of}
 use Rattle.hokrund.specs.Calls.{look_call}
-use Rattle.hokrund.proofs.LookLaws.{looked, not-looked}
-use borrow.Author.Rules.{rules}
+use Rattle.hokrund.proofs.LookLaws.{looked, not-looked, no_part}
 use Rattle.hokrund.proofs.job_calls.hokrund_look.Goals as goal
 
-product-below : (a b : ℕ) → a < 2 ^ 32 → b < 2 ^ 32 → a * b < 2 ^ 64
-product-below a b h k = omega (arith, mul-le-mul {n₁ = a} {m₁ = b} {n₂ = 4294967295} {m₂ = 4294967295} (omega arith) (omega arith))
-
 pub returns-then-not-is_job : goal.returns-then-not-is_job
-unfolding look_call
+unfolding look_call number
 returns-then-not-is_job c =
-    let f = c.is_job in rw (sym f.ensures ∙ c.if-not-is_job.true) refl
+    let f = c.refused.ensures in
+    rw (← c.if-not-is_job.ensures) (no_part c.args.log.now f.refusal f.part.0 f.part.1)
 
-pub returns-then-refusal-ne0 : goal.returns-then-refusal-ne0
+pub returns-in-Ok : goal.returns-in-Ok
 unfolding look_call job_of
-returns-then-refusal-ne0 c =
-    let f = c.is_job in
+returns-in-Ok c =
     let a = c.args in
-    rw (sym f.ensures ∙ c.if-not-is_job.false)
-    (not-looked (job_of a.job) a.j a.log.now _ _ (c.look-part.ensures ∙ ap (λ (job : Job). look_of job a.j a.log.now) c.job_of.ensures) c.if-refusal-ne0.true)
+    rw (← c.if-not-is_job.ensures)
+    (looked (job_of a.job) a.j a.log.now c.in-Ok.part.now 0 (c.in-Ok.ensures ∙ ap (λ job. look_of job a.j a.log.now) c.from.ensures) refl)
 
-pub overflow_mul-result : goal.overflow_mul-result
-overflow_mul-result c = record { fits = product-below _ _ (search rules) (search rules) }
-
-pub returns : goal.returns
+pub returns-in-Err : goal.returns-in-Err
 unfolding look_call job_of
-returns c =
-    let f = c.is_job in
+returns-in-Err c =
     let a = c.args in
-    rw (sym f.ensures ∙ c.if-not-is_job.false)
-    (looked (job_of a.job) a.j a.log.now _ _ (c.look-part.ensures ∙ ap (λ (job : Job). look_of job a.j a.log.now) c.job_of.ensures) c.if-refusal-ne0.false)
+    let f = c.refused-in-Err.ensures in
+    let n = number c.in-Err.refusal in
+    rw (← c.if-not-is_job.ensures)
+    (no_part a.log.now f.refusal f.part.0 f.part.1
+    ∙ not-looked (job_of a.job) a.j a.log.now [] n (c.in-Err.ensures ∙ ap (λ job. look_of job a.j a.log.now) c.from.ensures) (number-some c.in-Err.refusal))

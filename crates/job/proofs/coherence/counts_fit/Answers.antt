@@ -1,15 +1,18 @@
 -- `job::coherence::counts_fit` meets its contract.
-use mathlib.Core.Path.{sym}
+use mathlib.Core.Path.{◌∙◌}
+use borrow.Author.Rules.{rules}
+use borrow.Author.Tests.{tests}
+use Prim.Native.Nat.{ℕ}
+use lib.Dec.{leb}
+use Rattle.std.proofs.lemmas.Iterator.{YieldsList-from_slice}
+use Rattle.std.proofs.lemmas.Iterator.Search.{all_from_yields_List}
+use Rattle.search.specs.JobState.{count_limit, count_in_limit}
+use Rattle.job.proofs.Scans.{all-listed}
 use Rattle.job.proofs.coherence.counts_fit.Goals as goal
 
-pub limits_in_all-requires : goal.limits_in_all-requires
-limits_in_all-requires c = c.requires
-
-pub returns-then-limits_in_all-eq0 : goal.returns-then-limits_in_all-eq0
-returns-then-limits_in_all-eq0 c = sym (c.limits_in_all.ensures c.if-limits_in_all-eq0.true)
-
-pub each_count_fits-requires : goal.each_count_fits-requires
-each_count_fits-requires c = c.requires
-
 pub returns : goal.returns
-returns c = c.each_count_fits.ensures
+unfolding count_in_limit count_limit
+returns c =
+    let counts = c.args.counts.now in
+    all_from_yields_List (λ (x : ℕ). leb x count_limit) _ _ c.all.result c.all.ensures.ran (YieldsList-from_slice counts cc) (λ x b q k. search (rules, tests))
+    ∙ all-listed count_in_limit counts

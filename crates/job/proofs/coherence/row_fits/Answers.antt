@@ -24,18 +24,19 @@ none : (x : ℕ) → eqb x 0 ≡ ltb x 1
 none x = ap (λ (q : ℕ). eqb q 0) (sym (div-one x)) ∙ none_above x 1 (pow_pos 0)
 
 -- 64 bits are all that a number has
-every : (x G : ℕ) → x < 2 ^ 64 → G ≤ segment_limit → segment_limit ≤ G → true ≡ ltb x (2 ^ G)
-every x G h few many = sym (ap (λ (g : ℕ). ltb x (2 ^ g)) (let e : G ≡ 64 = omega arith in e) ∙ lt-ltb x (2 ^ 64) h)
+every : (x G : ℕ) → x < 2 ^ 64 → G ≡ segment_limit → true ≡ ltb x (2 ^ G)
+every x G h e = sym (ap (λ (g : ℕ). ltb x (2 ^ g)) e ∙ lt-ltb x (2 ^ 64) h)
 
 pub returns-then-segments-b : goal.returns-then-segments-b
 returns-then-segments-b c = let a = c.args in rw (le-ltb a.b a.segments c.if-segments-b.true) (none a.row)
 
-pub returns-then-segments-ge-SEGMENT_LIMIT : goal.returns-then-segments-ge-SEGMENT_LIMIT
-returns-then-segments-ge-SEGMENT_LIMIT c =
+pub returns-then-segments-eq-SEGMENT_LIMIT : goal.returns-then-segments-eq-SEGMENT_LIMIT
+returns-then-segments-eq-SEGMENT_LIMIT c =
     let a = c.args in
-    rw (lt-ltb a.b a.segments c.if-segments-b.false) (every a.row a.segments (omega arith) c.requires c.if-segments-ge-SEGMENT_LIMIT.true)
+    let h = c.if-segments-eq-SEGMENT_LIMIT.true in
+    rw (lt-ltb a.b a.segments c.if-segments-b.false, eq-eqb a.segments segment_limit h) (every a.row a.segments (omega arith) h)
 
-pub returns : goal.returns
-returns c =
+pub returns-else-segments-eq-SEGMENT_LIMIT : goal.returns-else-segments-eq-SEGMENT_LIMIT
+returns-else-segments-eq-SEGMENT_LIMIT c =
     let a = c.args in
     rw (lt-ltb a.b a.segments c.if-segments-b.false) (none_above a.row (2 ^ a.segments) (pow_pos a.segments))

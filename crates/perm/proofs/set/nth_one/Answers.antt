@@ -45,30 +45,8 @@ asked-all s d v x a h l =
     let more = (asked-high s d v x a h).high (omega (arith, a.inside)) in
     record { low = omega (arith, a.inside); is_one = omega (arith, a.low); below = omega (arith, a.low) }
 
-pub overflow_add-most : goal.overflow_add-most
-overflow_add-most c = record { fits = omega (arith, c.requires.1) }
-
-pub overflow_add-x : goal.overflow_add-x
-overflow_add-x c = record { fits = omega (arith, c.requires.1) }
-
 pub loop-x-init : goal.loop-x-init
 loop-x-init c = (omega arith, asked-none c.args.set c.args.d)
-
-pub ones_below-requires : goal.ones_below-requires
-ones_below-requires c =
-    let s = c.before.before in
-    (s.requires.0, omega (arith, s.requires.1), s.requires.3)
-
-pub overflow_add-v : goal.overflow_add-v
-overflow_add-v c =
-    let l = c.before.before in
-    record { fits = omega (arith, l.requires.1, l.loop-x.invariant.1.inside) }
-
-pub overflow_add-x-in-loop-x : goal.overflow_add-x-in-loop-x
-overflow_add-x-in-loop-x c = let l = c.before.before in record { fits = omega (arith, l.requires.1) }
-
-pub loop-x-smaller : goal.loop-x-smaller
-loop-x-smaller c = omega arith
 
 pub loop-x-preserved : goal.loop-x-preserved
 loop-x-preserved c =
@@ -84,9 +62,24 @@ loop-x-preserved c =
       ],
     )
 
+-- no place is asked where none have gone
 pub returns : goal.returns
 returns c =
-    let a = c.before in
-    let s = a.before in
-    let e : a.loop-x.x ≡ s.args.d + s.args.gone + 1 = omega (arith, a.loop-x.invariant.0) in
-    asked-all s.args.set s.args.d a.loop-x.v a.loop-x.x a.loop-x.invariant.1 (rw e s.requires.2) (omega (arith, s.requires.1))
+    let a = c.args in
+    let e : c.loop-x.x ≡ a.d + a.gone + 1 = omega (arith, c.loop-x.invariant.0) in
+    asked-all a.set a.d c.loop-x.v c.loop-x.x c.loop-x.invariant.1 (rw e c.requires.2) (omega (arith, c.requires.1))
+
+pub returns-after-ones_below-d : goal.returns-after-ones_below-d
+returns-after-ones_below-d c =
+    let g = c.args in
+    let a = c.loop-x in
+    let count = c.ones_below.ensures in
+    let last : a.x + 1 ≡ g.d + g.gone + 1 = omega arith in
+    let all : Asked g.set g.d c.if-ones_below-d.v (a.x + 1) =
+    elim c.if-ones_below-d.branch [
+      | then-ones_below-d w ↦ subst (λ (v : ℕ). Asked g.set g.d v (a.x + 1)) (sym w.v-is)
+          (asked_low g.set g.d a.v a.x a.invariant.1 (rw (← count) w.if-ones_below-d.true))
+      | else-ones_below-d w ↦ subst (λ (v : ℕ). Asked g.set g.d v (a.x + 1)) (sym w.v-is)
+          (asked-high g.set g.d a.v a.x a.invariant.1 (rw (← count) w.if-ones_below-d.false))
+    ] in
+    asked-all g.set g.d c.if-ones_below-d.v (a.x + 1) all (rw last c.requires.2) (omega (arith, c.requires.1))

@@ -1,5 +1,5 @@
 -- `perm::set::nth_one` meets its contract. The loop's invariant: at most d ones stand below v, and more up to v, if a place above it was asked.
-use Prim.Native.Nat.{ℕ, ◌+◌, ◌-◌, ◌%◌, ◌^◌, ◌≤◌, ◌<◌}
+use Prim.Native.Nat.{ℕ, ◌+◌, ◌%◌, ◌^◌, ◌≤◌, ◌<◌}
 use lib.Count.{ones}
 use Rattle.perm.proofs.set.nth_one.Given as goal
 
@@ -11,6 +11,3 @@ pub record Asked (s d v x : ℕ) : Type 0 where
 
 abbrev pub invariant-loop-x : goal.invariant-loop-x
 invariant-loop-x l = (l.x ≤ l.d + l.gone + 1) × Asked l.set l.d l.v l.x
-
-abbrev pub decreases-loop-x : goal.decreases-loop-x
-decreases-loop-x l = l.d + l.gone + 1 - l.x

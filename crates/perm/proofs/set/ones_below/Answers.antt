@@ -20,21 +20,21 @@ overflow_sub-mask c = omega (arith, shifted c.args.x c.requires.1, pow_pos c.arg
 masked : (set mask : ℕ) → set < set_count → bit_and set mask < set_count
 masked set mask h = lt_of_le_of_lt (and_le_l set mask) h
 
-entry-low : (lookup : List ℕ) (i : ℕ) → lookup ≡ ones_table → i < set_count → get_or lookup i 0 ≤ set_places
-entry-low lookup i e h = rw e (table-low i h)
+entry-low : (table : List ℕ) (i : ℕ) → table ≡ ones_table → i < set_count → get_or table i 0 ≤ set_places
+entry-low table i e h = rw e (table-low i h)
 
-pub bounds-lookup-set : goal.bounds-lookup-set
-bounds-lookup-set c = masked c.args.set _ c.requires.0
+pub bounds-table-set : goal.bounds-table-set
+bounds-table-set c = masked c.args.set _ c.requires.0
 
 pub overflow_cast-result : goal.overflow_cast-result
 overflow_cast-result c = record { fits = lt_trans (masked c.args.set _ c.requires.0) (lit< tt) }
 
 pub overflow_cast-result-2 : goal.overflow_cast-result-2
 overflow_cast-result-2 c =
-    record { fits = lt_of_le_of_lt (entry-low c.args.lookup.now _ c.requires.2 (masked c.args.set _ c.requires.0)) (lit< tt) }
+    record { fits = lt_of_le_of_lt (entry-low c.table.result.now _ c.table.ensures (masked c.args.set _ c.requires.0)) (lit< tt) }
 
 pub returns : goal.returns
 returns c =
     let a = c.args in
     let e = ap (λ (y : ℕ). bit_and a.set (y - 1)) (shifted a.x c.requires.1) ∙ and_mask a.set a.x in
-    rw (e, c.requires.2) (table-ones (a.set % 2 ^ a.x) (lt_of_le_of_lt (mod-le a.set (2 ^ a.x)) c.requires.0))
+    rw (e, c.table.ensures) (table-ones (a.set % 2 ^ a.x) (lt_of_le_of_lt (mod-le a.set (2 ^ a.x)) c.requires.0))

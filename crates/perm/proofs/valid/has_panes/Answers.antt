@@ -3,35 +3,30 @@ use mathlib.Core.Path.{◌≡◌, sym, ap, ◌∙◌}
 use mathlib.Core.Bool.{true}
 use Prim.Native.Nat.{◌+◌, ◌-◌, ◌*◌, ◌%◌, ◌^◌}
 use native.Mathlib.Omega.{arith}
-use borrow.Author.Rules.{rules}
-use lib.IntN.{pos, nat_abs}
-use lib.ListN.{get_or}
+use lib.IntN.{ℤ, pos, nat_abs}
+use lib.ListN.{get_or, take}
 use Rattle.stacks.specs.Stack.{order_of}
 use Rattle.perm.proofs.Sets.{pow-twelve, shifted}
 use Rattle.perm.proofs.Signed.{place-back}
-use Rattle.perm.proofs.Places.{Met, is_new, new-facts, met_start, met-step, met-stop, met-end, order-at, order-length}
+use Rattle.perm.proofs.Places.{Met, is_new, new-facts, met_start, met-step, met-stop, met-end, order-read, order-long}
 use Rattle.perm.proofs.valid.has_panes.Goals.{After-is_new}
 use Rattle.perm.proofs.valid.has_panes.Goals as goal
 
-pub loop-p-init : goal.loop-p-init
-loop-p-init c = (search rules, search rules, met_start c.args.n (order_of c.args.n c.args.stack))
+pub loop-x-init : goal.loop-x-init
+loop-x-init c = (met_start c.args.n (order_of c.args.n c.args.stack))
 
-pub bounds-stack-p : goal.bounds-stack-p
-bounds-stack-p c = omega arith
-
--- the magnitude is the order's pane at place p
+-- the magnitude is the order's pane at the place
 pane-is : (c : After-is_new)
     → let a = c.before.before.before.before in
-    c.magnitude-pane.result ≡ get_or (order_of a.args.n a.args.stack) a.loop-p.p 0
+    c.magnitude-pane.result ≡ get_or (order_of a.args.n a.args.stack) a.loop-x.x-index 0
 pane-is c =
     let a = c.before.before.before.before in
-    let s = a.args.stack in
-    c.magnitude-pane.ensures ∙ ap nat_abs (place-back (get_or s a.loop-p.p (pos 0)) c.magnitude-arg-1.given)
-    ∙ sym (order-at a.args.n s a.loop-p.p c.loop-p-test.true)
+    let x : ℤ = get_or (take a.args.n a.args.stack) a.loop-x.x-index (pos 0) in
+    c.magnitude-pane.ensures ∙ ap nat_abs (place-back x c.magnitude-arg-1.given) ∙ sym (order-read a.args.n a.args.stack a.loop-x.x-index)
 
 -- where the loop goes on, it is new
 is-new : (c : goal.Else-not-is_new)
-    → let a = c.before.before.before.before.before in is_new a.args.n a.loop-p.met c.magnitude-pane.result ≡ true
+    → let a = c.before.before.before.before.before in is_new a.args.n a.loop-x.met c.magnitude-pane.result ≡ true
 is-new c = sym c.is_new.ensures ∙ c.if-not-is_new.false
 
 pub returns-then-not-is_new : goal.returns-then-not-is_new
@@ -39,48 +34,41 @@ returns-then-not-is_new c =
     let a = c.before.before.before.before.before in
     let n = a.args.n in
     let s = a.args.stack in
-    met-stop n (order_of n s) a.loop-p.met a.loop-p.p a.loop-p.invariant.2 c.magnitude-pane.result (omega (arith, order-length n s (omega arith)))
+    met-stop n (order_of n s) a.loop-x.met a.loop-x.x-index a.loop-x.invariant c.magnitude-pane.result (omega (arith, order-long n s))
     (pane-is (goal.at.returns-then-not-is_new c).After-is_new) (sym c.is_new.ensures ∙ c.if-not-is_new.true)
 
 pub overflow_sub-met : goal.overflow_sub-met
 overflow_sub-met c =
     let a = c.before.before.before.before.before in
-    (new-facts a.args.n a.loop-p.met c.magnitude-pane.result (is-new c)).0
+    (new-facts a.args.n a.loop-x.met c.magnitude-pane.result (is-new c)).0
 
 pub overflow_shl-met : goal.overflow_shl-met
 overflow_shl-met c =
     let a = c.before.before.before.before.before in
-    omega (arith, (new-facts a.args.n a.loop-p.met c.magnitude-pane.result (is-new c)).1)
+    omega (arith, (new-facts a.args.n a.loop-x.met c.magnitude-pane.result (is-new c)).1)
 
 met_next : (c : goal.Else-not-is_new)
     → let a = c.before.before.before.before.before in
-    Met a.args.n (order_of a.args.n a.args.stack) (a.loop-p.met + 1 * 2 ^ (c.magnitude-pane.result - 1) % 4294967296) (a.loop-p.p + 1)
+    Met a.args.n (order_of a.args.n a.args.stack) (a.loop-x.met + 1 * 2 ^ (c.magnitude-pane.result - 1) % 4294967296) (a.loop-x.x-index + 1)
 met_next c =
     let a = c.before.before.before.before.before in
     let n = a.args.n in
     let s = a.args.stack in
     let x = c.magnitude-pane.result in
-    rw (shifted (x - 1) (omega (arith, (new-facts n a.loop-p.met x (is-new c)).1)))
-    (met-step n (order_of n s) a.loop-p.met a.loop-p.p a.loop-p.invariant.2 x (omega (arith, order-length n s (omega arith))) (pane-is c.before) (is-new c))
+    rw (shifted (x - 1) (omega (arith, (new-facts n a.loop-x.met x (is-new c)).1)))
+    (met-step n (order_of n s) a.loop-x.met a.loop-x.x-index a.loop-x.invariant x (omega (arith, order-long n s)) (pane-is c.before) (is-new c))
 
 pub overflow_add-met : goal.overflow_add-met
 overflow_add-met c =
     let a = c.before.before.before.before.before in
     record { fits = omega (arith, (met_next c).bound, pow-twelve a.args.n (omega arith)) }
 
-pub overflow_add-p : goal.overflow_add-p
-overflow_add-p c = omega arith
-
-pub loop-p-smaller : goal.loop-p-smaller
-loop-p-smaller c = omega arith
-
-pub loop-p-preserved : goal.loop-p-preserved
-loop-p-preserved c =
-    let a = c.before.before.before.before.before in
-    (a.loop-p.invariant.0, omega arith, met_next c)
+pub loop-x-preserved : goal.loop-x-preserved
+loop-x-preserved c =
+    met_next c
 
 pub returns : goal.returns
 returns c =
     let s = c.args.stack in
     let n = c.args.n in
-    met-end n (order_of n s) c.loop-p.met c.loop-p.p c.loop-p.invariant.2 (omega (arith, order-length n s (omega arith)))
+    met-end n (order_of n s) c.loop-x.met c.loop-x.x-index c.loop-x.invariant (omega (arith, order-long n s))

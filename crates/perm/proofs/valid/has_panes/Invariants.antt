@@ -1,13 +1,7 @@
--- `perm::valid::has_panes` meets its contract. The loop's invariant: the set holds the panes above place p, and the rest decides for all.
-use mathlib.Core.Path.{◌≡◌}
-use Prim.Native.Nat.{◌-◌, ◌≤◌}
-use lib.ListN.{length}
+-- `perm::valid::has_panes` meets its contract. The loop's invariant: the set holds the panes above the place, and the rest decides for all.
 use Rattle.stacks.specs.Stack.{order_of}
 use Rattle.perm.proofs.Places.{Met}
 use Rattle.perm.proofs.valid.has_panes.Given as goal
 
-abbrev pub invariant-loop-p : goal.invariant-loop-p
-invariant-loop-p l = (length l.stack ≡ 12) × (l.p ≤ l.n) × Met l.n (order_of l.n l.stack) l.met l.p
-
-abbrev pub decreases-loop-p : goal.decreases-loop-p
-decreases-loop-p l = l.n - l.p
+abbrev pub invariant-loop-x : goal.invariant-loop-x
+invariant-loop-x l = Met l.n (order_of l.n l.fn.stack) l.met l.x-index

@@ -1,19 +1,21 @@
 -- `plan::plan::plan` meets its contract: what the draft refuses, or its turns at the front of the list.
+use Rattle.std.proofs.lemmas.Result.{err_from_is_err_and}
 use Rattle.plan.proofs.Answers.{draft-fits, plan-refused, plan-accepted}
 use Rattle.plan.proofs.plan.plan.Goals as goal
 
-pub returns-then-draft-ne0 : goal.returns-then-draft-ne0
-returns-then-draft-ne0 c =
+pub returns-in_err-turns : goal.returns-in_err-turns
+returns-in_err-turns c =
     let a = c.args in
-    plan-refused a.kind a.n a.wanted a.given a.groups a.table.now a.list.now c.draft_plan-draft.result c.draft_plan-draft.ensures c.if-draft-ne0.true
+    let p = err_from_is_err_and c.from_residual.result c.from_residual.ensures.1 in
+    rw (p.1, p.2) (plan-refused a.kind a.n a.wanted a.given a.groups a.table.now a.list.now _ c.in_err-turns.ensures)
 
-pub copy_turns-requires : goal.copy_turns-requires
-copy_turns-requires c =
-    let a = c.args in
-    draft-fits a.kind a.n a.wanted a.given a.groups a.table.now a.list.now c.draft_plan-draft.result c.draft_plan-draft.ensures c.if-draft-ne0.false
+pub copy_to-requires : goal.copy_to-requires
+copy_to-requires c =
+    let a = c.args in draft-fits a.kind a.n a.wanted a.given a.groups a.table.now a.list.now c.in_ok-turns.turns c.in_ok-turns.ensures
 
 pub returns : goal.returns
 returns c =
     let a = c.args in
-    plan-accepted a.kind a.n a.wanted a.given a.groups a.table.now a.list.now c.draft_plan-draft.result c.draft_plan-draft.ensures c.if-draft-ne0.false
-    c.copy_turns.new.list c.copy_turns.ensures
+    rw c.len.ensures.long
+    (plan-accepted a.kind a.n a.wanted a.given a.groups a.table.now a.list.now c.in_ok-turns.turns c.in_ok-turns.ensures
+    c.copy_to.new.list c.copy_to.ensures)

@@ -1,53 +1,74 @@
--- `price::price::price` meets its contract: what Plan's draft refuses, what the tariff refuses, or the draft's turns with their price.
+-- `price::price::price` meets its contract: what Plan refuses, what the tariff refuses, or the draft's turns with their price.
 use mathlib.Core.Path.{◌≡◌, sym, ap, ◌∙◌}
-use Rattle.stacks.specs.Turn.{last_turn}
-use Rattle.plan.proofs.Answers.{draft-fits}
+use native.Mathlib.Omega.{arith}
+use lib.ListN.{length}
+use Rattle.std.proofs.lemmas.Result.{err_from_is_err_and}
+use Rattle.stacks.specs.Turn.{last_turn, turns_in}
+use Rattle.search.specs.Plan.{plan_refusal, route_from}
+use Rattle.plan.proofs.Answers.{draft-short, draft-fits}
 use Rattle.tariff.specs.Tariffs.{tariff_lines, tariff_refusal}
 use Rattle.tariff.proofs.TariffLaws.{TariffFacts, tariff-facts, price-limit}
-use Rattle.price.proofs.Answers.{draft-refuses, tariff-refuses, priced}
-use Rattle.price.proofs.price.price.Goals.{After-tariff_refusal-refusal, Else-refusal-ne0}
+use Rattle.price.proofs.Answers.{plan-refuses, tariff-refuses, priced}
+use Rattle.price.proofs.price.price.Goals.{In_ok-turns, After-last_turn, In_ok-check_tariff}
 use Rattle.price.proofs.price.price.Goals as goal
 
-pub returns-then-draft-ne0 : goal.returns-then-draft-ne0
-returns-then-draft-ne0 c =
-    let d = c.draft_plan-draft in
+pub returns-in_err-turns : goal.returns-in_err-turns
+returns-in_err-turns c =
     let a = c.args in
-    draft-refuses a.kind a.n a.wanted a.given a.groups a.table.now a.list.now a.tariff d.result d.ensures c.if-draft-ne0.true
+    let p = err_from_is_err_and c.from_residual.result c.from_residual.ensures.1 in
+    rw (p.1, p.2) (plan-refuses a.kind a.n a.wanted a.given a.groups a.table.now a.list.now a.tariff _ c.in_err-turns.ensures)
 
--- the tariff's refusal, by the last turn that the code asks for
-refusal_is : (c : After-tariff_refusal-refusal)
-    → let a = c.args in c.tariff_refusal-refusal.result ≡ tariff_refusal (last_turn a.kind a.n) a.tariff
-refusal_is c = c.tariff_refusal-refusal.ensures ∙ ap (λ last. tariff_refusal last c.args.tariff) c.last_turn.ensures
+-- Plan refuses nothing
+accepted : (c : In_ok-turns)
+    → let a = c.args in
+    (0 ≡ plan_refusal a.kind a.n a.wanted a.given a.groups a.table.now (length a.list.now) 0)
+    × (c.in_ok-turns.turns ≡ (route_from a.kind a.n a.table.now a.wanted (turns_in a.kind a.n a.groups) a.given).turns)
+accepted c = c.in_ok-turns.ensures
 
-pub returns-then-refusal-ne0 : goal.returns-then-refusal-ne0
-returns-then-refusal-ne0 c =
-    let d = c.draft_plan-draft in
+-- the last turn that the code asks for
+last_is : (c : After-last_turn) → let a = c.args in c.last_turn.result ≡ last_turn a.kind a.n
+unfolding last_turn
+last_is c = c.last_turn.ensures
+
+pub returns-in_err-check_tariff : goal.returns-in_err-check_tariff
+returns-in_err-check_tariff c =
     let a = c.args in
-    tariff-refuses a.kind a.n a.wanted a.given a.groups a.table.now a.list.now a.tariff d.result d.ensures c.if-draft-ne0.false
-    c.tariff_refusal-refusal.result (refusal_is (goal.at.returns-then-refusal-ne0 c).After-tariff_refusal-refusal) c.if-refusal-ne0.true
+    let p = err_from_is_err_and c.from_residual-in_err-check_tariff.result c.from_residual-in_err-check_tariff.ensures.1 in
+    rw (p.1, p.2)
+    (tariff-refuses a.kind a.n a.wanted a.given a.groups a.table.now a.list.now a.tariff
+    c.in_ok-turns.turns (accepted (goal.at.returns-in_err-check_tariff c).In_ok-turns) _
+    (c.in_err-check_tariff.ensures ∙ ap (λ last. tariff_refusal last a.tariff) (last_is (goal.at.returns-in_err-check_tariff c).After-last_turn)))
 
--- neither refuses
-accepted : (c : Else-refusal-ne0)
-    → let a = c.args in tariff_refusal (last_turn a.kind a.n) a.tariff ≡ 0
-accepted c = sym (refusal_is (goal.at.Else-refusal-ne0 c).After-tariff_refusal-refusal) ∙ c.if-refusal-ne0.false
+-- the tariff refuses nothing
+taken : (c : In_ok-check_tariff) → let a = c.args in tariff_refusal (last_turn a.kind a.n) a.tariff ≡ 0
+taken c =
+    sym (c.in_ok-check_tariff.ensures
+    ∙ ap (λ last. tariff_refusal last c.args.tariff) (last_is (goal.at.In_ok-check_tariff c).After-last_turn))
+
+facts : (c : In_ok-check_tariff) → let a = c.args in TariffFacts (last_turn a.kind a.n) a.tariff
+facts c = tariff-facts (last_turn c.args.kind c.args.n) c.args.tariff (taken c)
+
+pub listed-requires : goal.listed-requires
+listed-requires c = (facts (goal.at.listed-requires c).In_ok-check_tariff).counted
 
 pub sum_of-requires : goal.sum_of-requires
 sum_of-requires c =
     let a = c.args in
-    let last = last_turn a.kind a.n in
-    let f : TariffFacts last a.tariff = tariff-facts last a.tariff (accepted (goal.at.sum_of-requires c).Else-refusal-ne0) in
-    (f.counted, c.draft_plan-draft.ensures.few, λ k. price-limit last k (tariff_lines a.tariff) f.lines)
+    let drafted = accepted (goal.at.sum_of-requires c).In_ok-turns in
+    let short = draft-short a.kind a.n a.wanted a.given a.groups a.table.now a.list.now c.in_ok-turns.turns drafted in (
+      omega (arith, ap length c.as_slice.ensures, short),
+      rw c.listed.ensures (λ k. price-limit (last_turn a.kind a.n) k (tariff_lines a.tariff) (facts (goal.at.sum_of-requires c).In_ok-check_tariff).lines),
+    )
 
-pub copy_turns-requires : goal.copy_turns-requires
-copy_turns-requires c =
-    let d = c.draft_plan-draft in
+pub copy_to-requires : goal.copy_to-requires
+copy_to-requires c =
     let a = c.args in
-    draft-fits a.kind a.n a.wanted a.given a.groups a.table.now a.list.now d.result d.ensures c.if-draft-ne0.false
+    draft-fits a.kind a.n a.wanted a.given a.groups a.table.now a.list.now c.in_ok-turns.turns (accepted (goal.at.copy_to-requires c).In_ok-turns)
 
 pub returns : goal.returns
 returns c =
-    let d = c.draft_plan-draft in
     let a = c.args in
-    priced a.kind a.n a.wanted a.given a.groups a.table.now a.list.now a.tariff d.result d.ensures c.if-draft-ne0.false
-    (accepted (goal.at.returns c).Else-refusal-ne0) c.copy_turns.new.list c.copy_turns.ensures c.sum_of.result c.rounded-pennies.result
-    c.sum_of.ensures c.rounded-pennies.ensures
+    rw c.len.ensures.long
+    (priced a.kind a.n a.wanted a.given a.groups a.table.now a.list.now a.tariff c.in_ok-turns.turns (accepted (goal.at.returns c).In_ok-turns)
+    (taken (goal.at.returns c).In_ok-check_tariff) c.copy_to.new.list c.copy_to.ensures c.sum_of.result c.rounded-pennies.result
+    (rw (c.listed.ensures, c.as_slice.ensures) at c.sum_of.ensures) c.rounded-pennies.ensures)

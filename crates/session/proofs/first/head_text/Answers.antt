@@ -1,5 +1,4 @@
 -- `session::first::head_text` meets its contract.
-use borrow.Author.Rules.{rules}
 use mathlib.Core.Path.{subst}
 use mathlib.Core.List.{◌++◌}
 use Prim.Native.Nat.{ℕ}
@@ -9,14 +8,11 @@ use Rattle.text.specs.Written.{Wrote}
 use Rattle.text.specs.Report.{printed_total, head_text}
 use Rattle.session.proofs.first.head_text.Goals as goal
 
-pub level_of-requires : goal.level_of-requires
-level_of-requires c = search rules
-
 pub returns : goal.returns
 unfolding head_text printed_total
 returns c =
     let a = c.args in
     subst
-    (λ (d : ℕ). (let counts = a.job.counts in
+    (λ (d : ℕ). (let counts = a.job.now.counts in
     Wrote (level_lines d counts ++ deepest_line d ++ total_line (total (level_counts d counts))) a.out.now c.write_head.new.out c.write_head.result))
-    c.level_of.ensures c.write_head.ensures
+    c.level.ensures c.write_head.ensures

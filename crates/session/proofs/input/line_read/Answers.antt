@@ -1,13 +1,9 @@
 -- `session::input::line_read` meets its contract.
 use mathlib.Core.Path.{ap, ◌∙◌}
-use borrow.Author.Rules.{rules}
 use Rattle.text.specs.Kept.{new_line}
 use Rattle.text.specs.Reader.{with_line}
 use Rattle.text.proofs.ReadLaws.{shown-as, line_first, line-later, line-over, shows-quiet}
 use Rattle.session.proofs.input.line_read.Goals as goal
-
-pub enum_told-1 : goal.enum_told-1
-enum_told-1 c = search rules
 
 pub returns-in-Start : goal.returns-in-Start
 returns-in-Start c =
@@ -24,4 +20,4 @@ returns-in-Over c =
     let a = c.args in
     shown-as (line-over a.reader a.table.now c.in-Over.is)
     (shows-quiet a.reader c.with_line.result new_line a.table.now a.out.now
-    (c.with_line.ensures ∙ ap (with_line a.reader) c.new_line.ensures))
+    (c.with_line.ensures ∙ ap (with_line a.reader) c.new.ensures))

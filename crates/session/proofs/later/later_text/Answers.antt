@@ -1,24 +1,22 @@
 -- `session::later::later_text` meets its contract.
-use Rattle.text.proofs.AnswerLaws.{wrote-same, later-refused, later-accepted}
-use borrow.Author.Rules.{rules}
+use Rattle.std.specs.Prelude.{Ok, Err}
+use Rattle.stacks.specs.Refusals.{as_stacked}
+use Rattle.stacks.proofs.Numbers.{number-some}
 use Rattle.text.specs.Kept.{text_of}
+use Rattle.text.proofs.AnswerLaws.{wrote-same, later-refused, later-accepted}
+use mathlib.Core.Path.{refl}
 use Rattle.session.proofs.later.later_text.Goals as goal
 
-pub later_frame-later-requires : goal.later_frame-later-requires
-later_frame-later-requires c = search rules
-
-pub returns-then-later-ne0 : goal.returns-then-later-ne0
-returns-then-later-ne0 c =
-    let a = c.args in
-    let g = c.later_frame-later in
+pub returns-in-Ok : goal.returns-in-Ok
+returns-in-Ok c =
+    let r = c.args.reader.now in
     wrote-same _ _ _ _ _
-    (later-refused a.kind a.n a.wanted a.table.now (text_of a.line) g.result g.ensures c.if-later-ne0.true)
-    c.write_refusal.ensures
-
-pub returns : goal.returns
-returns c =
-    let a = c.args in
-    let g = c.later_frame-later in
-    wrote-same _ _ _ _ _
-    (later-accepted a.kind a.n a.wanted a.table.now (text_of a.line) g.result g.ensures c.if-later-ne0.false)
+    (later-accepted r.kind r.n r.wanted c.args.table.now (text_of r.line) (as_stacked (Ok c.in-Ok.given)) c.in-Ok.ensures refl)
     c.plan_text.ensures
+
+pub returns-in-Err : goal.returns-in-Err
+returns-in-Err c =
+    let r = c.args.reader.now in
+    wrote-same _ _ _ _ _
+    (later-refused r.kind r.n r.wanted c.args.table.now (text_of r.line) (as_stacked (Err c.in-Err.refusal)) c.in-Err.ensures (number-some c.in-Err.refusal))
+    c.write_refusal.ensures

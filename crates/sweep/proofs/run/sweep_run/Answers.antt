@@ -1,9 +1,9 @@
 -- `sweep::run::sweep_run` meets its contract. The loop's invariant: the marks that the stacks before `at` leave.
 use mathlib.Core.Path.{◌∙◌}
-use native.Mathlib.Omega.{arith}
-use Rattle.sweep.proofs.Running.{swept_none, base-fits, swept_same, swept-end, stack-fits, stack-byte, reach-fits, mark-fits, swept-seen}
+use Rattle.sweep.proofs.Running.{swept_none, base-fits, swept_same, stack-fits, stack-byte, reach-fits, mark-fits, swept-seen}
 use Rattle.sweep.proofs.Running.{swept-unreached, swept-reached}
-use Rattle.sweep.proofs.run.sweep_run.Goals.{then-get_entry-eq-UNSEEN+then-is_reached, then-get_entry-eq-UNSEEN+else-is_reached, else-get_entry-eq-UNSEEN}
+use Rattle.sweep.proofs.run.sweep_run.Goals.{then-get_entry-eq-UNSEEN+then-is_reached, else-get_entry-eq-UNSEEN}
+use Rattle.sweep.proofs.run.sweep_run.Goals.{else-get_entry-eq-UNSEEN-via-then-get_entry-eq-UNSEEN+else-is_reached, else-get_entry-eq-UNSEEN-via-else-get_entry-eq-UNSEEN}
 use Rattle.sweep.proofs.run.sweep_run.Goals as goal
 
 pub overflow_mul-base : goal.overflow_mul-base
@@ -19,18 +19,10 @@ pub overflow_add-index : goal.overflow_add-index
 overflow_add-index c = record { fits = stack-fits c.loop-at.invariant c.loop-at-test.true }
 
 pub is_reached-requires : goal.is_reached-requires
-is_reached-requires c =
-    (reach-fits c.loop-at.invariant c.loop-at-test.true, c.table-lookup.ensures)
+is_reached-requires c = reach-fits c.loop-at.invariant c.loop-at-test.true
 
 pub mark_stack-found-requires : goal.mark_stack-found-requires
-mark_stack-found-requires c =
-    mark-fits c.loop-at.invariant c.loop-at-test.true
-
-pub overflow_add-at : goal.overflow_add-at
-overflow_add-at c = omega arith
-
-pub loop-at-smaller : goal.loop-at-smaller
-loop-at-smaller c = omega arith
+mark_stack-found-requires c = mark-fits c.loop-at.invariant c.loop-at-test.true
 
 pub loop-at-preserved : goal.loop-at-preserved
 loop-at-preserved c =
@@ -39,14 +31,12 @@ loop-at-preserved c =
     elim c.if-get_entry-eq-UNSEEN.branch [
       | then-get_entry-eq-UNSEEN+then-is_reached w ↦
           swept_same (swept-reached r more w.is_reached.ensures w.if-is_reached.true w.mark_stack-found.ensures) w.segment-is w.found-is
-      | then-get_entry-eq-UNSEEN+else-is_reached w ↦
-          swept_same (swept-unreached r more w.is_reached.ensures w.if-is_reached.false) w.segment-is w.found-is
       | else-get_entry-eq-UNSEEN w ↦
-          swept_same (swept-seen r more (λ e. w.if-get_entry-eq-UNSEEN.false (c.get_entry.ensures ∙ e))) w.segment-is w.found-is
+          swept_same
+          (elim w.else-get_entry-eq-UNSEEN.branch [
+            | else-get_entry-eq-UNSEEN-via-then-get_entry-eq-UNSEEN+else-is_reached u ↦ swept-unreached r more u.is_reached.ensures u.if-is_reached.false
+            | else-get_entry-eq-UNSEEN-via-else-get_entry-eq-UNSEEN u ↦
+                swept-seen r more (λ e. u.if-get_entry-eq-UNSEEN.false (c.get_entry.ensures ∙ e))
+          ])
+          w.segment-is w.found-is
     ]
-
-pub shape_of-segment : goal.shape_of-segment
-shape_of-segment c = c.loop-at.invariant.long
-
-pub returns : goal.returns
-returns c = swept-end c.loop-at.invariant (omega arith)

@@ -1,10 +1,6 @@
 -- `sweep::run::sweep_run` meets its contract. The loop's invariant: the marks that the stacks before `at` leave.
-use Prim.Native.Nat.{◌-◌}
 use Rattle.sweep.proofs.Running.{SweptTo}
 use Rattle.sweep.proofs.run.sweep_run.Given as goal
 
 abbrev pub invariant-loop-at : goal.invariant-loop-at
 invariant-loop-at l = SweptTo l.pair l.stacks l.initial.segment l.initial.found l.list l.segment l.found l.at
-
-abbrev pub decreases-loop-at : goal.decreases-loop-at
-decreases-loop-at l = l.stacks - l.at

@@ -1,106 +1,85 @@
--- `sweep::sweep::sweep` meets its contract: the refusal's number and nothing changed, or the marked segment, and the pair noted.
-use mathlib.Core.Path.{◌≡◌, refl, sym, ap, ◌∙◌}
+-- `sweep::sweep::sweep` meets its contract: the refusal and nothing changed, or the marked segment, and the pair noted.
+use mathlib.Core.Path.{◌≡◌, sym, ap, ◌∙◌}
 use mathlib.Core.List.{List}
 use Prim.Native.Nat.{ℕ}
 use lib.ListN.{length}
-use Rattle.search.specs.JobState.{count_of, progressed, recounted, directed}
-use Rattle.search.specs.Sweep.{sweep_refusal, sweep_of}
-use Rattle.search.specs.declared.Answer.{Answer}
-use Rattle.search.specs.declared.Job.{Job}
+use Rattle.std.proofs.lemmas.Result.{err_from_is_err_and}
+use Rattle.stacks.proofs.Numbers.{number-some}
+use Rattle.search.specs.JobState.{swept_of, count_of, progressed, recounted, directed}
+use Rattle.search.specs.Sweep.{sweep_refusal}
+use Rattle.search.specs.Answers.{Answer}
 use Rattle.search.proofs.Accepted.{sweep-refused}
-use Rattle.job.specs.Standing.{standing_of}
-use Rattle.job.proofs.Standings.{loaded_is, swept_is, has-own}
 use Rattle.sweep.proofs.Sweeping.{sweep-begins, sweep-below, loaded-within, level-some, pair_fits, run_fits, sweep-is}
-use Rattle.sweep.proofs.sweep.sweep.Goals.{After-standing_of-standing, After-sweep_refusal-refusal, Else-refusal-ne0}
+use Rattle.sweep.proofs.sweep.sweep.Goals.{In_ok-check_sweep}
 use Rattle.sweep.proofs.sweep.sweep.Goals as goal
 
-refused : (job : Job) (j : ℕ) (segment list : List ℕ) (r : ℕ) → r ≡ sweep_refusal job j (length segment) (length list) → (r ≡ 0 → ⊥)
-    → ◌≡◌ {A = List ℕ × Answer} (segment, record { refusal = r; job = job }) (sweep_of job j segment list)
-refused job j segment list r e h =
-    ap (λ (q : ℕ). (segment, record { refusal = q; job = job })) e ∙ sym (sweep-refused job j segment list (λ z. h (e ∙ z)))
-
--- the job's standing
-stands : (c : After-standing_of-standing) → c.standing_of-standing.result ≡ standing_of c.args.job c.args.j
-stands c = let job = c.args.job in c.standing_of-standing.ensures job (has-own job c.counts_fit-fits.ensures) refl
-
-pub sweep_refusal-refusal-requires : goal.sweep_refusal-refusal-requires
-sweep_refusal-refusal-requires c = record { job = c.args.job; is = stands c }
-
--- what the row has answered
-answered : (c : After-sweep_refusal-refusal) → let a = c.args in
-    c.sweep_refusal-refusal.result ≡ sweep_refusal a.job a.j (length a.segment.now) (length a.list.now)
-answered c = c.sweep_refusal-refusal.ensures c.args.job (stands (goal.at.After-sweep_refusal-refusal c).After-standing_of-standing)
-
-pub returns-then-refusal-ne0 : goal.returns-then-refusal-ne0
-returns-then-refusal-ne0 c =
+pub returns-in_err-check_sweep : goal.returns-in_err-check_sweep
+returns-in_err-check_sweep c =
     let a = c.args in
-    refused a.job a.j a.segment.now a.list.now c.sweep_refusal-refusal.result
-    (answered (goal.at.returns-then-refusal-ne0 c).After-sweep_refusal-refusal) c.if-refusal-ne0.true
+    let job = a.job.now in
+    let e = c.in_err-check_sweep.ensures in
+    let p = err_from_is_err_and c.from_residual.result c.from_residual.ensures.1 in
+    rw (p.1, p.2)
+    (ap {B = List ℕ × Answer} (λ (r : ℕ). (a.segment.now, record { refusal = r; job = job })) e
+    ∙ sym (sweep-refused job a.j a.segment.now a.list.now (λ z. number-some _ (e ∙ z))))
 
 -- nothing is refused
-accepted : (c : Else-refusal-ne0) → let a = c.args in sweep_refusal a.job a.j (length a.segment.now) (length a.list.now) ≡ 0
-accepted c = sym (answered (goal.at.Else-refusal-ne0 c).After-sweep_refusal-refusal) ∙ c.if-refusal-ne0.false
+accepted : (c : In_ok-check_sweep) → let a = c.args in sweep_refusal a.job.now a.j (length a.segment.now) (length a.list.now) ≡ 0
+accepted c = sym c.in_ok-check_sweep.ensures
 
 pub overflow_sub-level : goal.overflow_sub-level
 overflow_sub-level c =
     let a = c.args in
-    level-some a.job a.j a.segment.now a.list.now (accepted (goal.at.overflow_sub-level c).Else-refusal-ne0) c.level_of-level.result c.level_of-level.ensures
+    level-some a.job.now a.j a.segment.now a.list.now (accepted (goal.at.overflow_sub-level c).In_ok-check_sweep) c.level-level.result c.level-level.ensures
 
 pub stack_count_at-stacks-requires : goal.stack_count_at-stacks-requires
 stack_count_at-stacks-requires c =
     let a = c.args in
-    sweep-begins a.job a.j a.segment.now a.list.now (accepted (goal.at.stack_count_at-stacks-requires c).Else-refusal-ne0)
+    sweep-begins a.job.now a.j a.segment.now a.list.now (accepted (goal.at.stack_count_at-stacks-requires c).In_ok-check_sweep)
+
+pub turns_of-requires : goal.turns_of-requires
+turns_of-requires c =
+    let a = c.args in
+    sweep-begins a.job.now a.j a.segment.now a.list.now (accepted (goal.at.turns_of-requires c).In_ok-check_sweep)
 
 pub sweep_run-marked-requires : goal.sweep_run-marked-requires
 unfolding count_of
 sweep_run-marked-requires c =
     let a = c.args in
-    let s = c.standing_of-standing in
-    run_fits a.job a.j a.segment.now a.list.now (accepted (goal.at.sweep_run-marked-requires c).Else-refusal-ne0) s.result.loaded
-    c.level_of-level.result c.next_entry-mark.result c.stack_count_at-stacks.result
-    (loaded_is s.result a.j a.job (stands (goal.at.sweep_run-marked-requires c).After-standing_of-standing)) c.level_of-level.ensures
-    c.next_entry-mark.ensures c.stack_count_at-stacks.ensures
+    run_fits a.job.now a.j a.segment.now a.list.now (accepted (goal.at.sweep_run-marked-requires c).In_ok-check_sweep)
+    c.turns_of.result c.turns_of.ensures c.level-level.result c.next_entry.result c.stack_count_at-stacks.result
+    c.level-level.ensures c.next_entry.ensures c.stack_count_at-stacks.ensures
     c.found_at-found.result c.found_at-found.ensures
 
-pub overflow_shl-next : goal.overflow_shl-next
-overflow_shl-next c =
+pub overflow_shl-job : goal.overflow_shl-job
+overflow_shl-job c =
     let a = c.args in
-    sweep-below a.job a.j a.segment.now a.list.now (accepted (goal.at.overflow_shl-next c).Else-refusal-ne0)
+    sweep-below a.job.now a.j a.segment.now a.list.now (accepted (goal.at.overflow_shl-job c).In_ok-check_sweep)
 
-pub overflow_add-next : goal.overflow_add-next
-overflow_add-next c =
+pub bounds-job-job : goal.bounds-job-job
+bounds-job-job c =
     let a = c.args in
-    let s = c.standing_of-standing in
-    record {
-      fits = pair_fits a.job a.j a.segment.now a.list.now (accepted (goal.at.overflow_add-next c).Else-refusal-ne0) s.result.swept
-          (swept_is s.result a.j a.job (stands (goal.at.overflow_add-next c).After-standing_of-standing));
-    }
+    loaded-within a.job.now a.j a.segment.now a.list.now (accepted (goal.at.bounds-job-job c).In_ok-check_sweep)
 
-pub bounds-next-b : goal.bounds-next-b
-bounds-next-b c =
+pub overflow_add-job : goal.overflow_add-job
+unfolding swept_of
+overflow_add-job c =
     let a = c.args in
-    let s = c.standing_of-standing in
-    rw (loaded_is s.result a.j a.job (stands (goal.at.bounds-next-b c).After-standing_of-standing))
-    (loaded-within a.job a.j a.segment.now a.list.now (accepted (goal.at.bounds-next-b c).Else-refusal-ne0))
+    record { fits = pair_fits a.job.now a.j a.segment.now a.list.now (accepted (goal.at.overflow_add-job c).In_ok-check_sweep) }
+
+pub bounds-job-job-2 : goal.bounds-job-job-2
+bounds-job-job-2 c =
+    let a = c.args in
+    loaded-within a.job.now a.j a.segment.now a.list.now (accepted (goal.at.bounds-job-job-2 c).In_ok-check_sweep)
 
 pub returns : goal.returns
-unfolding count_of directed progressed recounted
+unfolding count_of swept_of directed progressed recounted
 returns c =
     let a = c.args in
-    let job = a.job in
-    let s = c.standing_of-standing in
-    sweep-is job a.j a.segment.now a.list.now (accepted (goal.at.returns c).Else-refusal-ne0) s.result.loaded c.level_of-level.result
-    c.next_entry-mark.result c.stack_count_at-stacks.result
-    (loaded_is s.result a.j job (stands (goal.at.returns c).After-standing_of-standing))
-    c.level_of-level.ensures
-    c.next_entry-mark.ensures
-    c.stack_count_at-stacks.ensures
-    c.found_at-found.result
-    c.found_at-found.ensures
-    s.result.swept
-    (swept_is s.result a.j job (stands (goal.at.returns c).After-standing_of-standing))
-    c.sweep_run-marked.result
-    c.sweep_run-marked.new.segment
-    c.sweep_run-marked.ensures
-    (recounted job c.put_found.new.counts)
-    (ap (recounted job) c.put_found.ensures)
+    let job = a.job.now in
+    sweep-is job a.j a.segment.now a.list.now (accepted (goal.at.returns c).In_ok-check_sweep)
+    c.turns_of.result c.turns_of.ensures c.level-level.result c.next_entry.result c.stack_count_at-stacks.result
+    c.level-level.ensures c.next_entry.ensures c.stack_count_at-stacks.ensures
+    c.found_at-found.result c.found_at-found.ensures
+    c.sweep_run-marked.result c.sweep_run-marked.new.segment c.sweep_run-marked.ensures
+    (recounted job c.put_found.new.counts) (ap (recounted job) c.put_found.ensures)

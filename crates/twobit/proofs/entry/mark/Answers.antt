@@ -1,20 +1,15 @@
 -- `twobit::entry::mark` meets its contract.
-use borrow.Author.Rules.{rules}
 use Rattle.twobit.proofs.LeafMarks.{marked-not, marked-new}
 use Rattle.twobit.proofs.entry.mark.Goals as goal
 
-pub get_entry-requires : goal.get_entry-requires
-get_entry-requires c = search rules
+pub returns-then-unseen : goal.returns-then-unseen
+returns-then-unseen c =
+    let a = c.args in
+    let v = c.get_entry-unseen in
+    marked-new a.bytes.now a.i a.label v.result v.ensures c.set_entry.new.bytes c.if-unseen.true c.set_entry.ensures
 
-pub returns-then-get_entry-ne-UNSEEN : goal.returns-then-get_entry-ne-UNSEEN
-returns-then-get_entry-ne-UNSEEN c =
-    marked-not c.args.bytes.now c.args.i c.args.label c.get_entry.result c.get_entry.ensures
-    c.if-get_entry-ne-UNSEEN.true
-
-pub returns : goal.returns
-returns c =
-    marked-new c.args.bytes.now c.args.i c.args.label c.get_entry.result
-    c.set_entry.new.bytes
-    c.get_entry.ensures
-    c.if-get_entry-ne-UNSEEN.false
-    c.set_entry.ensures
+pub returns-else-unseen : goal.returns-else-unseen
+returns-else-unseen c =
+    let a = c.args in
+    let v = c.get_entry-unseen in
+    marked-not a.bytes.now a.i a.label v.result v.ensures c.if-unseen.false

@@ -1,17 +1,8 @@
 -- `twobit::marking::mark_stack` meets its contract.
 use mathlib.Core.Bool.{true, false}
-use native.Mathlib.Omega.{arith}
-use borrow.Author.Rules.{rules}
 use Rattle.search.specs.Marks.{counted, found_one}
 use Rattle.twobit.proofs.LeafMarks.{marked-found}
 use Rattle.twobit.proofs.marking.mark_stack.Goals as goal
-
-pub mark-requires : goal.mark-requires
-mark-requires c = search rules
-
-pub overflow_add-count : goal.overflow_add-count
-overflow_add-count c =
-    omega (arith, c.requires.few.count)
 
 pub returns-then-mark : goal.returns-then-mark
 unfolding found_one counted
@@ -19,7 +10,7 @@ returns-then-mark c terms e =
     marked-found terms c.args.label c.args.index c.args.offset c.args.segment.now c.mark.new.bytes c.args.found c.mark.result true
     e c.requires.below c.mark.ensures c.if-mark.true
 
-pub returns : goal.returns
-returns c terms e =
+pub returns-else-mark : goal.returns-else-mark
+returns-else-mark c terms e =
     marked-found terms c.args.label c.args.index c.args.offset c.args.segment.now c.mark.new.bytes c.args.found c.mark.result false
     e c.requires.below c.mark.ensures c.if-mark.false

@@ -1,8 +1,0 @@
--- `job::standing::number_at` meets its contract.
-use mathlib.Core.Path.{sym}
-use native.Mathlib.Omega.{arith}
-use lib.ListN.{get_or-eq_default}
-use Rattle.job.proofs.standing.number_at.Goals as goal
-
-pub returns-then-at-ge-SEGMENT_LIMIT : goal.returns-then-at-ge-SEGMENT_LIMIT
-returns-then-at-ge-SEGMENT_LIMIT c = sym (get_or-eq_default c.args.numbers.now 0 (omega (arith, c.requires)))
