@@ -21,15 +21,20 @@ pub fn counts(a: &[u64; 256], b: &[u64; 256]) -> u64 {
     a.iter().zip(b).filter(|(x, y)| x != y).count() as u64
 }
 
-// The entry that is due at d turns, the same every three turns, and without a road.
-fn due(d: u8) -> u8 {
-    if d == UNSEEN { 3 } else { d % 3 }
+// The entry that is due at each number of turns, the same every three turns, and without a road.
+fn due_entries() -> [u8; 256] {
+    let mut due = [3; 256];
+    due[..3].copy_from_slice(&[0, 1, 2]);
+    for d in 3..UNSEEN as usize {
+        due[d] = due[d - 3];
+    }
+    due
 }
 
-// The entry of the stack at index i, which is d turns away.
-fn entry_differs(frame: Frame, table: &[u8], i: usize, d: u8) -> bool {
+// Whether the entry of the stack at index i is not the one that is due there.
+fn entry_differs(frame: Frame, table: &[u8], i: usize, due: u8) -> bool {
     let index = (i % 4294967296) as u32;
-    plan::read::read_entry(frame.kind.into(), frame.n, table, index) != Ok(due(d))
+    plan::read::read_entry(frame.kind.into(), frame.n, table, index) != Ok(due)
 }
 
 // Where some turns lead; no stack where one of them is not of the set.
@@ -74,9 +79,10 @@ fn plan_differs(frame: Frame, goal: usize, table: &[u8], i: usize, d: u8) -> boo
 pub fn stacks(frame: Frame, goal: usize, table: &[u8], bytes: &[u8], step: usize) -> u64
     requires { (frame.n ≤ 12) × (1 ≤ step) }
 {
+    let due = due_entries();
     let mut differ: u64 = 0;
     for (i, &d) in bytes.iter().enumerate() {
-        if entry_differs(frame, table, i, d) {
+        if entry_differs(frame, table, i, due[d as usize]) {
             differ = differ.wrapping_add(1);
         }
         if i % step == 0 && plan_differs(frame, goal, table, i, d) {

@@ -103,7 +103,7 @@ fn compared(frame: Frame, stacks: u32, goal: usize, size: u32, step: usize) -> T
     let mut list = [0; 80640];
     let mut bytes = [UNSEEN; 645120];
     let wanted = stack::places(&stack::unrank(frame.kind, frame.n as usize, goal));
-    let built = whole::build(frame, wanted, stacks, size, &mut table, &mut log, &mut list);
+    let built = frame.build(wanted, stacks, size, &mut table, &mut log, &mut list);
     searched_in(frame, goal, &built, step, stacks, &table, &mut bytes)
 }
 

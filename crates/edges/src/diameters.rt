@@ -35,9 +35,9 @@ fn measure(out: &impl Print, frame: Frame, stacks: u32, size: u32) -> io::Result
     let mut table = [0; 11520];
     let mut log = [0; 1024];
     let mut list = [0; 5760];
-    let wanted = whole::ordered(frame);
+    let wanted = frame.ordered();
     let segments = whole::segments_for(stacks, size);
-    match whole::build(frame, wanted, stacks, size, &mut table, &mut log, &mut list) {
+    match frame.build(wanted, stacks, size, &mut table, &mut log, &mut list) {
         Ok(job) => println!(out;
             "{frame} segments {segments} accepted deepest {} stacks {}",
             job.phase.level(),

@@ -17,8 +17,8 @@ fn levels(out: &impl Print, frame: Frame, stacks: u32) -> io::Result<()> {
     let mut table = [0; 30];
     let mut log = [0; 480];
     let mut list = [0; 1];
-    let wanted = whole::ordered(frame);
-    match whole::build(frame, wanted, stacks, 4, &mut table, &mut log, &mut list) {
+    let wanted = frame.ordered();
+    match frame.build(wanted, stacks, 4, &mut table, &mut log, &mut list) {
         Ok(job) => {
             let [a, b, c, d, e, f] = [
                 job.counts[0],
@@ -40,7 +40,7 @@ fn levels(out: &impl Print, frame: Frame, stacks: u32) -> io::Result<()> {
 
 // Index of the ordered stack. Where there is none, n is refused before the places are looked at.
 fn panes(out: &impl Print, frame: Frame) -> io::Result<()> {
-    let indexed = operations::index_of_stack(frame.kind.into(), frame.n, whole::ordered(frame));
+    let indexed = operations::index_of_stack(frame.kind.into(), frame.n, frame.ordered());
     println!(out; "{frame} {}", Verdict(indexed.map(|_| ())))
 }
 
@@ -54,7 +54,7 @@ fn begins(out: &impl Print, frame: Frame, stacks: u32, size: u32, room: u32) -> 
     let begun = begin::begin(Terms {
         kind: frame.kind.into(),
         n: frame.n,
-        wanted: whole::ordered(frame),
+        wanted: frame.ordered(),
         groups: frame.groups,
         size,
         room,

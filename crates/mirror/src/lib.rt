@@ -294,14 +294,8 @@ impl From<Result<Job, Refusal>> for HokrundAnswer {
     #[tactic(auto, unfolding(crate::specs::Mirror::answer_of))]
     fn from(outcome: Result<Job, Refusal>) -> HokrundAnswer {
         match outcome {
-            Ok(job) => HokrundAnswer {
-                refusal: 0,
-                job: HokrundJob::from(&job),
-            },
-            Err(refusal) => HokrundAnswer {
-                refusal: refusal.into(),
-                job: HokrundJob::from(&begin::no_job()),
-            },
+            Ok(job) => HokrundAnswer::new(&job, Ok(())),
+            Err(refusal) => HokrundAnswer::new(&begin::no_job(), Err(refusal)),
         }
     }
 }

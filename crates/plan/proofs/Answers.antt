@@ -22,7 +22,9 @@ use Rattle.plan.proofs.Routes.{stands}
 use Rattle.std.specs.Prelude.{Result, Ok, Err}
 use Rattle.plan.specs.Drafts.{Drafts, DraftsPlan}
 use Rattle.plan.specs.Questions.{kind_in, index_in, entry_in, moves_in, route_refusal, way_of}
+use Rattle.plan.specs.Turns.{turns_listed}
 use Rattle.plan.specs.declared.question.Question.{Question}
+use Rattle.plan.specs.declared.turns.Turns.{Turns}
 
 -- ---- what the draft meets
 module _ (q : Question) where
@@ -101,8 +103,8 @@ module _ (kind n : ℕ) (wanted given : List ℤ) (groups : ℕ) (table : List �
     drafted : (turns : List ℕ) → (0 ≡ route_refusal q) × (turns ≡ (way_of q).turns) → (0 ≡ refusal) × (turns ≡ turns_of_way)
     drafted turns d = (d.0 ∙ route-decides, rw (s.0, s.1, s.2, t.0, t.1, t.2) at d.1)
 
-    pub draft-is : (result : Result (List ℕ) Refusal) → Drafts q result → DraftsPlan kind n wanted given groups table slots result
-    draft-is (Ok turns) d = drafted turns d
+    pub draft-is : (result : Result Turns Refusal) → Drafts q result → DraftsPlan kind n wanted given groups table slots result
+    draft-is (Ok turns) d = drafted (turns_listed turns) d
     draft-is (Err r) h = draft-refused r h
 
 module _ (kind n : ℕ) (wanted given : List ℤ) (groups : ℕ) (table list : List ℕ) where

@@ -1,12 +1,13 @@
 // Plan.
-ghost use Rattle.std.specs.Prelude.{◌≡◌};
-ghost use Rattle.search.specs.Plan.{plan_of};
+ghost use Rattle.std.specs.Prelude.{◌≡◌, ◌≤◌, ◌++◌, length, take, drop};
+ghost use Rattle.search.specs.Plan.{plan_limit, plan_of};
 ghost use Rattle.search.specs.Results.{as_planned};
 ghost use Rattle.plan.specs.Drafts.{Drafts, DraftsPlan};
 
 use crate::question::Question;
 use crate::route;
 use crate::turns::Turns;
+use search::PLAN_LIMIT;
 use stacks::{PLACES, Refusal};
 use twobit::entry::UNSEEN;
 
@@ -43,6 +44,18 @@ pub fn draft_plan(
 {
     let question = Question::new(kind, n, wanted, given, groups, table, slots)?;
     drafted(&question)
+}
+
+// Turns of a caller's own come to the front of a list as those of a plan do, and the bytes past them stay.
+pub fn copy_turns(list: &mut [u8], turns: [u8; PLAN_LIMIT], taken: usize)
+    requires { (taken ≤ plan_limit) × (taken ≤ length list.old) }
+    ensures { list.new ≡ take taken turns ++ drop taken list.old }
+{
+    let own = Turns {
+        list: turns,
+        count: taken,
+    };
+    own.copy_to(list);
 }
 
 // Plan.

@@ -10,7 +10,7 @@ use stacks::PLACES;
 use twobit::entry;
 
 // The stack that a route has come to, and its turns so far.
-#[derive(Drop)]
+#[derive(Clone, Copy)]
 pub struct Route {
     pub stack: [i8; PLACES],
     pub turns: Turns,

@@ -1,5 +1,4 @@
-// The job and its phases, and what the definitions of the calls answer, as types: no code but what a phase is asked, only specs/ and proofs/.
-// In each answer, refusal is the refusal's number, and 0 where the call did its work.
+// The job and its phases, as types, and the limits: no code but what a phase and a job are asked, only specs/ and proofs/.
 #![tactic(auto)]
 
 ghost use Rattle.std.specs.Prelude.{◌≡◌};

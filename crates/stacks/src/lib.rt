@@ -1,4 +1,4 @@
-// How many places a stack has, the refusals of every call, and what the definitions of the three operations on stacks answer.
+// How many places a stack has, and the refusals of every call by name: no code but their numbers, only specs/ and proofs/.
 #![tactic(auto)]
 
 mod refusal;

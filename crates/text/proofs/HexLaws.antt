@@ -1,5 +1,5 @@
 -- Laws of hexadecimal text: digits and their characters, bytes and their pairs, each way.
-use mathlib.Core.Path.{◌≡◌, refl, ap₂, ◌∙◌}
+use mathlib.Core.Path.{◌≡◌, refl, ap, ap₂, ◌∙◌}
 use mathlib.Core.Logic.{◌⊎◌, inl, inr}
 use mathlib.Core.Bool.{Bool, true, false, ◌&&◌, ◌||◌}
 use mathlib.Core.List.{List, [], ◌∷◌}
@@ -93,6 +93,16 @@ bytes-at (a ∷ b ∷ cs) (suc i) h =
     ∙ ap₂ (λ (j k : ℕ). digit_of (get_or (a ∷ b ∷ cs) j 0) * 16 + digit_of (get_or (a ∷ b ∷ cs) k 0))
     (let e : suc (suc (2 * i)) ≡ 2 * suc i = omega arith in e)
     (let e : suc (suc (2 * i + 1)) ≡ 2 * suc i + 1 = omega arith in e)
+
+-- the bytes of the first pairs are the first bytes
+pub bytes_take : (k : ℕ) (cs : List ℕ) → bytes_of (take (2 * k) cs) ≡ take k (bytes_of cs)
+unfolding bytes_of
+bytes_take zero cs = refl
+bytes_take (suc k) [] = rw (let e : 2 * suc k ≡ suc (suc (2 * k)) = omega arith in e)
+bytes_take (suc k) (a ∷ []) = rw (let e : 2 * suc k ≡ suc (suc (2 * k)) = omega arith in e)
+bytes_take (suc k) (a ∷ b ∷ cs) =
+    rw (let e : 2 * suc k ≡ suc (suc (2 * k)) = omega arith in e)
+    (ap (λ (l : List ℕ). (digit_of a * 16 + digit_of b) ∷ l) (bytes_take k cs))
 
 -- ---- numbers of four bytes
 

@@ -1,4 +1,4 @@
-// Build the whole table for a check, in the front of lent buffers.
+// Build the whole table for a check, in the front of lent buffers. A kind is a number, as the operations take one: any may be asked.
 use crate::frame::Frame;
 use perm::operations;
 use search::{COUNT_PLACES, Job, Terms};
@@ -9,8 +9,8 @@ use twobit::segment;
 const ROOM: u32 = 16;
 
 // The ordered stack, the first of all; no stack where there is none.
-pub fn ordered(frame: Frame) -> [i8; PLACES] {
-    operations::stack_at_index(frame.kind.into(), frame.n, 0).unwrap_or([0; PLACES])
+pub fn ordered(kind: u8, n: u8) -> [i8; PLACES] {
+    operations::stack_at_index(kind, n, 0).unwrap_or([0; PLACES])
 }
 
 // G; 0 where S is.
@@ -23,8 +23,10 @@ pub fn segments_for(stacks: u32, size: u32) -> u32 {
 
 // A build of so many stacks. Where a buffer is shorter than its part should be, all of it is lent, and refused.
 pub fn build(
-    frame: Frame,
+    kind: u8,
+    n: u8,
     wanted: [i8; PLACES],
+    groups: u32,
     stacks: u32,
     size: u32,
     table: &mut [u8],
@@ -36,10 +38,10 @@ pub fn build(
     let words = (segments_for(stacks, size) as usize * ROOM as usize).min(log.len());
     let listed = largest.div_ceil(8).min(list.len());
     let terms = Terms {
-        kind: frame.kind.into(),
-        n: frame.n,
+        kind,
+        n,
         wanted,
-        groups: frame.groups,
+        groups,
         size,
         room: ROOM,
     };
@@ -49,6 +51,34 @@ pub fn build(
         &mut log[..words],
         &mut list[..listed],
     )
+}
+
+impl Frame {
+    pub fn ordered(self) -> [i8; PLACES] {
+        ordered(self.kind.into(), self.n)
+    }
+
+    pub fn build(
+        self,
+        wanted: [i8; PLACES],
+        stacks: u32,
+        size: u32,
+        table: &mut [u8],
+        log: &mut [u32],
+        list: &mut [u8],
+    ) -> Result<Job, Refusal> {
+        build(
+            self.kind.into(),
+            self.n,
+            wanted,
+            self.groups,
+            stacks,
+            size,
+            table,
+            log,
+            list,
+        )
+    }
 }
 
 // How many stacks were counted, all levels together.

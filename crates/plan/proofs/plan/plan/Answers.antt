@@ -1,5 +1,6 @@
 -- `plan::plan::plan` meets its contract: what the draft refuses, or its turns at the front of the list.
 use Rattle.std.proofs.lemmas.Result.{err_from_is_err_and}
+use Rattle.plan.specs.Turns.{turns_listed}
 use Rattle.plan.proofs.Answers.{draft-fits, plan-refused, plan-accepted}
 use Rattle.plan.proofs.plan.plan.Goals as goal
 
@@ -11,11 +12,11 @@ returns-in_err-turns c =
 
 pub copy_to-requires : goal.copy_to-requires
 copy_to-requires c =
-    let a = c.args in draft-fits a.kind a.n a.wanted a.given a.groups a.table.now a.list.now c.in_ok-turns.turns c.in_ok-turns.ensures
+    let a = c.args in draft-fits a.kind a.n a.wanted a.given a.groups a.table.now a.list.now (turns_listed c.in_ok-turns.turns) c.in_ok-turns.ensures
 
 pub returns : goal.returns
 returns c =
     let a = c.args in
     rw c.len.ensures.long
-    (plan-accepted a.kind a.n a.wanted a.given a.groups a.table.now a.list.now c.in_ok-turns.turns c.in_ok-turns.ensures
+    (plan-accepted a.kind a.n a.wanted a.given a.groups a.table.now a.list.now (turns_listed c.in_ok-turns.turns) c.in_ok-turns.ensures
     c.copy_to.new.list c.copy_to.ensures)

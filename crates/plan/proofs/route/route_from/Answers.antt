@@ -4,7 +4,7 @@ use native.Mathlib.Omega.{arith}
 use Rattle.search.specs.Plan.{nearer_entry}
 use Rattle.plan.specs.Questions.{kind_in}
 use Rattle.plan.proofs.Routes.{found-nearer, travelled-start, travelled-arrived, travelled-stuck, travelled-step, travelled-end}
-use Rattle.plan.proofs.route.route_from.Goals.{After-next_entry-nearer, else-loop-test, then-loop-test+then-index-goal, then-loop-test+else-index-goal+in_default}
+use Rattle.plan.proofs.route.route_from.Goals.{After-next_entry-nearer}
 use Rattle.plan.proofs.route.route_from.Goals as goal
 
 pub loop-init : goal.loop-init
@@ -25,16 +25,14 @@ loop-preserved c =
     c.next_entry-nearer.result (nearer (goal.at.loop-preserved c).After-next_entry-nearer) (omega (arith, c.loop-test.true)) step.k c.in-Some.ensures.1
     (λ z. omega (arith, c.in-Some.ensures.0)) c.moved-child.result c.moved-child.ensures step.index c.in-Some.ensures.2)
 
-pub returns : goal.returns
-returns c =
-    let q = c.args.question.now in
-    let near = found-nearer q c.loop.stack c.loop.index in
-    elim c.loop-test.branch [
-      | else-loop-test w ↦ travelled-end q c.loop.invariant (omega (arith, w.loop-test.false))
-      | then-loop-test+then-index-goal w ↦
-          travelled-arrived q c.loop.invariant c.rank-goal.result c.rank-goal.ensures w.if-index-goal.true
-      | then-loop-test+else-index-goal+in_default w ↦
-          travelled-stuck q c.loop.invariant c.rank-goal.result c.rank-goal.ensures w.if-index-goal.false
-          w.next_entry-nearer.result (near w.get_entry-v.result w.next_entry.result w.next_entry-nearer.result
-          c.loop.invariant.at w.get_entry-v.ensures w.next_entry.ensures w.next_entry-nearer.ensures) w.in_default.ensures
-    ]
+pub returns-after-loop : goal.returns-after-loop
+returns-after-loop c = travelled-end c.args.question.now c.loop.invariant (omega (arith, c.loop-test.false))
+
+pub returns-then-index-goal : goal.returns-then-index-goal
+returns-then-index-goal c =
+    travelled-arrived c.args.question.now c.loop.invariant c.rank-goal.result c.rank-goal.ensures c.if-index-goal.true
+
+pub returns-in_default : goal.returns-in_default
+returns-in_default c =
+    travelled-stuck c.args.question.now c.loop.invariant c.rank-goal.result c.rank-goal.ensures c.if-index-goal.false
+    c.next_entry-nearer.result (nearer (goal.at.returns-in_default c).After-next_entry-nearer) c.in_default.ensures
