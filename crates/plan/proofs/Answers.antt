@@ -20,7 +20,7 @@ use Rattle.search.specs.Plan.{is_wanted, has_plan, plan_row, plan_refusal, route
 use Rattle.search.proofs.PlanLaws.{given-row, plan-row, route-within}
 use Rattle.plan.proofs.Routes.{stands}
 use Rattle.std.specs.Prelude.{Result, Ok, Err}
-use Rattle.plan.specs.Drafts.{Drafts, DraftsPlan}
+use Rattle.plan.specs.Drafts.{Drafts, DraftsPlan, DraftsTurns, DraftsPlanTurns}
 use Rattle.plan.specs.Questions.{kind_in, index_in, entry_in, moves_in, route_refusal, way_of}
 use Rattle.plan.specs.Turns.{turns_listed}
 use Rattle.plan.specs.declared.question.Question.{Question}
@@ -103,9 +103,13 @@ module _ (kind n : ℕ) (wanted given : List ℤ) (groups : ℕ) (table : List �
     drafted : (turns : List ℕ) → (0 ≡ route_refusal q) × (turns ≡ (way_of q).turns) → (0 ≡ refusal) × (turns ≡ turns_of_way)
     drafted turns d = (d.0 ∙ route-decides, rw (s.0, s.1, s.2, t.0, t.1, t.2) at d.1)
 
-    pub draft-is : (result : Result Turns Refusal) → Drafts q result → DraftsPlan kind n wanted given groups table slots result
-    draft-is (Ok turns) d = drafted (turns_listed turns) d
+    pub draft-is : (result : Result (List ℕ) Refusal) → Drafts q result → DraftsPlan kind n wanted given groups table slots result
+    draft-is (Ok turns) d = drafted turns d
     draft-is (Err r) h = draft-refused r h
+
+    pub draft-turns-is : (result : Result Turns Refusal) → DraftsTurns q result → DraftsPlanTurns kind n wanted given groups table slots result
+    draft-turns-is (Ok turns) d = draft-is (Ok (turns_listed turns)) d
+    draft-turns-is (Err r) h = draft-is (Err r) h
 
 module _ (kind n : ℕ) (wanted given : List ℤ) (groups : ℕ) (table list : List ℕ) where
   abbrev answer : List ℕ × Planned

@@ -2,7 +2,7 @@
 ghost use Rattle.std.specs.Prelude.{◌≡◌, ◌≤◌, ◌++◌, length, take, drop};
 ghost use Rattle.search.specs.Plan.{plan_limit, plan_of};
 ghost use Rattle.search.specs.Results.{as_planned};
-ghost use Rattle.plan.specs.Drafts.{Drafts, DraftsPlan};
+ghost use Rattle.plan.specs.Drafts.{DraftsTurns, DraftsPlanTurns};
 
 use crate::question::Question;
 use crate::route;
@@ -14,7 +14,7 @@ use twobit::entry::UNSEEN;
 // The refusals that the table's entries decide, and the turns.
 #[tactic(auto, unfolding(stacks::specs::Refusals::number), using(crate::proofs::Answers::draft_rows))]
 fn drafted(question: &Question) -> Result<Turns, Refusal>
-    ensures { Drafts question.now result }
+    ensures { DraftsTurns question.now result }
 {
     if route::entry_of(question, question.given) == UNSEEN {
         return Err(Refusal::NoRoad);
@@ -40,7 +40,7 @@ pub fn draft_plan(
     table: &[u8],
     slots: usize,
 ) -> Result<Turns, Refusal>
-    ensures { DraftsPlan kind n wanted given groups table.now slots result }
+    ensures { DraftsPlanTurns kind n wanted given groups table.now slots result }
 {
     let question = Question::new(kind, n, wanted, given, groups, table, slots)?;
     drafted(&question)
